@@ -1,0 +1,4 @@
+pub mod Answer
+pub mod Codes
+pub mod Number
+pub mod Operate
