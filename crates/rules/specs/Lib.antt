@@ -6,3 +6,13 @@ pub mod Bytes
 pub mod Sheet
 pub mod Shape
 pub mod Info
+pub mod Constants
+pub mod Item
+pub mod States
+pub mod Collect
+pub mod Dispatch
+pub mod Value
+pub mod Outcome
+pub mod Columns
+pub mod Listing
+pub mod Fresh
