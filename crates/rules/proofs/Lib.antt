@@ -1,0 +1,4 @@
+pub mod Everything
+pub mod Written
+pub mod Marked
+pub mod Slips

@@ -1,5 +1,8 @@
--- What the program `sheet` prints: bytes of ASCII. 01, "The listing".
+-- What the program `sheet` prints, as bytes of ASCII. 01, "The listing".
 use Prim.Native.Nat.{ℕ, zero, suc, _+_, _/_, _%_}
+use Prim.Native.Char.{code}
+use Prim.Native.String.{String}
+use Prim.Native.String as text
 use mathlib.Core.Bool.{Bool, true, false}
 use mathlib.Core.List.{List, [], _∷_, _++_}
 use lib.ListN.{length}
@@ -14,7 +17,12 @@ use Rattle.rules.specs.declared.Answer.the-variants.{Refused}
 use Rattle.rules.specs.declared.Hundredths.{Hundredths}
 use Rattle.rules.specs.declared.Hundredths.the-variants.{Cut, Star}
 
--- the decimal digits of n, at most k, in front of r
+-- the bytes of a text
+abbrev pub ascii : String → List ℕ
+ascii text.[] = []
+ascii (text._∷_ c s) = code c ∷ ascii s
+
+-- the last k decimal digits of n, in front of r, without zeros before the first
 unfoldable pub digits : ℕ → ℕ → List ℕ → List ℕ
 digits zero n r = r
 digits (suc k) n r = let d = (48 + n % 10) ∷ r in elim (n / 10) [ zero ↦ d | suc m ↦ digits k (n / 10) d ]
@@ -24,28 +32,27 @@ natural n = digits 20 n []
 
 unfoldable pub integer : ℤ → List ℕ
 integer (pos n) = natural n
-integer (negsuc n) = 45 ∷ natural (suc n)
+integer (negsuc n) = ascii "-" ++ natural (suc n)
 
-abbrev pub minus : Bool → List ℕ
-minus true = 45 ∷ []
-minus false = []
+abbrev pub minusIf : Bool → List ℕ
+minusIf true = ascii "-"
+minusIf false = []
 
--- two decimals; `*` from 10 ^ 12 in size up
+-- "two decimals", `*` from 10 ^ 12 in size up
 unfoldable pub decimals : Hundredths → List ℕ
-decimals Star = 42 ∷ []
-decimals (Cut s c) = minus s ++ (natural (c / 100) ++ (46 ∷ (48 + c / 10 % 10) ∷ (48 + c % 10) ∷ []))
+decimals Star = ascii "*"
+decimals (Cut s c) = minusIf s ++ (natural (c / 100) ++ (ascii "." ++ ((48 + c / 10 % 10) ∷ (48 + c % 10) ∷ [])))
 
--- "object number, attribute id, value"; "One space between fields; lines end in LF"
+-- "per row: object number, attribute id, value"; "One space between fields; lines end in LF"
 unfoldable pub line : Row → Float → List ℕ
-line r v = natural (r .object) ++ (32 ∷ integer (r .id)) ++ (32 ∷ decimals (hundredthsOf v)) ++ (10 ∷ [])
+line r v = natural (r .object) ++ (ascii " " ++ (integer (r .id) ++ (ascii " " ++ (decimals (hundredthsOf v) ++ ascii "\n"))))
 
 unfoldable pub lines : List Row → List Float → List ℕ
 lines [] vs = []
 lines (r ∷ rs) [] = []
 lines (r ∷ rs) (v ∷ vs) = line r v ++ lines rs vs
 
--- "rows N" and a line a row; or "refused", number, place
+-- "`rows N`, then per row"; "Refused: one line, `refused`, number, place"
 unfoldable pub listing : Res Done → List ℕ
-listing (ok d) = (114 ∷ 111 ∷ 119 ∷ 115 ∷ 32 ∷ natural (length (d .rows))) ++ (10 ∷ lines (d .rows) (valueList (ok d)))
-listing (refused x) =
-    (114 ∷ 101 ∷ 102 ∷ 117 ∷ 115 ∷ 101 ∷ 100 ∷ 32 ∷ natural (number (Refused x))) ++ (32 ∷ natural (place (Refused x))) ++ (10 ∷ [])
+listing (ok d) = ascii "rows " ++ (natural (length (d .rows)) ++ (ascii "\n" ++ lines (d .rows) (valueList (ok d))))
+listing (refused x) = ascii "refused " ++ (natural (number (Refused x)) ++ (ascii " " ++ (natural (place (Refused x)) ++ ascii "\n")))
