@@ -1,0 +1,10 @@
+pub mod Bools
+pub mod Maps
+pub mod Keep
+pub mod Flat
+pub mod Every
+pub mod First
+pub mod From
+pub mod Spans
+pub mod Sums
+pub mod Scans
