@@ -8,3 +8,8 @@ pub mod From
 pub mod Spans
 pub mod Sums
 pub mod Scans
+pub mod Runs
+pub mod Order
+pub mod Signs
+pub mod Ascending
+pub mod Search
