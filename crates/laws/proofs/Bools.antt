@@ -1,6 +1,6 @@
 -- Laws of tests: what a passed or a failed test says, and the two sides of && and ||.
 use mathlib.Core.Path.{_≡_, refl, sym, _∙_}
-use mathlib.Core.Bool.{Bool, true, false, _&&_, _||_, true≢false}
+use mathlib.Core.Bool.{Bool, true, false, not, _&&_, _||_, true≢false}
 use mathlib.Core.Logic.{_⊎_, inl, inr}
 
 -- a test that passed and failed
@@ -18,6 +18,10 @@ not-passed false n = refl
 pub not-failed : (t : Bool) → (t ≡ false → ⊥) → t ≡ true
 not-failed true n = refl
 not-failed false n = absurd (n refl)
+
+pub not-not : (t : Bool) → not (not t) ≡ t
+not-not true = refl
+not-not false = refl
 
 -- two tests that pass together are the same
 pub same-test : (s t : Bool) → (s ≡ true → t ≡ true) → (t ≡ true → s ≡ true) → s ≡ t

@@ -13,3 +13,6 @@ pub mod Order
 pub mod Signs
 pub mod Ascending
 pub mod Search
+pub mod Inserts
+pub mod Laid
+pub mod Nans
