@@ -1,16 +1,18 @@
 -- Ascending and not descending lists: what holds of neighbours holds at a distance.
-use Prim.Native.Nat.{ℕ, zero, suc, _≤_, _<_}
+use Prim.Native.Nat.{ℕ, zero, suc, _+_, _≤_, _<_}
+use native.Mathlib.Omega.{arith}
 use native.Mathlib.Nat.{not-suc-le-zero, le-of-suc-le-suc, le-trans, le-of-lt, lt-of-le-of-lt}
-use mathlib.Core.Path.{_≡_, refl}
-use mathlib.Core.Bool.{true}
+use mathlib.Core.Path.{_≡_, refl, sym, ap, _∙_}
+use mathlib.Core.Bool.{true, _&&_}
 use mathlib.Core.List.{List, [], _∷_, map}
 use lib.IntN.{ℤ, pos}
-use lib.ListN.{length, getD, length-map}
+use lib.ListN.{length, getD, drop, length-map, length-drop}
 use lib.Signed.{ltZ, leZ}
 use Rattle.laws.specs.Lists.{every?, ascends, notDescending}
 use Rattle.laws.proofs.Bools.{and-left, and-right, and-both}
 use Rattle.laws.proofs.Every.{every-weaker, every-at}
 use Rattle.laws.proofs.Maps.{map-at}
+use Rattle.laws.proofs.Scans.{drop-step}
 use Rattle.laws.proofs.Order.{ltZ-trans, ltZ-leZ, leZ-trans, leZ-refl}
 
 -- the first is less than all after it
@@ -71,3 +73,32 @@ module _ {A : Type 0} (key : A → ℤ) (xs : List A) (d : A) (i j : ℕ) where
   pub keys-not-descend : notDescending (map key xs) ≡ true → i ≤ j → j < length xs → leZ (key (getD xs i d)) (key (getD xs j d)) ≡ true
   keys-not-descend h k m =
       rw (← keyed i (lt-of-le-of-lt k m), ← keyed j m) (notDescending-far (map key xs) (pos 0) h i j k (rw (length-map xs key) m))
+
+-- ---- a loop over neighbours: what is left decides
+
+module _ (l : List ℤ) (i : ℕ) (d : ℤ) where
+  two : i + 1 < length l → drop i l ≡ getD l i d ∷ getD l (i + 1) d ∷ drop (i + 1 + 1) l
+  two h = drop-step l i d (omega arith) ∙ ap (λ (r : List ℤ). getD l i d ∷ r) (drop-step l (i + 1) d h)
+
+  pub ascends-step : i + 1 < length l → ascends (drop i l) ≡ ltZ (getD l i d) (getD l (i + 1) d) && ascends (drop (i + 1) l)
+  ascends-step h = ap ascends (two h) ∙ ap (λ (r : List ℤ). ltZ (getD l i d) (getD l (i + 1) d) && ascends r) (sym (drop-step l (i + 1) d h))
+
+  pub notDescending-step : i + 1 < length l → notDescending (drop i l) ≡ leZ (getD l i d) (getD l (i + 1) d) && notDescending (drop (i + 1) l)
+  notDescending-step h =
+      ap notDescending (two h) ∙ ap (λ (r : List ℤ). leZ (getD l i d) (getD l (i + 1) d) && notDescending r) (sym (drop-step l (i + 1) d h))
+
+-- at most one is left
+short : (l : List ℤ) → length l ≤ 1 → (ascends l ≡ true) × (notDescending l ≡ true)
+short [] h = (refl, refl)
+short (x ∷ []) h = (refl, refl)
+short (x ∷ y ∷ r) h = absurd (omega arith)
+
+module _ (l : List ℤ) (i : ℕ) (h : length l ≤ i + 1) where
+  few : length (drop i l) ≤ 1
+  few = rw (length-drop i l) (omega arith)
+
+  pub ascends-end : ascends (drop i l) ≡ true
+  ascends-end = short (drop i l) few .0
+
+  pub notDescending-end : notDescending (drop i l) ≡ true
+  notDescending-end = short (drop i l) few .1

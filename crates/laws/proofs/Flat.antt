@@ -1,12 +1,12 @@
 -- Laws of flat: over appended lists, a loop's next element, maps, keeps and lengths.
 use Prim.Native.Nat.{ℕ, _+_, _<_}
 use mathlib.Core.Path.{_≡_, refl, sym, ap, _∙_}
-use mathlib.Core.Bool.{Bool, true, false}
+use mathlib.Core.Bool.{Bool, true, false, cond}
 use mathlib.Core.List.{List, [], _∷_, _++_, map, append-nil, append-assoc}
 use lib.ListN.{length, take, getD, length-append}
 use Rattle.laws.specs.Lists.{put, keep, flat}
-use Rattle.laws.proofs.Maps.{take-next, map-append}
-use Rattle.laws.proofs.Keep.{keep-append}
+use Rattle.laws.proofs.Maps.{take-next, map-append, map-snoc}
+use Rattle.laws.proofs.Keep.{keep-append, keep-more, keep-skip}
 
 -- the sum of a list
 abbrev pub total : List ℕ → ℕ
@@ -54,6 +54,30 @@ put-one false x xs = refl
 pub flat-put : {A : Type 0} (p : A → Bool) (xs : List A) → flat (λ x. put (p x) x []) xs ≡ keep p xs
 flat-put p [] = refl
 flat-put {A} p (x ∷ xs) = ap (λ (l : List A). put (p x) x [] ++ l) (flat-put p xs) ∙ put-one (p x) x (keep p xs)
+
+-- what f gives for those that pass
+module _ {A B : Type 0} (f : A → List B) (p : A → Bool) where
+  put-flat : (t : Bool) (x : A) (xs : List A) → flat f (put t x xs) ≡ cond t (f x) [] ++ flat f xs
+  put-flat true x xs = refl
+  put-flat false x xs = refl
+
+  pub flat-keep : (xs : List A) → flat f (keep p xs) ≡ flat (λ x. cond (p x) (f x) []) xs
+  flat-keep [] = refl
+  flat-keep (x ∷ xs) = put-flat (p x) x (keep p xs) ∙ ap (λ (l : List B). cond (p x) (f x) [] ++ l) (flat-keep xs)
+
+  -- one more element of a loop, that passes or fails
+  pub flat-keep-more : (xs : List A) (i : ℕ) (d : A) → i < length xs → p (getD xs i d) ≡ true → flat f (keep p (take (i + 1) xs)) ≡ flat f (keep p (take i xs)) ++ f (getD xs i d)
+  flat-keep-more xs i d h t = ap (flat f) (keep-more p xs i d h t) ∙ flat-snoc f (keep p (take i xs)) (getD xs i d)
+
+  pub flat-keep-skip : (xs : List A) (i : ℕ) (d : A) → i < length xs → p (getD xs i d) ≡ false → flat f (keep p (take (i + 1) xs)) ≡ flat f (keep p (take i xs))
+  flat-keep-skip xs i d h t = ap (flat f) (keep-skip p xs i d h t)
+
+module _ {A B : Type 0} (f : A → B) (p : A → Bool) where
+  pub map-keep-more : (xs : List A) (i : ℕ) (d : A) → i < length xs → p (getD xs i d) ≡ true → map f (keep p (take (i + 1) xs)) ≡ map f (keep p (take i xs)) ++ (f (getD xs i d) ∷ [])
+  map-keep-more xs i d h t = ap (map f) (keep-more p xs i d h t) ∙ map-snoc f (keep p (take i xs)) (getD xs i d)
+
+  pub map-keep-skip : (xs : List A) (i : ℕ) (d : A) → i < length xs → p (getD xs i d) ≡ false → map f (keep p (take (i + 1) xs)) ≡ map f (keep p (take i xs))
+  map-keep-skip xs i d h t = ap (map f) (keep-skip p xs i d h t)
 
 module _ {A B C : Type 0} where
   pub flat-map : (f : B → List C) (g : A → B) (xs : List A) → flat f (map g xs) ≡ flat (λ x. f (g x)) xs

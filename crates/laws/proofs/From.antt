@@ -110,6 +110,13 @@ flat-from-next f a n = ap (flat f) (from-next a n) ∙ flat-snoc f (from a n) (a
 pub keep-from-next : (p : ℕ → Bool) (a n : ℕ) → keep p (from a (n + 1)) ≡ keep p (from a n) ++ put (p (a + n)) (a + n) []
 keep-from-next p a n = ap (keep p) (from-next a n) ∙ keep-snoc p (from a n) (a + n)
 
+-- one more element of a table
+pub flat-table-next : {A B : Type 0} (f : A → List B) (g : ℕ → A) (a n : ℕ) → flat f (map g (from a (n + 1))) ≡ flat f (map g (from a n)) ++ f (g (a + n))
+flat-table-next f g a n = ap (flat f) (table-next g a n) ∙ flat-snoc f (map g (from a n)) (g (a + n))
+
+pub keep-table-next : {A : Type 0} (p : A → Bool) (g : ℕ → A) (a n : ℕ) → keep p (map g (from a (n + 1))) ≡ keep p (map g (from a n)) ++ put (p (g (a + n))) (g (a + n)) []
+keep-table-next p g a n = ap (keep p) (table-next g a n) ∙ keep-snoc p (map g (from a n)) (g (a + n))
+
 -- a list is the table of its elements
 pub table-of : {A : Type 0} (xs : List A) (d : A) → map (λ k. getD xs k d) (from 0 (length xs)) ≡ xs
 table-of xs d = sym (is-table (λ k. getD xs k d) xs (length xs) d refl (λ k h. refl))

@@ -14,5 +14,6 @@ pub mod Signs
 pub mod Ascending
 pub mod Search
 pub mod Inserts
+pub mod Placed
 pub mod Laid
 pub mod Nans

@@ -51,6 +51,9 @@ leZ-not (negsuc a) (negsuc b) = turned b a (ltb a b) refl
 pub ltZ-false : (a b : ℤ) → ltZ a b ≡ false → leZ b a ≡ true
 ltZ-false a b e = leZ-not b a ∙ ap not e
 
+pub ltZ-true : (a b : ℤ) → ltZ a b ≡ true → leZ b a ≡ false
+ltZ-true a b e = leZ-not b a ∙ ap not e
+
 pub leZ-false : (a b : ℤ) → leZ a b ≡ false → ltZ b a ≡ true
 leZ-false a b e = not-false (ltZ b a) (sym (leZ-not a b) ∙ e)
 

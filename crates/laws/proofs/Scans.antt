@@ -7,8 +7,9 @@ use mathlib.Core.List.{List, _∷_, map}
 use mathlib.Core.Option.{none, some}
 use lib.ListN.{length, drop, getD, drop-of-length-le}
 use lib.Seq.{drop-cons}
-use Rattle.laws.specs.Lists.{some?, every?, first, orElse, from}
+use Rattle.laws.specs.Lists.{some?, every?, first, orElse, from, span}
 use Rattle.laws.proofs.From.{from-end, table-step}
+use Rattle.laws.proofs.Spans.{span-left, span-end}
 
 -- a flag g, true so far, and a test t of this turn: while g holds what is left decides
 module _ {whole : Bool} where
@@ -86,3 +87,25 @@ module _ {A : Type 0} (p : A → Bool) (f : ℕ → A) (i n : ℕ) where
 
     pub first-table-end : first p (map f (from i (n - i))) ≡ none
     first-table-end = ap (λ (l : List ℕ). first p (map f l)) (from-end i n h)
+
+-- the same over what is left of the places i to e
+module _ {A : Type 0} (p : A → Bool) (xs : List A) (i e : ℕ) where
+  module _ (d : A) (l : i < e) (h : i < length xs) where
+    pub every-span-step : every? p (span i (e - i) xs) ≡ p (getD xs i d) && every? p (span (i + 1) (e - (i + 1)) xs)
+    every-span-step = ap (every? p) (span-left i e xs d l h)
+
+    pub some-span-step : some? p (span i (e - i) xs) ≡ p (getD xs i d) || some? p (span (i + 1) (e - (i + 1)) xs)
+    some-span-step = ap (some? p) (span-left i e xs d l h)
+
+    pub first-span-step : first p (span i (e - i) xs) ≡ orElse (p (getD xs i d)) (getD xs i d) (first p (span (i + 1) (e - (i + 1)) xs))
+    first-span-step = ap (first p) (span-left i e xs d l h)
+
+  module _ (l : e ≤ i) where
+    pub every-span-end : every? p (span i (e - i) xs) ≡ true
+    every-span-end = ap (every? p) (span-end i e xs l)
+
+    pub some-span-end : some? p (span i (e - i) xs) ≡ false
+    some-span-end = ap (some? p) (span-end i e xs l)
+
+    pub first-span-end : first p (span i (e - i) xs) ≡ none
+    first-span-end = ap (first p) (span-end i e xs l)

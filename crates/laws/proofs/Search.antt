@@ -2,7 +2,7 @@
 use Prim.Native.Nat.{ℕ, _+_, _-_, _/_, _≤_, _<_, zero-le}
 use native.Mathlib.Nat.{not-suc-le-zero}
 use native.Mathlib.Omega.{arith}
-use mathlib.Core.Path.{_≡_, refl, _∙_}
+use mathlib.Core.Path.{_≡_, refl, ap, _∙_}
 use mathlib.Core.Logic.{⊎-elim}
 use mathlib.Core.Bool.{Bool, true, false, _&&_}
 use mathlib.Core.List.{List, map}
@@ -17,7 +17,7 @@ use Rattle.laws.proofs.Bools.{both-ways, not-passed, true-or-false}
 use Rattle.laws.proofs.Every.{none-by}
 use Rattle.laws.proofs.Runs.{keep-run}
 use Rattle.laws.proofs.First.{first-at, first-none}
-use Rattle.laws.proofs.Order.{eqZ-same, eqZ-sym, ltZ-apart, ltZ-else, ltZ-leZ, leZ-true, leZ-trans, leZ-ltZ-trans, ltZ-neither, leZ-false, ltZ-leZ-trans}
+use Rattle.laws.proofs.Order.{eqZ-true, eqZ-same, eqZ-sym, ltZ-apart, ltZ-else, ltZ-leZ, leZ-true, leZ-trans, leZ-ltZ-trans, ltZ-neither, leZ-false, ltZ-leZ-trans, ltZ-true, leZ-refl}
 use Rattle.laws.proofs.Ascending.{keys-not-descend}
 
 -- the middle of two places is one that is looked at
@@ -141,3 +141,21 @@ module _ {A : Type 0} (key : A → ℤ) (xs : List A) (d : A) (a : ℤ) where
             keep-run (hasKey key a) xs d lo hi lower-upper (c .inside) (λ i l. ltZ-apart (key (getD xs i d)) a (b .below i l))
             (λ i l h. eqZ-same (key (getD xs i d)) a (ltZ-neither (key (getD xs i d)) a (b .above i l (omega (arith, c .inside))) (leZ-true (key (getD xs i d)) a (c .below i h))))
             (λ i l h. eqZ-sym (key (getD xs i d)) a ∙ ltZ-apart a (key (getD xs i d)) (leZ-false (key (getD xs i d)) a (c .above i l h)))
+
+      -- an upper bound that was walked to from the lower: every key on the way is a, and the next is another
+      module _ (hi : ℕ) (l : lo ≤ hi) (h : hi ≤ length xs) (on : (i : ℕ) → lo ≤ i → i < hi → hasKey key a (getD xs i d) ≡ true) (off : hi < length xs → hasKey key a (getD xs hi d) ≡ false) where
+        on-most : (i : ℕ) → lo ≤ i → i < hi → atMost key a (getD xs i d) ≡ true
+        on-most i m k = ap (λ (x : ℤ). leZ x a) (eqZ-true (key (getD xs i d)) a (on i m k)) ∙ leZ-refl a
+
+        walked-below : (i : ℕ) → i < hi → atMost key a (getD xs i d) ≡ true
+        walked-below i k =
+            ⊎-elim (λ e. ltZ-leZ (key (getD xs i d)) a (b .below i (ltb-true i lo e))) (λ e. on-most i (ltb-false i lo e) k) (true-or-false (ltb i lo))
+
+        walked-above : (i : ℕ) → hi ≤ i → i < length xs → atMost key a (getD xs i d) ≡ false
+        walked-above i k m =
+            let next = key (getD xs hi d) in
+            let more = ltZ-else next a (b .above hi l (omega arith)) (off (omega arith)) in
+            ltZ-true a (key (getD xs i d)) (ltZ-leZ-trans a next (key (getD xs i d)) more (keys-not-descend key xs d hi i o k m))
+
+        pub upper-walked : Between (atMost key a) xs d hi hi
+        upper-walked = record { within = omega arith; inside = h; below = walked-below; above = walked-above }

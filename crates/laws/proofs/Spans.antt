@@ -4,11 +4,14 @@ use native.Mathlib.Nat.{add-zero}
 use native.Mathlib.Numerals.{add-one}
 use native.Mathlib.Omega.{arith}
 use mathlib.Core.Path.{_≡_, sym, ap, _∙_}
+use mathlib.Core.Bool.{Bool}
 use mathlib.Core.List.{List, [], _∷_, _++_, map}
 use lib.ListN.{length, take, drop, getD, length-drop, take-append-drop}
 use lib.Seq.{getD-take, getD-drop, drop-cons, drop-drop, take-add, take-suc, take-length, drop-append-add, take-append-le, length-take-le}
-use Rattle.laws.specs.Lists.{span, from}
-use Rattle.laws.proofs.Maps.{map-take, map-drop}
+use Rattle.laws.specs.Lists.{span, from, flat, keep, put}
+use Rattle.laws.proofs.Maps.{map-take, map-drop, map-snoc}
+use Rattle.laws.proofs.Keep.{keep-snoc}
+use Rattle.laws.proofs.Flat.{flat-snoc}
 use Rattle.laws.proofs.From.{table-at, table-length}
 use lib.Seq.{ext-getD}
 
@@ -42,6 +45,12 @@ module _ {A : Type 0} where
       more : e - f ≡ suc (e - (f + 1))
       more = omega arith
 
+  pub span-end : (f e : ℕ) (xs : List A) → e ≤ f → span f (e - f) xs ≡ []
+  span-end f e xs l = ap (λ (k : ℕ). span f k xs) none-left
+    where
+      none-left : e - f ≡ 0
+      none-left = omega arith
+
   -- before, within, after
   pub span-split : (f n : ℕ) (xs : List A) → xs ≡ take f xs ++ (span f n xs ++ drop (f + n) xs)
   span-split f n xs =
@@ -65,3 +74,14 @@ module _ {A : Type 0} where
 
 pub span-map : {A B : Type 0} (g : A → B) (f n : ℕ) (xs : List A) → map g (span f n xs) ≡ span f n (map g xs)
 span-map g f n xs = map-take g n (drop f xs) ∙ ap (take n) (map-drop g f xs)
+
+-- one more element of a span
+module _ {A B : Type 0} (f n : ℕ) (xs : List A) (d : A) (h : f + n < length xs) where
+  pub map-span-next : (g : A → B) → map g (span f (n + 1) xs) ≡ map g (span f n xs) ++ (g (getD xs (f + n) d) ∷ [])
+  map-span-next g = ap (map g) (span-next f n xs d h) ∙ map-snoc g (span f n xs) (getD xs (f + n) d)
+
+  pub flat-span-next : (g : A → List B) → flat g (span f (n + 1) xs) ≡ flat g (span f n xs) ++ g (getD xs (f + n) d)
+  flat-span-next g = ap (flat g) (span-next f n xs d h) ∙ flat-snoc g (span f n xs) (getD xs (f + n) d)
+
+pub keep-span-next : {A : Type 0} (p : A → Bool) (f n : ℕ) (xs : List A) (d : A) → f + n < length xs → keep p (span f (n + 1) xs) ≡ keep p (span f n xs) ++ put (p (getD xs (f + n) d)) (getD xs (f + n) d) []
+keep-span-next p f n xs d h = ap (keep p) (span-next f n xs d h) ∙ keep-snoc p (span f n xs) (getD xs (f + n) d)
