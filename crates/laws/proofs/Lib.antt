@@ -17,3 +17,7 @@ pub mod Inserts
 pub mod Placed
 pub mod Laid
 pub mod Nans
+pub mod Unique
+pub mod Ones
+pub mod Sizes
+pub mod SelfFinite
