@@ -4,3 +4,5 @@ pub mod Powers
 pub mod Weights
 pub mod Cuts
 pub mod Signs
+pub mod Counts
+pub mod Hundredths
