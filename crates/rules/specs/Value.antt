@@ -148,7 +148,7 @@ module _ (w : World) (i : ℕ) (row : Row) where
     ]
   ]
 
-  -- n copies of a penalised value x, each with its own source row
+  -- n copies of a penalised value x, each with its own source row; the row's penalty is set when the operator is applied
   unfoldable pub copies : ℕ → Source → Float → Gathered → Res Gathered
   copies zero r x g = ok g
   copies (suc n) r x g =
@@ -158,7 +158,7 @@ module _ (w : World) (i : ℕ) (row : Row) where
   -- "A quantity keeps at most 8 copies; the rest is one source row with penalty 0.0"
   unfoldable pub penalised : Effect → Float → Float → Gathered → Res Gathered
   penalised e v x g = do
-    h ← copies (min (e .quantity) 8) (toSource e v true 1 false) x g
+    h ← copies (min (e .quantity) 8) (toSource e v true 1 true) x g
     elim (e .quantity - 8) [
       | zero ↦ ok h
       | suc n ↦ (note (toSource e v true (suc n) true) (h .mem) >>= λ m. ok (record { mem = m; values = h .values }))
