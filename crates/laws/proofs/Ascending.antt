@@ -3,7 +3,7 @@ use Prim.Native.Nat.{ℕ, zero, suc, _+_, _≤_, _<_}
 use native.Mathlib.Omega.{arith}
 use native.Mathlib.Nat.{not-suc-le-zero, le-of-suc-le-suc, le-trans, le-of-lt, lt-of-le-of-lt}
 use mathlib.Core.Path.{_≡_, refl, sym, ap, _∙_}
-use mathlib.Core.Bool.{true, _&&_}
+use mathlib.Core.Bool.{Bool, true, false, _&&_}
 use mathlib.Core.List.{List, [], _∷_, map}
 use lib.IntN.{ℤ, pos}
 use lib.ListN.{length, getD, drop, length-map, length-drop}
@@ -76,16 +76,28 @@ module _ {A : Type 0} (key : A → ℤ) (xs : List A) (d : A) (i j : ℕ) where
 
 -- ---- a loop over neighbours: what is left decides
 
-module _ (l : List ℤ) (i : ℕ) (d : ℤ) where
-  two : i + 1 < length l → drop i l ≡ getD l i d ∷ getD l (i + 1) d ∷ drop (i + 1 + 1) l
-  two h = drop-step l i d (omega arith) ∙ ap (λ (r : List ℤ). getD l i d ∷ r) (drop-step l (i + 1) d h)
+module _ (l : List ℤ) (i : ℕ) (d : ℤ) (h : i + 1 < length l) where
+  two : drop i l ≡ getD l i d ∷ getD l (i + 1) d ∷ drop (i + 1 + 1) l
+  two = drop-step l i d (omega arith) ∙ ap (λ (r : List ℤ). getD l i d ∷ r) (drop-step l (i + 1) d h)
 
-  pub ascends-step : i + 1 < length l → ascends (drop i l) ≡ ltZ (getD l i d) (getD l (i + 1) d) && ascends (drop (i + 1) l)
-  ascends-step h = ap ascends (two h) ∙ ap (λ (r : List ℤ). ltZ (getD l i d) (getD l (i + 1) d) && ascends r) (sym (drop-step l (i + 1) d h))
+  pub ascends-step : ascends (drop i l) ≡ ltZ (getD l i d) (getD l (i + 1) d) && ascends (drop (i + 1) l)
+  ascends-step = ap ascends two ∙ ap (λ (r : List ℤ). ltZ (getD l i d) (getD l (i + 1) d) && ascends r) (sym (drop-step l (i + 1) d h))
 
-  pub notDescending-step : i + 1 < length l → notDescending (drop i l) ≡ leZ (getD l i d) (getD l (i + 1) d) && notDescending (drop (i + 1) l)
-  notDescending-step h =
-      ap notDescending (two h) ∙ ap (λ (r : List ℤ). leZ (getD l i d) (getD l (i + 1) d) && notDescending r) (sym (drop-step l (i + 1) d h))
+  pub ascends-on : ltZ (getD l i d) (getD l (i + 1) d) ≡ true → ascends (drop i l) ≡ ascends (drop (i + 1) l)
+  ascends-on t = ascends-step ∙ ap (λ (s : Bool). s && ascends (drop (i + 1) l)) t
+
+  pub ascends-off : ltZ (getD l i d) (getD l (i + 1) d) ≡ false → ascends (drop i l) ≡ false
+  ascends-off t = ascends-step ∙ ap (λ (s : Bool). s && ascends (drop (i + 1) l)) t
+
+  pub notDescending-step : notDescending (drop i l) ≡ leZ (getD l i d) (getD l (i + 1) d) && notDescending (drop (i + 1) l)
+  notDescending-step =
+      ap notDescending two ∙ ap (λ (r : List ℤ). leZ (getD l i d) (getD l (i + 1) d) && notDescending r) (sym (drop-step l (i + 1) d h))
+
+  pub notDescending-on : leZ (getD l i d) (getD l (i + 1) d) ≡ true → notDescending (drop i l) ≡ notDescending (drop (i + 1) l)
+  notDescending-on t = notDescending-step ∙ ap (λ (s : Bool). s && notDescending (drop (i + 1) l)) t
+
+  pub notDescending-off : leZ (getD l i d) (getD l (i + 1) d) ≡ false → notDescending (drop i l) ≡ false
+  notDescending-off t = notDescending-step ∙ ap (λ (s : Bool). s && notDescending (drop (i + 1) l)) t
 
 -- at most one is left
 short : (l : List ℤ) → length l ≤ 1 → (ascends l ≡ true) × (notDescending l ≡ true)

@@ -93,6 +93,9 @@ module _ {A : Type 0} (f : ℕ → A) where
   pub table-step : (k n : ℕ) → k < n → map f (from k (n - k)) ≡ f k ∷ map f (from (k + 1) (n - (k + 1)))
   table-step k n h = ap (map f) (from-step k n h)
 
+  pub table-end : (k n : ℕ) → n ≤ k → map f (from k (n - k)) ≡ []
+  table-end k n h = ap (map f) (from-end k n h)
+
   -- functions that agree on the numbers give the same table
   pub table-same : (g : ℕ → A) (a n : ℕ) → ((k : ℕ) → a ≤ k → k < a + n → f k ≡ g k) → map f (from a n) ≡ map g (from a n)
   table-same g a zero e = refl

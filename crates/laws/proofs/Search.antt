@@ -45,6 +45,16 @@ module _ {A : Type 0} (t : A → Bool) (xs : List A) (d : A) where
         above = λ i h k. absurd (omega arith);
       }
 
+  -- no place is left between: lo is the bound
+  pub between-end : {lo hi : ℕ} → Between lo hi → hi ≤ lo → Between lo lo
+  between-end {lo} {hi} b h =
+      record {
+        within = omega arith;
+        inside = omega (arith, b .inside, b .within);
+        below = b .below;
+        above = λ i k m. b .above i (omega arith) m;
+      }
+
   module _ (f : Falls) {lo hi : ℕ} (b : Between lo hi) (mid : ℕ) (l : lo ≤ mid) (h : mid < hi) where
     within-list : mid < length xs
     within-list = omega (arith, b .inside)

@@ -12,6 +12,14 @@ use Rattle.laws.specs.Lists.{eqZ}
 use Rattle.laws.proofs.Bools.{same-test}
 use Rattle.laws.proofs.Order.{eqZ-true, eqZ-same, eqZ-apart}
 
+-- a number that was read, against one whose bits a loop keeps
+module _ {w : Width} (a c : ℤ) (p : SFits w a) where
+  pub tested-left : (t : Bool) → ltZ (toZ w (ofZ w a)) c ≡ t → ltZ a c ≡ t
+  tested-left t e = rw (toZ-ofZ p) at e
+
+  pub tested-right : (t : Bool) → ltZ c (toZ w (ofZ w a)) ≡ t → ltZ c a ≡ t
+  tested-right t e = rw (toZ-ofZ p) at e
+
 module _ {w : Width} (a b : ℤ) (p : SFits w a) (q : SFits w b) where
   pub same-bits : ofZ w a ≡ ofZ w b → a ≡ b
   same-bits e = sym (toZ-ofZ p) ∙ ap (toZ w) e ∙ toZ-ofZ q
