@@ -4,7 +4,7 @@ use native.Mathlib.Omega.{arith}
 use mathlib.Core.Path.{_≡_, refl, ap, _∙_}
 use mathlib.Core.Bool.{Bool, true, false, _&&_}
 use mathlib.Core.List.{List, [], _∷_, _++_, map, append-nil}
-use lib.ListN.{length, take, getD}
+use lib.ListN.{length, take, getD, length-take}
 use Rattle.laws.specs.Lists.{put, keep, some?, every?}
 use Rattle.laws.proofs.Bools.{and-left, and-right, or-false-left, or-false-right}
 use Rattle.laws.proofs.Maps.{take-next}
@@ -39,6 +39,10 @@ module _ {A : Type 0} where
     pub keep-length : (xs : List A) → length (keep p xs) ≤ length xs
     keep-length [] = omega arith
     keep-length (x ∷ xs) = omega (arith, put-length (p x) x (keep p xs), keep-length xs)
+
+    -- at most as many were kept as were looked at
+    pub keep-count : (xs : List A) (i : ℕ) → length (keep p (take i xs)) ≤ i
+    keep-count xs i = omega (arith, keep-length (take i xs), length-take i xs)
 
     pub keep-all : (xs : List A) → every? p xs ≡ true → keep p xs ≡ xs
     keep-all [] h = refl

@@ -4,8 +4,8 @@ use native.Mathlib.Nat.{not-suc-le-zero, le-of-suc-le-suc}
 use native.Mathlib.Omega.{arith}
 use mathlib.Core.Path.{_≡_, refl, sym, ap, _∙_}
 use mathlib.Core.List.{List, [], _∷_, _++_, map, append-assoc}
-use lib.ListN.{length, drop, set, getD, replicate, length-map, length-append, length-drop, length-set, length-replicate, getD-replicate, List·getD-append}
-use lib.Seq.{drop-append-add, getD-append-add, getD-drop, drop-drop}
+use lib.ListN.{length, take, drop, set, getD, replicate, length-map, length-append, length-drop, length-set, length-replicate, getD-replicate, List·getD-append}
+use lib.Seq.{take-at, drop-at, drop-append-add, getD-append-add, getD-drop, drop-drop}
 use Rattle.laws.specs.Columns.{laid, column, Col}
 use Rattle.laws.proofs.Maps.{map-append, map-at}
 
@@ -78,8 +78,28 @@ module _ {R B : Type 0} (enc : R → B) where
       }
 
   -- a column whose rows are those of another list
-  pub col-same : {rs ss : List R} {c₀ c : List B} → rs ≡ ss → Col enc rs c₀ c → Col enc ss c₀ c
-  col-same {rs} {ss} {c₀} {c} e K = rw e at K
+  pub col-same : {rs ss : List R} {c₀ c : List B} → ss ≡ rs → Col enc rs c₀ c → Col enc ss c₀ c
+  col-same e K = rw e K
+
+  -- the next row of a loop, with `map-next`, `keep-more`, ..
+  pub col-next : (rs : List R) (r : R) (n : ℕ) {ss : List R} {c₀ c c′ : List B} → ss ≡ rs ++ (r ∷ []) → Col enc rs c₀ c → n ≡ length rs → n < length c₀ → c′ ≡ set c n (enc r) → Col enc ss c₀ c′
+  col-next rs r n s K k h e = col-same s (col-more rs r n K k h e)
+
+  -- several rows, laid from place n on
+  pub col-append : (rs ss : List R) (n : ℕ) {c₀ c c′ : List B} → Col enc rs c₀ c → n ≡ length rs → n + length ss ≤ length c₀ → c′ ≡ take n c ++ laid enc ss (drop n c) → Col enc (rs ++ ss) c₀ c′
+  col-append rs ss n {c₀} {c} {c′} K k h e =
+      record {
+        is = whole;
+        long = ap length whole ∙ laid-length (rs ++ ss) c₀ (rw (length-append rs ss) (omega arith));
+      }
+    where
+      n-long : length (map enc rs) ≡ n
+      n-long = length-map rs enc ∙ sym k
+
+      whole : c′ ≡ laid enc (rs ++ ss) c₀
+      whole =
+          e ∙ rw (K .is, take-at (map enc rs) (drop (length rs) c₀) n n-long, drop-at (map enc rs) (drop (length rs) c₀) n n-long)
+          (sym (laid-append rs ss c₀))
 
   pub col-row : (rs : List R) {c₀ c : List B} → Col enc rs c₀ c → (k : ℕ) (r : R) (d : B) → k < length rs → getD c k d ≡ enc (getD rs k r)
   col-row rs {c₀} K k r d h = ap (λ (l : List B). getD l k d) (K .is) ∙ laid-row rs c₀ k r d h
@@ -110,3 +130,11 @@ module _ {R B : Type 0} (enc : R → B) where
 
   pub column-past : (z : B) (rs : List R) (n k : ℕ) (d : B) → length rs ≤ k → k < n → getD (column enc z rs n) k d ≡ z
   column-past z rs n k d h l = ap (λ (c : List B). getD c k d) (column-laid z rs n) ∙ laid-past rs (replicate n z) k d h ∙ getD-replicate n k z d l
+
+-- how many rows there are, in a loop
+module _ {R : Type 0} (rs : List R) (n : ℕ) {ss : List R} where
+  pub count-next : (r : R) → ss ≡ rs ++ (r ∷ []) → n ≡ length rs → n + 1 ≡ length ss
+  count-next r s k = ap (λ (m : ℕ). m + 1) k ∙ sym (ap length s ∙ length-append rs (r ∷ []))
+
+  pub count-same : ss ≡ rs → n ≡ length rs → n ≡ length ss
+  count-same s k = k ∙ sym (ap length s)
