@@ -6,3 +6,9 @@ pub mod Cuts
 pub mod Signs
 pub mod Counts
 pub mod Hundredths
+pub mod Carried
+pub mod Places
+pub mod Sorts
+pub mod Inserts
+pub mod Eights
+pub mod Weighings
