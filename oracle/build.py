@@ -1,0 +1,165 @@
+#!/usr/bin/env python3
+"""Builds the Rust oracle from the original sources by explicit edits.
+
+Every edit names the text that it expects; one that is not there, or not as often as said, ends the build.
+Usage: build.py [--unpatched] [--shared DIR]. The program is target/oracle/oracle, or target/oracle/unpatched.
+"""
+import argparse
+import pathlib
+import subprocess
+import sys
+
+HERE = pathlib.Path(__file__).resolve().parent
+ROOT = HERE.parent
+ENGINE = "crates/esf-dogma-engine/src/"
+DATA = "crates/esf-data/src/"
+
+
+def replace(old, new="", times=1):
+    def edit(text):
+        if text.count(old) != times:
+            raise ValueError(f"{text.count(old)} times, not {times}: {old!r}")
+        return text.replace(old, new)
+    return edit
+
+
+def cut(start, end=None):
+    """Takes out what stands from one text up to another, or to the end."""
+    def edit(text):
+        for mark in (start, end):
+            if mark is not None and text.count(mark) != 1:
+                raise ValueError(f"{text.count(mark)} times, not once: {mark!r}")
+        rest = "" if end is None else text[text.index(end):]
+        return text[:text.index(start)] + rest
+    return edit
+
+
+def append(name):
+    return lambda text: text + (HERE / "rust" / name).read_text()
+
+
+SERDE_LINES = [
+    '    #[serde(default, skip_serializing_if = "Vec::is_empty")]\n',
+    '    #[serde(default, deserialize_with = "id_map")]\n',
+    '    #[serde(default = "one")]\n',
+]
+
+INFO = [
+    replace("use flatbuffers::Vector;\n", "use crate::eve::Vector;\n"),
+    replace("use crate::sde::eve;\n", "use crate::eve;\n"),
+]
+
+PROJECTION = [
+    replace("use serde::{Deserialize, Serialize};\n"),
+    replace("use crate::fit::{id_map, one};\n"),
+    replace("#[derive(Serialize, Deserialize, ", "#[derive(", 3),
+    replace(SERDE_LINES[0], times=2),
+    replace(SERDE_LINES[1]),
+    replace(SERDE_LINES[2]),
+]
+
+ITEM = [
+    replace("use serde::Serialize;\n"),
+    replace("use strum_macros::EnumIter;\n"),
+    replace("use crate::fit::{FitItem, Slot, State};\n", "use crate::fit::{Slot, State};\n"),
+    replace("#[derive(Serialize, Debug, Copy, Clone, PartialEq, Eq, PartialOrd, Ord, EnumIter)]\n"
+            '#[serde(rename_all = "snake_case")]\n',
+            "#[derive(Debug, Copy, Clone, PartialEq, Eq, PartialOrd, Ord)]\n"),
+    # not carried over: needs the fit and the types
+    cut("    pub fn new_fit(", "    pub fn new_projected("),
+]
+
+MOD = [
+    replace("mod outgoing;\nmod output;\nmod pass_1;\n", "mod output;\n"),
+    replace("mod pass_3;\nmod pass_4;\n", "mod pass_3;\npub mod report;\n"),
+    replace("use serde::Deserialize;\n"),
+    replace("use crate::fit::Fit;\n"),
+    replace("use crate::projection::{ProjectedBuff, Projection};\n", "use crate::projection::ProjectedBuff;\n"),
+    replace("use crate::validate::validate;\n"),
+    replace("use esf_data::Info;\n", "use crate::info::Info;\n"),
+    replace("pub use outgoing::beacon;\n"),
+    replace("pub use output::{AttributeValue, Calculation, ItemResult, Source, SourceRef};\n", "pub use output::{Source, SourceRef};\n"),
+    replace("#[derive(Deserialize, Debug, Default, Clone)]\n#[serde(default)]\n", "#[derive(Debug, Default, Clone)]\n"),
+    # the header's category numbers
+    replace("    matches!(\n        category_id,\n        CATEGORY_MODULE | CATEGORY_SUBSYSTEM | CATEGORY_STRUCTURE_MODULE\n    )\n",
+            "    report::is_module_category(category_id)\n"),
+    # the passes before and after are not here
+    cut("/// Calculate every attribute of the ship, its items and the character.\n"),
+]
+
+PASS_2 = [
+    replace("use esf_data::eve;\n", "use crate::eve;\n"),
+    replace("        /* Depending on the modifier, move the effects to the correct attribute. */\n",
+            "        report(&effects);\n"),
+    append("pass_2_tail.rs"),
+]
+
+PASS_3 = [
+    replace("use strum::IntoEnumIterator;\n"),
+    replace("mod reactive_armor;\n"),
+    # the armour call goes, the asks come first
+    replace("        reactive_armor::simulate(info, objects);\n",
+            "        for (object, attribute_id) in super::report::asks() {\n"
+            "            let item = objects.get(object).unwrap();\n"
+            "            item.calculated_value(info, objects, attribute_id);\n"
+            "        }\n"),
+]
+
+OWN_RULES = [
+    replace("PENALTY_FACTOR.powi((position * position) as i32)", "crate::own::power(PENALTY_FACTOR, (position * position) as u32)"),
+    replace("(1.0 + value).powf(f64::from(quantity))", "crate::own::power(1.0 + value, quantity)"),
+    replace("current_value = current_value.max(min);", "current_value = crate::own::at_least(current_value, min);"),
+    replace("current_value = current_value.min(max);", "current_value = crate::own::at_most(current_value, max);"),
+]
+
+
+def plan(patched):
+    return [
+        (DATA + "info.rs", "info.rs", INFO),
+        (ENGINE + "projection.rs", "projection.rs", PROJECTION),
+        (ENGINE + "calculate/attribute_ids.rs", "calculate/attribute_ids.rs", []),
+        (ENGINE + "calculate/item.rs", "calculate/item.rs", ITEM),
+        (ENGINE + "calculate/mod.rs", "calculate/mod.rs", MOD),
+        (ENGINE + "calculate/pass_2.rs", "calculate/pass_2.rs", PASS_2),
+        (ENGINE + "calculate/pass_3.rs", "calculate/pass_3.rs", PASS_3 + (OWN_RULES if patched else [])),
+    ]
+
+
+OWN_FILES = {
+    "main.rs": "main.rs", "eve.rs": "eve.rs", "fit.rs": "fit.rs", "own.rs": "own.rs", "sheet.rs": "sheet.rs",
+    "output.rs": "calculate/output.rs", "report.rs": "calculate/report.rs",
+}
+
+
+def build(shared, patched):
+    name = "oracle" if patched else "unpatched"
+    target = ROOT / "target" / "oracle"
+    place = target / (name + "-src")
+    (place / "calculate").mkdir(parents=True, exist_ok=True)
+    for source, goal, edits in plan(patched):
+        text = (shared / "docs" / "src" / source).read_text()
+        for edit in edits:
+            try:
+                text = edit(text)
+            except ValueError as problem:
+                sys.exit(f"{source}: expected text found {problem}")
+        (place / goal).write_text(text)
+    for own, goal in OWN_FILES.items():
+        (place / goal).write_text((HERE / "rust" / own).read_text())
+    program = target / name
+    command = ["rustc", "--edition", "2024", "-O", "-A", "warnings", "-o", str(program), str(place / "main.rs")]
+    if subprocess.run(command).returncode != 0:
+        sys.exit("rustc refused the edited sources")
+    return program
+
+
+def main():
+    arguments = argparse.ArgumentParser()
+    arguments.add_argument("--unpatched", action="store_true")
+    arguments.add_argument("--shared", type=pathlib.Path, default=ROOT.parent / "shared")
+    given = arguments.parse_args()
+    print(build(given.shared, not given.unpatched))
+
+
+if __name__ == "__main__":
+    main()
