@@ -1,0 +1,190 @@
+#!/usr/bin/env python3
+"""Writes theorems that the definition in crates/rules gives what the reference gives, for sheets made from a seed.
+
+Usage: sampled.py CRATES SEED FILES KIND=COUNT ..: into CRATES/rules/proofs of a scratch copy, never of this repository.
+Each sheet has lent lengths of its own; the number, the place, the counts, all columns and the states are compared.
+"""
+import pathlib
+import random
+import re
+import struct
+import sys
+
+import make_sheets
+import reference
+
+COLUMNS = ["collected", "collectedValues", "rows", "bases", "values", "entries", "entryValues", "plain", "sources", "sourceFloats"]
+# the columns of each list, in the order of the reference's rooms
+LISTS = [("collected", [0, 1]), ("rows", [2, 3, 4]), ("entries", [5, 6]), ("plain", [7]), ("sources", [8, 9])]
+IEEE = ["ofBits", "toBits", "toSigned", "ofInt", "add", "sub", "mul", "div", "neg", "lt"]
+
+
+def u32(x):
+    return x & 0xffffffff
+
+
+def u64(x):
+    return struct.unpack("<Q", struct.pack("<d", x))[0]
+
+
+def lengths(r, full):
+    """Lent lengths by what a run with ample room needs: more, just enough, or one less."""
+    lent = [0] * 10
+    short = r.choice([None, None, None, r.randrange(5)])
+    for at, (name, columns) in enumerate(LISTS):
+        need = len(getattr(full, name))
+        for c in columns:
+            lent[c] = need + r.choice([0, 0, 1, 2])
+        if at == short:
+            lent[r.choice(columns)] = r.choice([max(0, need - 1), r.randint(0, need)])
+    if full.number != 0:
+        few = r.random() < 0.2
+        lent = [r.choice([0, 1, 2, 5]) if few else r.choice([60, 80, 100]) for _ in range(10)]
+    return lent
+
+
+def rooms(lent):
+    return tuple(min(lent[c] for c in columns) for _, columns in LISTS)
+
+
+def padded(rows, width, n):
+    return rows + [[0] * width] * (n - len(rows))
+
+
+def expected(answer, lent):
+    """The columns as lists of lists of numbers, as `dump` gives them."""
+    numbers = lambda rows: [list(map(u32, row[0])) for row in rows]
+    floats = lambda rows, at: [[u64(row[1][at])] for row in rows]
+    both = lambda rows: [list(map(u64, row[1])) for row in rows]
+    counts = [len(getattr(answer, name)) for name in ("collected", "rows", "entries", "plain", "sources")]
+    return [
+        [[answer.number, answer.place] + counts],
+        padded(numbers(answer.collected), 14, lent[0]), padded(floats(answer.collected, 0), 1, lent[1]),
+        padded(numbers(answer.rows), 6, lent[2]), padded(floats(answer.rows, 0), 1, lent[3]), padded(floats(answer.rows, 1), 1, lent[4]),
+        padded(numbers(answer.entries), 11, lent[5]), padded(floats(answer.entries, 0), 1, lent[6]),
+        padded([list(map(u32, p)) for p in answer.plain], 2, lent[7]),
+        padded(numbers(answer.sources), 10, lent[8]), padded(both(answer.sources), 2, lent[9]),
+        answer.states + [[1024 - len(answer.states)]],
+    ]
+
+
+def listed(values):
+    return " ∷ ".join([*map(str, values), "[]"])
+
+
+def nested(rows):
+    return " ∷ ".join(["(" + listed(row) + ")" for row in rows] + ["[]"])
+
+
+DUMP = """-- Every column of a run as lists of numbers, floats by their bits.
+use Prim.Native.Nat.{ℕ, _+_}
+use mathlib.Core.List.{List, [], _∷_, _++_, map}
+use mathlib.Core.Bool.{cond}
+use lib.ListN.{length, take, drop}
+use lib.Dec.{eqb}
+use lib.Ieee.{Float, binary64, toBits}
+use Rattle.rules.specs.Answer.{Res, number, place, answerOf}
+use Rattle.rules.specs.Outcome.{Done, Lent}
+use Rattle.rules.specs.Columns.{countsOf, collectedColumn, collectedValueColumn, rowColumn, baseColumn, valueColumn, entryColumn, entryValueColumn, plainColumn, sourceColumn, sourceFloatColumn, stateColumn, stateList}
+
+abbrev floats : List Float → List (List ℕ)
+floats l = map (λ x. toBits binary64 x ∷ []) l
+
+abbrev total : List ℕ → ℕ
+total [] = 0
+total (n ∷ r) = n + total r
+
+-- how many rows of zeros there are
+abbrev zeros : List (List ℕ) → ℕ
+zeros [] = 0
+zeros (x ∷ r) = cond (eqb (total x) 0) 1 0 + zeros r
+
+unfoldable pub dump : Lent → Res Done → List (List (List ℕ))
+dump l r =
+    ((number (answerOf r) ∷ place (answerOf r) ∷ countsOf r .collected ∷ countsOf r .rows ∷ countsOf r .entries ∷ countsOf r .plain ∷ countsOf r .sources ∷ []) ∷ [])
+    ∷ collectedColumn r (l .collected) ∷ floats (collectedValueColumn r (l .collectedValues))
+    ∷ rowColumn r (l .rows) ∷ floats (baseColumn r (l .bases)) ∷ floats (valueColumn r (l .values))
+    ∷ entryColumn r (l .entries) ∷ floats (entryValueColumn r (l .entryValues))
+    ∷ plainColumn r (l .plain)
+    ∷ sourceColumn r (l .sources) ∷ map (λ q. map (λ x. toBits binary64 x) q) (sourceFloatColumn r (l .sourceFloats))
+    ∷ (take (length (stateList r)) (stateColumn r) ++ ((zeros (drop (length (stateList r)) (stateColumn r)) ∷ []) ∷ []))
+    ∷ []
+"""
+
+
+def everything(crates):
+    """Opens every definition of laws and rules."""
+    out = ["-- Opens every definition at once, for the theorems that compute.", "use lib.Ieee.{" + ", ".join(IEEE) + "}"]
+    names = list(IEEE)
+    for crate, path in (("laws", "Rattle.laws.specs."), ("rules", "Rattle.rules.specs.")):
+        for file in sorted((crates / crate / "specs").glob("*.antt")):
+            found = re.findall(r"^ *unfoldable pub (\S+) :", file.read_text(), re.M)
+            if found:
+                out.append(f"use {path}{file.stem}.{{{', '.join(found)}}}")
+                names += found
+    out.append("use Rattle.rules.proofs.SampledDump.{dump}")
+    names.append("dump")
+    out += ["", "unfoldable pub everything : Unit {0}", "unfolding " + " ".join(names), "everything = tt", ""]
+    return "\n".join(out)
+
+
+HEAD = """-- The definition held against the reference.
+use Prim.Native.Nat.{ℕ}
+use mathlib.Core.Path.{_≡_, refl}
+use mathlib.Core.List.{List, [], _∷_}
+use Rattle.rules.proofs.SampledEverything.{everything}
+use Rattle.rules.proofs.SampledDump.{dump}
+use Rattle.rules.specs.Outcome.{outcome, Lent}
+"""
+
+
+def theorem(name, data, lent, answer):
+    fields = "; ".join(f"{c} = {n}" for c, n in zip(COLUMNS, lent))
+    rows = "\n    ∷ ".join("(" + nested(column) + ")" for column in expected(answer, lent))
+    return f"""
+abbrev sheet-{name} : List ℕ
+sheet-{name} = {listed(data)}
+
+abbrev lent-{name} : Lent
+lent-{name} = record {{ {fields} }}
+
+-- {answer.number} {answer.place}
+pub same-{name} : dump lent-{name} (outcome sheet-{name} lent-{name}) ≡
+    ({rows}
+    ∷ [])
+unfolding everything
+same-{name} = refl
+"""
+
+
+def samples(seed, wanted):
+    for kind, count in wanted:
+        for n in range(count):
+            data = make_sheets.sheet(kind, seed, n)
+            r = random.Random(f"lent {kind} {seed} {n}")
+            lent = lengths(r, reference.answer(data))
+            yield f"{kind}-{n}", data, lent, reference.answer(data, rooms(lent))
+
+
+def main():
+    crates, seed, files = pathlib.Path(sys.argv[1]), sys.argv[2], int(sys.argv[3])
+    wanted = [(pair.split("=")[0], int(pair.split("=")[1])) for pair in sys.argv[4:]]
+    proofs = crates / "rules" / "proofs"
+    (proofs / "SampledDump.antt").write_text(DUMP)
+    (proofs / "SampledEverything.antt").write_text(everything(crates))
+    texts = [HEAD for _ in range(files)]
+    counts = {}
+    for at, (name, data, lent, answer) in enumerate(samples(seed, wanted)):
+        texts[at % files] += theorem(name, data, lent, answer)
+        counts[answer.number] = counts.get(answer.number, 0) + 1
+    modules = ["SampledDump", "SampledEverything"]
+    for at, text in enumerate(texts):
+        modules.append(f"Sampled{at}")
+        (proofs / f"Sampled{at}.antt").write_text(text)
+    kept = [line for line in (proofs / "Lib.antt").read_text().splitlines() if "Sampled" not in line]
+    (proofs / "Lib.antt").write_text("\n".join(kept + [f"pub mod {m}" for m in modules]) + "\n")
+    print("numbers", dict(sorted(counts.items())))
+
+
+if __name__ == "__main__":
+    main()
