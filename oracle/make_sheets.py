@@ -129,8 +129,10 @@ class Dense:
         """A run of base attributes: a new one, or one that stands already."""
         r = self.r
         table = self.sheet.tables[6]
-        if table and chance(r, 0.15):
+        if self.runs and chance(r, 0.15):
             return r.choice(self.runs)
+        if chance(r, 0.1):  # one that no object has
+            table.append([r.choice(self.ids), self.number()])
         some = sorted(i for i in self.ids if chance(r, 0.45))
         run = (len(table), len(some))
         for i in some:
@@ -242,7 +244,8 @@ class Real:
         self.bonus = r.sample(self.attribute_ids, 20)
         for i in self.attribute_ids:
             limits = [r.choice(self.attribute_ids) if chance(r, 0.03) else 0 for _ in range(2)]
-            self.sheet.tables[0].append([i, r.choice([0, 1, 2, 3, 1, 3]), r.choice([0.0, 0.0, 1.0, 100.0]), *limits])
+            default = r.choice([1.0, 100.0] if i in self.bonus else [0.0, 0.0, 1.0, 100.0])
+            self.sheet.tables[0].append([i, r.choice([0, 1, 2, 3, 1, 3]), default, *limits])
         skills = [3300 + n for n in range(self.skill_count)]
         used = r.sample(skills, 20)
         module_types = [500 + n for n in range(10)]
@@ -293,22 +296,42 @@ class Real:
 # ---- large ones
 
 def large(r):
-    """Some tables at their most; ranges short, so that the run stays finite."""
+    """Tables at their most; few modifiers reach far, so that the run stays short."""
     dense = Dense(r)
+    dense.codes = dense.wild = dense.others = False
     sheet = dense.make()
-    sheet.categories = [7, 32, 66]
-    dense.codes = dense.wild = False
     t = sheet.tables
     t[0] = [[i, r.randint(0, 3), dense.number(), 0, 0] for i in sorted(r.sample(range(-4000, 4000), 2048))]
-    t[2] = (t[2] * 4096)[:4096]
+    known = [row[0] for row in t[0]]
+    while len(t[2]) < 4096:
+        wide = chance(r, 0.002)
+        t[2].append([r.randint(0, 4) if wide else 4, r.choice([0, 1, 2]), r.choice([3, 5, 7, 8]), r.choice(known), r.choice(known), r.randint(1, 1000), 1])
     t[1] = [[i, r.randint(0, 7), 0, 0, r.randint(0, 4094), r.choice([0, 1, 2])] for i in range(1, 1025)]
     t[3] = sorted([[r.randint(1, 1000), r.randint(1, 1024), r.randint(0, 1)] for _ in range(4096)], key=lambda row: row[0])
     t[7] = [[r.randint(1, 1024)] for _ in range(4096)]
-    t[6] = [[r.randint(1, 3000), dense.number()] for _ in range(16384)]
+    t[6] += [[r.choice(known), dense.number()] for _ in range(16384 - len(t[6]))]
+    t[4] = [[i, r.randint(0, 9), r.randint(0, 4095), 1] for i in range(64)]
+    t[8] = [[r.randint(0, 64), dense.number()] for _ in range(64)]
+    t[9] = [[r.randrange(1024), r.choice(known)] for _ in range(1024)]
     while len(t[5]) < 1024:
         place = r.randint(0, 16383)
         t[5].append(object_record(SKILL, r.randint(1, 1000), 1, 16, bases=(place, 1)))
     return sheet
+
+
+def limits(r, tiny=False):
+    """One table at its most, or one record above it."""
+    sheet = Dense(r, tiny=True).make()
+    t = sheet.tables
+    no = r.choice([5, 9] if tiny else range(1, 11))
+    goal = MOST[no - 1] + r.randint(0, 1)
+    fill = {
+        1: lambda k: [k, 1, 0.0, 0, 0], 2: lambda k: [k, 0, 0, 0, 0, 0], 3: lambda k: [4, 0, 3, 1, 1, 0, 0], 4: lambda k: [k, 1, 0],
+        5: lambda k: [k, 3, 0, 0], 6: lambda k: object_record(SKILL, 1), 7: lambda k: [1, 0.0], 8: lambda k: [1], 9: lambda k: [1, 2.0], 10: lambda k: [0, 1],
+    }[no]
+    t[no - 1] = [record for record in t[no - 1] if no not in (1, 2, 4, 5) or record[0] < 1000]
+    t[no - 1] += [fill(1000 + k) for k in range(goal - len(t[no - 1]))]
+    return sheet.bytes()
 
 
 # ---- damaged ones
@@ -346,7 +369,32 @@ def swapped(data, r, table):
     return data[:at] + (b + a if chance(r, 0.7) else a + a) + data[at + 2 * size:]
 
 
+def wrapping(data, r, table, field):
+    """A first and a count whose sum is 2 to the 32."""
+    count, offset = struct.unpack_from("<II", data, 8 * (table - 1))
+    if count == 0:
+        return data
+    at = offset + r.randrange(count) * struct.calcsize(LAYOUTS[table - 1]) + field
+    n = r.randint(1, 3)
+    return set_word(set_word(data, at, 2 ** 32 - n), at + 4, n)
+
+
+def repeated(data, r):
+    """An object stands twice."""
+    count, offset = struct.unpack_from("<II", data, 40)
+    at = offset + 68 * r.randrange(max(count, 1))
+    if count == 0 or at + 68 > len(data):
+        return data
+    data = data[:at] + data[at:at + 68] + data[at:]
+    for table in range(7, 11):
+        place = struct.unpack_from("<I", data, 8 * table - 4)[0]
+        data = set_word(data, 8 * table - 4, place + 68)
+    return set_word(data, 40, count + 1)
+
+
 DAMAGES = [
+    ("ranges that wrap", lambda d, r: wrapping(d, r, *r.choice([(2, 16), (5, 8), (6, 44), (6, 52), (6, 60)]))),
+    ("an object twice", repeated),
     ("cut short", lambda d, r: d[:r.randrange(len(d))]),
     ("cut in the header", lambda d, r: d[:r.choice([0, 1, 50, 99, 100])]),
     ("one byte more", lambda d, r: d + b"\0"),
@@ -374,7 +422,7 @@ DAMAGES = [
     ("base order", lambda d, r: swapped(d, r, 7)),
     ("base float", lambda d, r: bad_float(d, r, 7, 4)),
     ("buff float", lambda d, r: bad_float(d, r, 9, 4)),
-    ("ask", lambda d, r: in_record(d, r, 10, 0, r.choice([100, 1024, 2 ** 32 - 1, 12]))),
+    ("ask", lambda d, r: in_record(d, r, 10, 0, r.choice([100, 1024, 2 ** 32 - 1, struct.unpack_from("<I", d, 40)[0]]))),
     ("any word", lambda d, r: set_word(d, 4 * r.randrange(len(d) // 4), r.choice([0, 1, 5, 2 ** 31, 2 ** 32 - 1, 0x7ff00000]))),
 ]
 
@@ -382,9 +430,10 @@ DAMAGES = [
 def damaged(r, tiny=False):
     data = Dense(r, tiny).make().bytes()
     for _ in range(r.choice([1, 1, 2])):
-        if len(data) < 100:
-            break
-        data = r.choice(DAMAGES)[1](data, r)
+        try:
+            data = r.choice(DAMAGES)[1](data, r)
+        except (struct.error, ValueError, IndexError):
+            break  # the one before left no room for this one
     return data
 
 
@@ -397,6 +446,8 @@ KINDS = {
     "small-real": lambda r: Real(r, 30).make().bytes(),
     "large": lambda r: large(r).bytes(),
     "damaged": damaged,
+    "limits": limits,
+    "small-limits": lambda r: limits(r, tiny=True),
     "tiny-damaged": lambda r: damaged(r, tiny=True),
 }
 

@@ -206,6 +206,7 @@ class Run:
 
     def copy_bases(self):
         self.row_count = self.entry_count = self.source_count = 0
+        self.before_hits = []  # how many rows and entries stood before each hit
         for t in self.things:
             for attribute, value in t.bases:
                 self.take_row(t, attribute, value)
@@ -415,6 +416,7 @@ class Run:
             stackable = attribute in self.attributes and self.attributes[attribute][1] & 1 != 0
             penalty = not stackable and category not in EXEMPT
             for t in self.hit(e):
+                self.before_hits.append((self.row_count, self.entry_count))
                 if attribute not in t.rows:
                     self.take_row(t, attribute, self.default(attribute))
                 if self.entry_count >= self.rooms[2]:
@@ -584,6 +586,7 @@ class Answer:
         self.states, self.collected, self.plain, self.rows, self.entries, self.sources = [], [], [], [], [], []
 
     def fill(self, run):
+        self.before_hits = run.before_hits
         self.states = [[t.state, t.max_state] for t in run.things]
         for e in run.collected:
             numbers, value = origin_numbers(e["origin"])

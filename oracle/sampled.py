@@ -1,7 +1,7 @@
 #!/usr/bin/env python3
 """Writes theorems that the definition in crates/rules gives what the reference gives, for sheets made from a seed.
 
-Usage: sampled.py CRATES SEED FILES KIND=COUNT ..: into CRATES/rules/proofs of a scratch copy, never of this repository.
+Usage: sampled.py CRATES SEED FILES WANTED ..: into CRATES/rules/proofs of a scratch copy, never of this repository.
 Each sheet has lent lengths of its own; the number, the place, the counts, all columns and the states are compared.
 """
 import pathlib
@@ -27,19 +27,23 @@ def u64(x):
     return struct.unpack("<Q", struct.pack("<d", x))[0]
 
 
-def lengths(r, full):
-    """Lent lengths by what a run with ample room needs: more, just enough, or one less."""
+def lengths(kind, seed, n, data):
+    """Lent lengths by what a run with ample room needs: more or just enough; for four sheets of five some lists may be short."""
+    r = random.Random(f"lent {kind} {seed} {n}")
+    full = reference.answer(data)
+    if full.number != 0:
+        few = n % 5 != 0 and r.random() < 0.2
+        return [r.choice([0, 1, 2, 5]) if few else r.choice([60, 80, 100]) for _ in range(10)]
+    short = r.choice([[], [], [r.randrange(5)], [1, 2]]) if n % 5 != 0 else []
     lent = [0] * 10
-    short = r.choice([None, None, None, r.randrange(5)])
     for at, (name, columns) in enumerate(LISTS):
         need = len(getattr(full, name))
         for c in columns:
             lent[c] = need + r.choice([0, 0, 1, 2])
-        if at == short:
-            lent[r.choice(columns)] = r.choice([max(0, need - 1), r.randint(0, need)])
-    if full.number != 0:
-        few = r.random() < 0.2
-        lent = [r.choice([0, 1, 2, 5]) if few else r.choice([60, 80, 100]) for _ in range(10)]
+        if at in short:
+            lent[r.choice(columns)] = r.choice([max(0, need - 1), r.randint(0, need), r.randint(need // 2, need)])
+    if short == [1, 2] and full.before_hits:  # both lists are full before the same hit
+        lent[r.randint(2, 4)], lent[r.randint(5, 6)] = r.choice(full.before_hits)
     return lent
 
 
@@ -158,23 +162,28 @@ same-{name} = refl
 
 
 def samples(seed, wanted):
-    for kind, count in wanted:
-        for n in range(count):
-            data = make_sheets.sheet(kind, seed, n)
-            r = random.Random(f"lent {kind} {seed} {n}")
-            lent = lengths(r, reference.answer(data))
-            yield f"{kind}-{n}", data, lent, reference.answer(data, rooms(lent))
+    """Each wanted is KIND=COUNT, or a file with a kind and a number in each line."""
+    chosen = []
+    for text in wanted:
+        if "=" in text:
+            kind, count = text.split("=")
+            chosen += [(kind, n) for n in range(int(count))]
+        else:
+            chosen += [(line.split()[0], int(line.split()[1])) for line in open(text)]
+    for kind, n in chosen:
+        data = make_sheets.sheet(kind, seed, n)
+        lent = lengths(kind, seed, n, data)
+        yield f"{kind}-{n}", data, lent, reference.answer(data, rooms(lent))
 
 
 def main():
     crates, seed, files = pathlib.Path(sys.argv[1]), sys.argv[2], int(sys.argv[3])
-    wanted = [(pair.split("=")[0], int(pair.split("=")[1])) for pair in sys.argv[4:]]
     proofs = crates / "rules" / "proofs"
     (proofs / "SampledDump.antt").write_text(DUMP)
     (proofs / "SampledEverything.antt").write_text(everything(crates))
     texts = [HEAD for _ in range(files)]
     counts = {}
-    for at, (name, data, lent, answer) in enumerate(samples(seed, wanted)):
+    for at, (name, data, lent, answer) in enumerate(samples(seed, sys.argv[4:])):
         texts[at % files] += theorem(name, data, lent, answer)
         counts[answer.number] = counts.get(answer.number, 0) + 1
     modules = ["SampledDump", "SampledEverything"]
