@@ -6,6 +6,7 @@ Usage: reference.py FILE [collected rows entries plain sources]: prints what the
 import math
 import struct
 import sys
+from fractions import Fraction
 
 sys.setrecursionlimit(20000)
 
@@ -623,6 +624,22 @@ class Answer:
 
 def bits(x):
     return struct.pack(">d", x).hex()
+
+
+def hundredths(x):
+    """Two decimals cut toward zero from the exact value."""
+    count = abs(Fraction(x) * 100).__floor__()
+    if count >= 10 ** 14:
+        return "*"
+    return f"{'-' if x < 0 and count > 0 else ''}{count // 100}.{count % 100:02d}"
+
+
+def listing(answer):
+    """What the program prints."""
+    if answer.number != 0:
+        return f"refused {answer.number} {answer.place}\n"
+    lines = [f"{numbers[0]} {numbers[1]} {hundredths(floats[1])}\n" for numbers, floats in answer.rows]
+    return "".join([f"rows {len(answer.rows)}\n", *lines])
 
 
 AMPLE = (10 ** 9,) * 5

@@ -2,7 +2,8 @@
 """Writes theorems that the definition in crates/rules gives what the reference gives, for sheets made from a seed.
 
 Usage: sampled.py CRATES SEED FILES WANTED ..: into CRATES/rules/proofs of a scratch copy, never of this repository.
-Each sheet has lent lengths of its own; the number, the place, the counts, all columns and the states are compared.
+Each sheet has lent lengths of its own; the number, the place, the counts, all columns, the states and the listing
+are compared, and where nothing is refused what each attribute needs, and the values without memory.
 """
 import pathlib
 import random
@@ -69,7 +70,39 @@ def expected(answer, lent):
         padded([list(map(u32, p)) for p in answer.plain], 2, lent[7]),
         padded(numbers(answer.sources), 10, lent[8]), padded(both(answer.sources), 2, lent[9]),
         answer.states + [[1024 - len(answer.states)]],
+        [list(reference.listing(answer).encode())],
     ]
+
+
+# ---- the memoryless definition
+
+def needs(data, answer):
+    """What each row needs directly: sources with their resistances, then the limits; keys are object and attribute."""
+    limits = {r[0]: r[3:5] for r in reference.tables_of(data)[0]}
+    found = {}
+    for (number, attribute, first, count, _, _), _ in answer.rows:
+        keys = []
+        for entry, _ in answer.entries[first:first + count]:
+            if entry[0] == 0:
+                keys.append((entry[2], entry[4]))
+                if entry[9]:
+                    keys.append((0, entry[10]))
+        keys += [(number, limit) for limit in limits.get(attribute, ()) if limit != 0]
+        found[number, attribute] = keys
+    return found
+
+
+def tree(key, graph, most):
+    """How many calculations the key takes without memory, or none where that is more than most, or endless."""
+    total, todo = 0, [(key, 0)]
+    while todo:
+        at, deep = todo.pop()
+        if at in graph:
+            total += 1
+            if total > most or deep > len(graph):
+                return None
+            todo += [(k, deep + 1) for k in graph[at]]
+    return total
 
 
 def listed(values):
@@ -87,8 +120,14 @@ use mathlib.Core.Bool.{cond}
 use lib.ListN.{length, take, drop}
 use lib.Dec.{eqb}
 use lib.Ieee.{Float, binary64, toBits}
-use Rattle.rules.specs.Answer.{Res, number, place, answerOf}
-use Rattle.rules.specs.Outcome.{Done, Lent}
+use Rattle.rules.specs.Answer.{Res, ok, refused, number, place, answerOf}
+use Rattle.rules.specs.Outcome.{Done, Lent, worldOf}
+use Rattle.rules.specs.Listing.{listing}
+use Rattle.rules.specs.Bytes.{bits, pairsOf}
+use Rattle.rules.specs.Sheet.{bookOf, fitOf}
+use Rattle.rules.specs.Dispatch.{Key}
+use Rattle.rules.specs.Value.{World}
+use Rattle.rules.specs.Fresh.{fresh, needsAt}
 use Rattle.rules.specs.Columns.{countsOf, collectedColumn, collectedValueColumn, rowColumn, baseColumn, valueColumn, entryColumn, entryValueColumn, plainColumn, sourceColumn, sourceFloatColumn, stateColumn, stateList}
 
 abbrev floats : List Float → List (List ℕ)
@@ -112,7 +151,21 @@ dump l r =
     ∷ plainColumn r (l .plain)
     ∷ sourceColumn r (l .sources) ∷ map (λ q. map (λ x. toBits binary64 x) q) (sourceFloatColumn r (l .sourceFloats))
     ∷ (take (length (stateList r)) (stateColumn r) ++ ((zeros (drop (length (stateList r)) (stateColumn r)) ∷ []) ∷ []))
-    ∷ []
+    ∷ (listing r ∷ []) ∷ []
+
+-- the values without memory, and what each attribute needs
+abbrev worldIn : List ℕ → World
+worldIn b = worldOf (bookOf b (pairsOf b)) (fitOf b (pairsOf b)) 0
+
+abbrev valueBits : Res Float → List ℕ
+valueBits (ok x) = toBits binary64 x ∷ []
+valueBits (refused x) = []
+
+unfoldable pub afresh : List ℕ → List Key → List (List ℕ)
+afresh b keys = map (λ k. valueBits (fresh (worldIn b) (k .object) (k .id))) keys
+
+unfoldable pub needed : List ℕ → List Key → List (List (List ℕ))
+needed b keys = map (λ k. map (λ n. n .object ∷ bits (n .id) ∷ []) (needsAt (worldIn b) k)) keys
 """
 
 
@@ -126,8 +179,8 @@ def everything(crates):
             if found:
                 out.append(f"use {path}{file.stem}.{{{', '.join(found)}}}")
                 names += found
-    out.append("use Rattle.rules.proofs.SampledDump.{dump}")
-    names.append("dump")
+    out.append("use Rattle.rules.proofs.SampledDump.{dump, afresh, needed}")
+    names += ["dump", "afresh", "needed"]
     out += ["", "unfoldable pub everything : Unit {0}", "unfolding " + " ".join(names), "everything = tt", ""]
     return "\n".join(out)
 
@@ -137,8 +190,10 @@ use Prim.Native.Nat.{ℕ}
 use mathlib.Core.Path.{_≡_, refl}
 use mathlib.Core.List.{List, [], _∷_}
 use Rattle.rules.proofs.SampledEverything.{everything}
-use Rattle.rules.proofs.SampledDump.{dump}
+use Rattle.rules.proofs.SampledDump.{dump, afresh, needed}
 use Rattle.rules.specs.Outcome.{outcome, Lent}
+use Rattle.rules.specs.Bytes.{signed}
+use Rattle.rules.specs.Dispatch.{Key}
 """
 
 
@@ -158,6 +213,30 @@ pub same-{name} : dump lent-{name} (outcome sheet-{name} lent-{name}) ≡
     ∷ [])
 unfolding everything
 same-{name} = refl
+"""
+
+
+def memoryless(name, data, answer):
+    """What each attribute needs, and the values of those that lead into no loop."""
+    graph = needs(data, answer)
+    values = {(numbers[0], numbers[1]): u64(floats[1]) for numbers, floats in answer.rows}
+    keys = lambda some: " ∷ ".join([f"record {{ object = {o}; id = signed {u32(a)} }}" for o, a in some] + ["[]"])
+    straight = [key for key in graph if tree(key, graph, 60) is not None]
+    shown = " ∷ ".join(["(" + nested([[o, u32(a)] for o, a in graph[key]]) + ")" for key in graph] + ["[]"])
+    return f"""
+abbrev keys-{name} : List Key
+keys-{name} = {keys(graph)}
+
+abbrev straight-{name} : List Key
+straight-{name} = {keys(straight)}
+
+pub needs-{name} : needed sheet-{name} keys-{name} ≡ ({shown})
+unfolding everything
+needs-{name} = refl
+
+pub fresh-{name} : afresh sheet-{name} straight-{name} ≡ ({nested([[values[key]] for key in straight])})
+unfolding everything
+fresh-{name} = refl
 """
 
 
@@ -185,6 +264,8 @@ def main():
     counts = {}
     for at, (name, data, lent, answer) in enumerate(samples(seed, sys.argv[4:])):
         texts[at % files] += theorem(name, data, lent, answer)
+        if answer.number == 0:
+            texts[at % files] += memoryless(name, data, answer)
         counts[answer.number] = counts.get(answer.number, 0) + 1
     modules = ["SampledDump", "SampledEverything"]
     for at, text in enumerate(texts):
