@@ -2,7 +2,8 @@
 """Builds the Rust oracle from the original sources by explicit edits.
 
 Every edit names the text that it expects; one that is not there, or not as often as said, ends the build.
-Usage: build.py [--unpatched] [--shared DIR]. The program is target/oracle/oracle, or target/oracle/unpatched.
+Usage: build.py [--leave powers] [--leave clamps] [--shared DIR]. The program is target/oracle/oracle; with one of the own rules left out,
+target/oracle/unpatched-powers or unpatched-clamps; with both left out, unpatched-powers-clamps.
 """
 import argparse
 import pathlib
@@ -105,15 +106,19 @@ PASS_3 = [
             "        }\n"),
 ]
 
-OWN_RULES = [
+POWERS = [
     replace("PENALTY_FACTOR.powi((position * position) as i32)", "crate::own::power(PENALTY_FACTOR, (position * position) as u32)"),
     replace("(1.0 + value).powf(f64::from(quantity))", "crate::own::power(1.0 + value, quantity)"),
+]
+
+CLAMPS = [
     replace("current_value = current_value.max(min);", "current_value = crate::own::at_least(current_value, min);"),
     replace("current_value = current_value.min(max);", "current_value = crate::own::at_most(current_value, max);"),
 ]
 
 
-def plan(patched):
+def plan(left):
+    own_rules = ([] if "powers" in left else POWERS) + ([] if "clamps" in left else CLAMPS)
     return [
         (DATA + "info.rs", "info.rs", INFO),
         (ENGINE + "projection.rs", "projection.rs", PROJECTION),
@@ -121,7 +126,7 @@ def plan(patched):
         (ENGINE + "calculate/item.rs", "calculate/item.rs", ITEM),
         (ENGINE + "calculate/mod.rs", "calculate/mod.rs", MOD),
         (ENGINE + "calculate/pass_2.rs", "calculate/pass_2.rs", PASS_2),
-        (ENGINE + "calculate/pass_3.rs", "calculate/pass_3.rs", PASS_3 + (OWN_RULES if patched else [])),
+        (ENGINE + "calculate/pass_3.rs", "calculate/pass_3.rs", PASS_3 + own_rules),
     ]
 
 
@@ -131,12 +136,12 @@ OWN_FILES = {
 }
 
 
-def build(shared, patched):
-    name = "oracle" if patched else "unpatched"
+def build(shared, left):
+    name = "-".join(["unpatched", *left]) if left else "oracle"
     target = ROOT / "target" / "oracle"
     place = target / (name + "-src")
     (place / "calculate").mkdir(parents=True, exist_ok=True)
-    for source, goal, edits in plan(patched):
+    for source, goal, edits in plan(left):
         text = (shared / "docs" / "src" / source).read_text()
         for edit in edits:
             try:
@@ -155,10 +160,10 @@ def build(shared, patched):
 
 def main():
     arguments = argparse.ArgumentParser()
-    arguments.add_argument("--unpatched", action="store_true")
+    arguments.add_argument("--leave", choices=["powers", "clamps"], action="append", default=[])
     arguments.add_argument("--shared", type=pathlib.Path, default=ROOT.parent / "shared")
     given = arguments.parse_args()
-    print(build(given.shared, not given.unpatched))
+    print(build(given.shared, sorted(set(given.leave), reverse=True)))
 
 
 if __name__ == "__main__":
