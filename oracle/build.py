@@ -3,7 +3,8 @@
 
 Every edit names the text that it expects; one that is not there, or not as often as said, ends the build.
 Usage: build.py [--leave powers] [--leave clamps] [--shared DIR]. The program is target/oracle/oracle; with one of the own rules left out,
-target/oracle/unpatched-powers or unpatched-clamps; with both left out, unpatched-powers-clamps.
+target/oracle/unpatched-powers or unpatched-clamps; with both left out, unpatched-powers-clamps. build.py --guarded builds
+target/oracle/guarded, which refuses by rooms, float steps and depth as well, each tested where the Rust does the thing.
 """
 import argparse
 import pathlib
@@ -116,17 +117,43 @@ CLAMPS = [
     replace("current_value = current_value.min(max);", "current_value = crate::own::at_most(current_value, max);"),
 ]
 
+GUARD_2 = [
+    replace("        effects.push(Pass2Effect {", "        super::report::take(1);\n        effects.push(Pass2Effect {", 3),
+    replace("                self.effects.push(", "                super::report::take(4);\n                self.effects.push("),
+    replace("            Attribute::new(attr.map_or(", "            super::report::take(2);\n            Attribute::new(attr.map_or("),
+    replace("        attribute.effects.push(Effect {", "        super::report::take(3);\n        attribute.effects.push(Effect {"),
+]
 
-def plan(left):
+STEP = "super::report::step"
+
+GUARD_3 = [
+    replace("        /* A modifier that reads the attribute it changes gets its base value. */\n",
+            "        let _level = super::report::start(objects, owner);\n"),
+    replace("value * objects.ship.calculated_value(info, objects, resistance_id)",
+            STEP + "(value * objects.ship.calculated_value(info, objects, resistance_id))"),
+    replace("Mul => source_value - 1.0,", f"Mul => {STEP}(source_value - 1.0),", 2),
+    replace("Div => 1.0 / source_value - 1.0,", f"Div => {STEP}({STEP}(1.0 / source_value) - 1.0),", 2),
+    replace("=> source_value / 100.0,", f"=> {STEP}(source_value / 100.0),"),
+    replace("current_value *= 1.0 + value * penalty;", f"current_value = {STEP}(current_value * {STEP}(1.0 + {STEP}(value * penalty)));"),
+    replace("current_value *= crate::own::power(1.0 + value, quantity);",
+            f"current_value = {STEP}(current_value * super::report::power({STEP}(1.0 + value), quantity));"),
+    replace("current_value += value * f64::from(quantity);", f"current_value = {STEP}(current_value + {STEP}(value * f64::from(quantity)));"),
+    # one that does not run is pushed only where recorded: the test before it
+    replace("sources.push(", "super::report::take(5);\n                    sources.push(", 4),
+]
+
+
+def plan(left, guarded):
     own_rules = ([] if "powers" in left else POWERS) + ([] if "clamps" in left else CLAMPS)
+    guard_2, guard_3 = (GUARD_2, GUARD_3) if guarded else ([], [])
     return [
         (DATA + "info.rs", "info.rs", INFO),
         (ENGINE + "projection.rs", "projection.rs", PROJECTION),
         (ENGINE + "calculate/attribute_ids.rs", "calculate/attribute_ids.rs", []),
         (ENGINE + "calculate/item.rs", "calculate/item.rs", ITEM),
         (ENGINE + "calculate/mod.rs", "calculate/mod.rs", MOD),
-        (ENGINE + "calculate/pass_2.rs", "calculate/pass_2.rs", PASS_2),
-        (ENGINE + "calculate/pass_3.rs", "calculate/pass_3.rs", PASS_3 + own_rules),
+        (ENGINE + "calculate/pass_2.rs", "calculate/pass_2.rs", PASS_2 + guard_2),
+        (ENGINE + "calculate/pass_3.rs", "calculate/pass_3.rs", PASS_3 + own_rules + guard_3),
     ]
 
 
@@ -136,12 +163,12 @@ OWN_FILES = {
 }
 
 
-def build(shared, left):
-    name = "-".join(["unpatched", *left]) if left else "oracle"
+def build(shared, left, guarded):
+    name = "guarded" if guarded else "-".join(["unpatched", *left]) if left else "oracle"
     target = ROOT / "target" / "oracle"
     place = target / (name + "-src")
     (place / "calculate").mkdir(parents=True, exist_ok=True)
-    for source, goal, edits in plan(left):
+    for source, goal, edits in plan(left, guarded):
         text = (shared / "docs" / "src" / source).read_text()
         for edit in edits:
             try:
@@ -161,9 +188,12 @@ def build(shared, left):
 def main():
     arguments = argparse.ArgumentParser()
     arguments.add_argument("--leave", choices=["powers", "clamps"], action="append", default=[])
+    arguments.add_argument("--guarded", action="store_true")
     arguments.add_argument("--shared", type=pathlib.Path, default=ROOT.parent / "shared")
     given = arguments.parse_args()
-    print(build(given.shared, sorted(set(given.leave), reverse=True)))
+    if given.guarded and given.leave:
+        arguments.error("a guarded build has the own rules")
+    print(build(given.shared, sorted(set(given.leave), reverse=True), given.guarded))
 
 
 if __name__ == "__main__":

@@ -20,7 +20,7 @@ def number(bits):
 
 
 def main():
-    program = compare.ROOT / "target" / "oracle" / sys.argv[1]
+    program = sys.argv[1]
     kind, seed, count = sys.argv[2], sys.argv[3], int(sys.argv[4])
     sheets = other = rows = differ = zeros = status = elsewhere = 0
     greatest, at = 0.0, None
@@ -50,7 +50,7 @@ def main():
                             greatest, at = share, n
             differ += here
             elsewhere += here == 0
-    print(f"{program.name}, {kind} seed {seed}: {sheets} sheets not refused of {count}, {other} differ ({other / sheets:.2%}), status {status}, in source rows alone {elsewhere}; "
+    print(f"{program}, {kind} seed {seed}: {sheets} sheets not refused of {count}, {other} differ ({other / sheets:.2%}), status {status}, in source rows alone {elsewhere}; "
           f"{rows} rows, {differ} values differ ({differ / rows:.3%}), {zeros} of them in the sign of zero alone; greatest relative difference {greatest:.3g} (sheet {at})")
 
 

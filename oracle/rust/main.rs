@@ -1,4 +1,5 @@
 // The oracle: `oracle FILE` answers one sheet, `oracle --batch FILE` many, each with its length before it and `end` after its answer.
+// `guarded --lent FILE` is a batch where after each length stand the rooms of the lists 1 to 5.
 #![allow(dead_code, unused_imports, unused_variables, unexpected_cfgs)]
 
 mod calculate;
@@ -15,11 +16,17 @@ use std::panic::{self, AssertUnwindSafe, catch_unwind};
 use calculate::report::{MESSAGE, answer};
 use sheet::Sheet;
 
-fn answered(bytes: &[u8]) -> String {
+fn answered(bytes: &[u8], rooms: Option<[u32; 5]>) -> String {
     match catch_unwind(AssertUnwindSafe(|| Sheet::read(bytes))) {
-        Ok(sheet) => answer(&sheet),
+        Ok(sheet) => answer(&sheet, rooms),
         Err(_) => String::from("unreadable\n"),
     }
+}
+
+fn word(rest: &mut &[u8]) -> u32 {
+    let (head, tail) = rest.split_at(4);
+    *rest = tail;
+    u32::from_le_bytes(head.try_into().unwrap())
 }
 
 fn run() {
@@ -32,21 +39,23 @@ fn run() {
     let arguments: Vec<String> = std::env::args().skip(1).collect();
     let mut out = BufWriter::new(std::io::stdout().lock());
     match &arguments[..] {
-        [flag, file] if flag == "--batch" => {
+        [flag, file] if flag == "--batch" || flag == "--lent" => {
             let bytes = std::fs::read(file).expect("the batch can be read");
             let mut rest = &bytes[..];
-            while let Some((head, tail)) = rest.split_first_chunk::<4>() {
-                let length = u32::from_le_bytes(*head) as usize;
-                out.write_all(answered(&tail[..length]).as_bytes()).unwrap();
+            while !rest.is_empty() {
+                let length = word(&mut rest) as usize;
+                let rooms = (flag == "--lent").then(|| std::array::from_fn(|_| word(&mut rest)));
+                let (sheet, tail) = rest.split_at(length);
+                out.write_all(answered(sheet, rooms).as_bytes()).unwrap();
                 out.write_all(b"end\n").unwrap();
-                rest = &tail[length..];
+                rest = tail;
             }
         }
         [file] => {
             let bytes = std::fs::read(file).expect("the sheet can be read");
-            out.write_all(answered(&bytes).as_bytes()).unwrap();
+            out.write_all(answered(&bytes, None).as_bytes()).unwrap();
         }
-        _ => eprintln!("usage: oracle FILE | oracle --batch FILE"),
+        _ => eprintln!("usage: oracle FILE | oracle --batch FILE | guarded --lent FILE"),
     }
 }
 

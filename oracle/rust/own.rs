@@ -2,16 +2,21 @@
 #![allow(dead_code)]
 
 pub fn power(base: f64, exponent: u32) -> f64 {
+    power_by(base, exponent, |value| value)
+}
+
+// Each product and each square is a step.
+pub fn power_by(base: f64, exponent: u32, step: impl Fn(f64) -> f64) -> f64 {
     let mut result = 1.0;
     let mut square = base;
     let mut digits = exponent;
     while digits > 0 {
         if digits & 1 == 1 {
-            result *= square;
+            result = step(result * square);
         }
         digits >>= 1;
         if digits > 0 {
-            square *= square;
+            square = step(square * square);
         }
     }
     result

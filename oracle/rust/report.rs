@@ -21,6 +21,79 @@ thread_local! {
     pub static MESSAGE: RefCell<String> = const { RefCell::new(String::new()) };
 }
 
+// What a guarded run refuses by: the depth, the lists' rooms and what is used of them, the owners under calculation.
+#[derive(Default)]
+struct Guard {
+    depth: usize,
+    rooms: [u32; 5],
+    used: [u32; 5],
+    owners: Vec<u32>,
+}
+
+thread_local! {
+    static GUARD: RefCell<Guard> = RefCell::new(Guard::default());
+}
+
+// A calculation under way.
+pub struct Level;
+
+impl Drop for Level {
+    fn drop(&mut self) {
+        GUARD.with_borrow_mut(|guard| guard.owners.pop());
+    }
+}
+
+pub fn start(objects: &Objects, owner: &Item) -> Level {
+    let all = in_order(objects);
+    let number = all.iter().position(|item| std::ptr::eq(*item, owner));
+    let number = number.unwrap() as u32;
+    let deep = GUARD.with_borrow_mut(|guard| {
+        guard.owners.push(number);
+        guard.owners.len() > guard.depth
+    });
+    let level = Level;
+    if deep {
+        LAST.set(number);
+        panic!("Deeper than the depth");
+    }
+    level
+}
+
+pub fn step(value: f64) -> f64 {
+    if !value.is_finite() {
+        LAST.set(GUARD.with_borrow(|guard| *guard.owners.last().unwrap()));
+        panic!("Not finite");
+    }
+    value
+}
+
+pub fn power(base: f64, exponent: u32) -> f64 {
+    crate::own::power_by(base, exponent, step)
+}
+
+// Room for one more in a list, 1 to 5.
+pub fn take(list: usize) {
+    let full = GUARD.with_borrow_mut(|guard| {
+        guard.used[list - 1] += 1;
+        guard.used[list - 1] > guard.rooms[list - 1]
+    });
+    if full {
+        LAST.set(list as u32);
+        panic!("No room");
+    }
+}
+
+fn guard(sheet: &Sheet, rooms: [u32; 5]) {
+    GUARD.set(Guard {
+        depth: sheet.depth as usize,
+        rooms,
+        ..Guard::default()
+    });
+    for object in &sheet.objects {
+        (0..object.bases.1).for_each(|_| take(2));
+    }
+}
+
 // The sheet's object numbers.
 #[derive(Default)]
 struct Numbers {
@@ -340,6 +413,9 @@ fn refusal() -> String {
         ("Unknown effect operation", 5),
         ("Effect operation is not set", 5),
         ("Invalid origin for OtherID domain", 6),
+        ("No room", 7),
+        ("Not finite", 8),
+        ("Deeper than the depth", 9),
     ];
     let found = numbers.iter().find(|(start, _)| message.starts_with(start));
     match found {
@@ -348,10 +424,13 @@ fn refusal() -> String {
     }
 }
 
-// Everything of one sheet, or the refusal.
-pub fn answer(sheet: &Sheet) -> String {
+// Everything of one sheet, or the refusal; rooms are those of the lists 1 to 5, and only a guarded run heeds them.
+pub fn answer(sheet: &Sheet, rooms: Option<[u32; 5]>) -> String {
     COLLECTED.take();
     let run = || {
+        if let Some(rooms) = rooms {
+            guard(sheet, rooms);
+        }
         let mut objects = objects_of(sheet);
         pass_2::PassTwo::pass(sheet, &mut objects);
         pass_3::PassThree::pass(sheet, &mut objects);

@@ -32,6 +32,7 @@ pub struct Sheet {
     pub buffs: Vec<(i32, f64)>,
     pub asks: Vec<(u32, i32)>,
     pub categories: [i32; 3],
+    pub depth: u32,
     pub recording: u32,
 }
 
@@ -141,10 +142,8 @@ impl Sheet {
             buffs: table(bytes, 9, 12, |f| (f.i32(), f.f64())),
             asks: table(bytes, 10, 8, |f| (f.u32(), f.i32())),
             categories: [rest.i32(), rest.i32(), rest.i32()],
-            recording: {
-                rest.u32();
-                rest.u32()
-            },
+            depth: rest.u32(),
+            recording: rest.u32(),
         }
     }
 
