@@ -70,7 +70,7 @@ class Dense:
     def number(self):
         r = self.r
         if self.wild and chance(r, 0.3):
-            return r.choice([1e308, -1e308, 1.7976931348623157e308, 5e-324, -5e-324, 2.2250738585072014e-308, 1e200, -1e-200, 1e-160])
+            return r.choice([1e308, -1e308, 1.7976931348623157e308, 5e-324, -5e-324, 2.2250738585072014e-308, 1e200, -1e-200, 1e-160, 1e12, -1e12])
         if self.zeros and chance(r, 0.25):
             return r.choice([0.0, -0.0])
         return r.choice([r.randint(-6, 12), r.randint(-6, 12), r.randint(-60, 90), r.uniform(-3, 3), r.uniform(0.5, 1.5), r.uniform(-100, 100),

@@ -147,6 +147,9 @@ class Run:
     def __init__(self, data, rooms):
         self.rooms = [min(room, MOST_ROWS) for room in rooms]  # collected, rows, entries, plain, sources
         self.data = data
+        self.collected, self.plain = [], []
+        self.row_count = self.entry_count = self.source_count = 0
+        self.before_hits = []  # how many rows and entries stood before each hit
 
     # -- reading
 
@@ -199,6 +202,10 @@ class Run:
 
     # -- rooms
 
+    def reached(self):
+        """How many rows of each list there are."""
+        return [len(self.collected), self.row_count, self.entry_count, len(self.plain), self.source_count]
+
     def take_row(self, t, attribute, base):
         if self.row_count >= self.rooms[1]:
             raise Refusal(ROOM, 2)
@@ -206,8 +213,6 @@ class Run:
         t.rows[attribute] = Row(base)
 
     def copy_bases(self):
-        self.row_count = self.entry_count = self.source_count = 0
-        self.before_hits = []  # how many rows and entries stood before each hit
         for t in self.things:
             for attribute, value in t.bases:
                 self.take_row(t, attribute, value)
@@ -349,7 +354,6 @@ class Run:
                              target=self.ship, attribute=self.modifiers[k][4], resistance=None)
 
     def collection(self):
-        self.collected, self.plain = [], []
         for t in self.of_kind(SHIP) + self.of_kind(MODE) + self.of_kind(CHAR):
             self.collect_thing(t)
         for t in self.of_kind(PROJECTED):
@@ -655,7 +659,9 @@ def answer(data, rooms=AMPLE):
         run.dispatch()
         run.values()
     except Refusal as refusal:
-        return Answer(*refusal.answer)
+        refused = Answer(*refusal.answer)
+        refused.reached = run.reached()
+        return refused
     return Answer(0, 0).fill(run)
 
 

@@ -34,7 +34,12 @@ def lengths(kind, seed, n, data):
     full = reference.answer(data)
     if full.number != 0:
         few = n % 5 != 0 and r.random() < 0.2
-        return [r.choice([0, 1, 2, 5]) if few else r.choice([60, 80, 100]) for _ in range(10)]
+        lent = [r.choice([0, 1, 2, 5]) if few else r.choice([60, 80, 100]) for _ in range(10)]
+        if n % 5 > 2:  # a list is full when the refusal is met
+            at = r.randrange(5)
+            for c in LISTS[at][1]:
+                lent[c] = full.reached[at]
+        return lent
     short = r.choice([[], [], [r.randrange(5)], [1, 2]]) if n % 5 != 0 else []
     lent = [0] * 10
     for at, (name, columns) in enumerate(LISTS):

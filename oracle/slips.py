@@ -182,6 +182,38 @@ SLIPS = [
     ("equal cap takes the limit", "current = limit if current > limit else current", "current = limit if current >= limit else current"),
     ("assign before the rest", "for operator in range(PRE_ASSIGN, POST_ASSIGN + 1):", "for operator in [POST_ASSIGN, *range(PRE_ASSIGN, POST_ASSIGN)]:"),
     ("NUMBER only at the end", "    def step(self, x):\n        if not math.isfinite(x):", "    def step(self, x):\n        if x != x:"),
+    # readings that are easy to miss
+    ("ids ascend unsigned", "    return all(a < b for a, b in zip(values, values[1:]))", "    values = [v % 2 ** 32 for v in values]\n    return all(a < b for a, b in zip(values, values[1:]))"),
+    ("types compared unsigned", "any(a[0] > b[0] for a, b in zip(types, types[1:]))", "any(a[0] % 2 ** 32 > b[0] % 2 ** 32 for a, b in zip(types, types[1:]))"),
+    ("rows by unsigned id", "for attribute in sorted(t.rows):\n                self.fill_row", "for attribute in sorted(t.rows, key=lambda a: a % 2 ** 32):\n                self.fill_row"),
+    ("walk by unsigned id", "for attribute in sorted(t.rows):\n                self.value_of", "for attribute in sorted(t.rows, key=lambda a: a % 2 ** 32):\n                self.value_of"),
+    ("a type effect counts once", "return [(effect, default) for t, effect, default in self.type_effects if t == type_id]", "return list({effect: (effect, default) for t, effect, default in self.type_effects if t == type_id}.values())"),
+    ("quantity 0 not simplified", "            simple = self.simplified(operator, strength)\n", "            simple = self.simplified(operator, strength) if quantity > 0 else strength\n"),
+    ("not running is simplified", "            if not applied:\n                self.note(", "            if not applied:\n                self.simplified(operator, strength)\n                self.note("),
+    ("not running is not resisted", "                if resistance is not None:\n                    strength", "                if resistance is not None and applied:\n                    strength"),
+    ("source row before the step", "            simple = self.simplified(operator, strength)\n            if not (penalty and multiplies):\n                if quantity > 0:\n                    plain.append((simple, quantity))\n                self.note(origin, operator, strength, quantity, True)\n                continue\n", "            if not (penalty and multiplies):\n                self.note(origin, operator, strength, quantity, True)\n            simple = self.simplified(operator, strength)\n            if not (penalty and multiplies):\n                if quantity > 0:\n                    plain.append((simple, quantity))\n                continue\n"),
+    ("domain before operation", "        operator = self.operator_of(operation, k)\n        if operator is None:\n            return\n        if domain == OTHER_ID", "        if domain > TARGET:\n            raise Refusal(DOMAIN, k)\n        operator = self.operator_of(operation, k)\n        if operator is None:\n            return\n        if domain == OTHER_ID"),
+    ("a rig's charge is a rig", "            if t.slot == RIG and category == PASSIVE:", "            if (t.holder or t).slot == RIG and category == PASSIVE:"),
+    ("projected usage chance", "        for k in range(first, first + count):\n            _, domain,", "        if self.effects[t.effect][1][3] != 0 and t.effect not in t.taken_side_effects:\n            return\n        for k in range(first, first + count):\n            _, domain,"),
+    ("projected states are collected", "        for t in self.of_kind(PROJECTED):\n            self.collect_projected(t)\n", "        for t in self.of_kind(PROJECTED):\n            self.collect_projected(t)\n            t.state = min(t.state, t.max_state)\n"),
+    ("charges of passed items never hit", "            if in_location is not None and not in_location(t):\n", "            if (in_location is not None and not in_location(t)) or not self.calculated(t):\n"),
+    ("an item's location has its charge", "            return [self.char] + self.of_kind(SKILL) + [t for t in self.of_kind(ITEM) if self.on_char(t)]\n        return [target]", "            return [self.char] + self.of_kind(SKILL) + [t for t in self.of_kind(ITEM) if self.on_char(t)]\n        return [target] + ([target.charge] if target.charge else [])"),
+    ("penalty only where it counts", "penalty = not stackable and category not in EXEMPT", "penalty = not stackable and category not in EXEMPT and e[\"operator\"] in (1, 2, 5, 6, 7)"),
+    ("itself at most once", "1 if itself else e[\"quantity\"]", "min(1, e[\"quantity\"]) if itself else e[\"quantity\"]"),
+    ("penalised quantity 0 leaves a row", "            if quantity > COPIES:\n                self.note(", "            if quantity > COPIES or quantity == 0:\n                self.note("),
+    ("not running in copies", "                self.note(origin, operator, strength, quantity, False)\n", "                self.note(origin, operator, strength, min(quantity, 8), False)\n"),
+    ("ninth copy without penalty", "            if source is not None:\n", "            if source is not None and position < COPIES:\n"),
+    ("depth tested before the value", "        if row.value is None:\n            if depth > self.depth:\n                raise Refusal(DEPTH, t.number)\n", "        if depth > self.depth:\n            raise Refusal(DEPTH, t.number)\n        if row.value is None:\n"),
+    ("absent attributes have a depth", "        if row is None:\n            return self.default", "        if row is None:\n            if depth > self.depth:\n                raise Refusal(DEPTH, t.number)\n            return self.default"),
+    ("the first of no entries is 0", "counts = [len(self.entries), len(row.entries),", "counts = [len(self.entries) if row.entries else 0, len(row.entries),"),
+    ("a buff's skill -1 is the ship's", "if e[\"origin\"][0] == \"effect\" else 0", "if e[\"origin\"][0] == \"effect\" else self.ship.type"),
+    ("list 1 has the skill meant", "        self.collect(origin=(\"effect\", effect_id, t, category, modifying), func=func,", "        func = (func[0], t.type) if func[1] == -1 and func[0] in (BY_SKILL, BY_OWNED_SKILL) else func\n        self.collect(origin=(\"effect\", effect_id, t, category, modifying), func=func,"),
+    ("group -1 is the source's", "        if func == BY_GROUP:\n", "        if func == BY_GROUP and key == -1 and e[\"origin\"][0] == \"effect\":\n            return [t for t in self.located(e[\"target\"]) if t.group == e[\"origin\"][2].group]\n        if func == BY_GROUP:\n"),
+    ("min read after max", "        if most != 0:\n            limit", "        if most != 0 and least != most:\n            limit"),
+    ("hundredths rounded", "count = abs(Fraction(x) * 100).__floor__()", "count = round(abs(Fraction(x) * 100))"),
+    ("minus before zero", "'-' if x < 0 and count > 0 else ''", "'-' if x < 0 else ''"),
+    ("star above 10^12 only", "if count >= 10 ** 14:", "if count > 10 ** 14:"),
+    ("star with a minus", "return \"*\"", "return \"-*\" if x < 0 else \"*\""),
     # what comes back
     ("buff value not shown", "return [1, 0, 0, 0, 0, origin[1]], origin[2]", "return [1, 0, 0, 0, 0, origin[1]], 0.0"),
     ("source rows of buffs have an attribute", "numbers = [1, origin[1], 0, 0, 0, 0]", "numbers = [1, origin[1], 0, 0, 1, 0]"),
@@ -214,13 +246,18 @@ def slipped(name, old, new):
     return module
 
 
+def shown(module, data, rooms):
+    answer = module.answer(data, rooms)
+    return answer.text() + module.listing(answer)
+
+
 def stream(seed, count):
     """Dense, tiny and damaged sheets and ones at a table's most, with lent lengths."""
     for n in range(count):
         kind = ["dense", "tiny", "tiny-damaged", "dense", "tiny", "limits" if n % 50 == 5 else "damaged"][n % 6]
         data = make_sheets.sheet(kind, seed, n)
         rooms = sampled.rooms(sampled.lengths(kind, seed, n, data))
-        yield kind, n, data, rooms, reference.answer(data, rooms).text()
+        yield kind, n, data, rooms, shown(reference, data, rooms)
 
 
 def seen_in(module, sheets, most):
@@ -228,7 +265,7 @@ def seen_in(module, sheets, most):
     found = []
     for at, (kind, n, data, rooms, text) in enumerate(sheets):
         try:
-            same = module.answer(data, rooms).text() == text
+            same = shown(module, data, rooms) == text
         except Exception:
             same = False
         if not same:
