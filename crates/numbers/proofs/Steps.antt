@@ -1,6 +1,6 @@
 -- What `step` and `_>>=_` give.
-use mathlib.Core.Path.{_≡_, refl}
-use mathlib.Core.Bool.{Bool, true, false, cond}
+use mathlib.Core.Path.{_≡_}
+use mathlib.Core.Bool.{Bool, cond}
 use lib.Ieee.{Float, nan, inf, fin}
 use Rattle.laws.specs.Floats.{finite}
 use Rattle.rules.specs.declared.Step.{Step}
