@@ -1,0 +1,2 @@
+// The sheet (info.rs): bytes, header, records by value, look-ups, shape.
+pub mod bytes;
