@@ -1,6 +1,7 @@
 // Little-endian numbers in a slice of bytes.
 ghost use mathlib.Core.Path.{_≡_};
-ghost use Prim.Native.Nat.{_+_, _≤_, _<_, _^_};
+ghost use Prim.Native.Nat.{_+_, _*_, _≤_, _<_, _^_};
+ghost use lib.Ieee.{binary64, ofBits};
 ghost use lib.ListN.{length};
 ghost use Rattle.rules.specs.Bytes.{u32At, signed, i32At, f64At};
 
@@ -26,4 +27,46 @@ pub fn u32_at(b: &[u8], at: usize) -> u32
         + 0x100 * wide(b[at + 1])
         + 0x1_0000 * wide(b[at + 2])
         + 0x100_0000 * wide(b[at + 3])
+}
+
+// The number whose 32 bits these are.
+pub fn signed_of(x: u32) -> i32
+    ensures { λ r. ⌜ r ≡ signed x ⌝ }
+{
+    if x < 0x8000_0000 {
+        x as i32
+    } else {
+        -1 - ((0xffff_ffff - x) as i32)
+    }
+}
+
+pub fn i32_at(b: &[u8], at: usize) -> i32
+    requires { ⌜ at + 4 ≤ length (now b) ⌝ }
+    ensures { λ r. ⌜ r ≡ i32At (now (b .entry)) at ⌝ }
+{
+    signed_of(u32_at(b, at))
+}
+
+fn u64_at(b: &[u8], at: usize) -> u64
+    requires { ⌜ at + 8 ≤ length (now b) ⌝ }
+    ensures { λ r. ⌜ r ≡ u32At (now (b .entry)) at + 2 ^ 32 * u32At (now (b .entry)) (at + 4) ⌝ }
+{
+    wider(u32_at(b, at)) + 0x1_0000_0000 * wider(u32_at(b, at + 4))
+}
+
+// The float whose 64 bits these are; every NaN's bits give the one NaN.
+fn float_of(n: u64) -> f64
+    ensures { λ r. ⌜ r ≡ ofBits binary64 n ⌝ }
+{
+    if 0x7ff0_0000_0000_0000 < n % 0x8000_0000_0000_0000 {
+        return 0.0 / 0.0;
+    }
+    f64::from_bits(n)
+}
+
+pub fn f64_at(b: &[u8], at: usize) -> f64
+    requires { ⌜ at + 8 ≤ length (now b) ⌝ }
+    ensures { λ r. ⌜ r ≡ f64At (now (b .entry)) at ⌝ }
+{
+    float_of(u64_at(b, at))
 }
