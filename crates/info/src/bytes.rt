@@ -19,6 +19,13 @@ fn wider(x: u32) -> u64
     x as u64
 }
 
+// A number of 32 bits as an index.
+pub fn index(x: u32) -> usize
+    ensures { λ r. ⌜ (r ≡ x) × (r < 2 ^ 32) ⌝ }
+{
+    x as usize
+}
+
 pub fn u32_at(b: &[u8], at: usize) -> u32
     requires { ⌜ at + 4 ≤ length (now b) ⌝ }
     ensures { λ r. ⌜ r ≡ u32At (now (b .entry)) at ⌝ }

@@ -1,2 +1,3 @@
 // The sheet (info.rs): bytes, header, records by value, look-ups, shape.
 pub mod bytes;
+pub mod header;
