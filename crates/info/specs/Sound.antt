@@ -3,7 +3,7 @@ use Prim.Native.Nat.{ℕ, _+_, _*_, _≤_}
 use mathlib.Core.Path.{_≡_}
 use mathlib.Core.List.{List}
 use mathlib.Core.Option.{none}
-use lib.ListN.{length}
+use lib.ListN.{length, getD}
 use Rattle.rules.specs.Bytes.{countOf, offsetOf, widthOf, limitOf}
 use Rattle.rules.specs.Sheet.{bookOf, fitOf}
 use Rattle.rules.specs.Shape.{bookBad, fitBad}
@@ -40,3 +40,7 @@ pub record SoundBook (b : List ℕ) (pairs : List (List ℕ)) : Type 0 where
 pub record SoundFit (b : List ℕ) (pairs : List (List ℕ)) : Type 0 where
   pub held : HeldFit b pairs
   pub good : fitBad (fitOf b pairs) ≡ none
+
+-- x is element i of l
+abbrev pub Nth : {A : Type 0} → List A → ℕ → A → Type 0
+Nth {A} l i x = (d : A) → x ≡ getD l i d

@@ -2,3 +2,4 @@ pub mod Everything
 pub mod Written
 pub mod Marked
 pub mod Slips
+pub mod Tables
