@@ -2,3 +2,4 @@
 pub mod bytes;
 pub mod header;
 pub mod records;
+pub mod shape;
