@@ -1,7 +1,6 @@
 pub mod Signs
 pub mod Nans
 pub mod Elements
-pub mod Scans
-pub mod TableScans
-pub mod Headers
-pub mod Shapes
+pub mod Searches
+pub mod Finds
+pub mod Bases

@@ -1,11 +1,14 @@
 -- What the reading functions ask of the bytes: that the tables lie inside, and, for look-ups, that they are well formed.
 use Prim.Native.Nat.{ℕ, _+_, _*_, _≤_}
 use mathlib.Core.Path.{_≡_}
-use mathlib.Core.List.{List}
+use mathlib.Core.List.{List, map}
+use mathlib.Core.Bool.{true}
+use Rattle.laws.specs.Lists.{ascends}
+use Rattle.rules.specs.declared.Item.{Item}
 use mathlib.Core.Option.{none}
 use lib.ListN.{length, getD}
 use Rattle.rules.specs.Bytes.{countOf, offsetOf, widthOf, limitOf}
-use Rattle.rules.specs.Sheet.{bookOf, fitOf}
+use Rattle.rules.specs.Sheet.{Fit, bookOf, fitOf, basesOf}
 use Rattle.rules.specs.Shape.{bookBad, fitBad}
 
 -- table t lies inside the bytes, with at most its most records
@@ -40,6 +43,11 @@ pub record SoundBook (b : List ℕ) (pairs : List (List ℕ)) : Type 0 where
 pub record SoundFit (b : List ℕ) (pairs : List (List ℕ)) : Type 0 where
   pub held : HeldFit b pairs
   pub good : fitBad (fitOf b pairs) ≡ none
+
+-- an object's base attributes lie inside their table and ascend
+pub record Based (f : Fit) (o : Item) : Type 0 where
+  pub within : o .«first_attribute» + o .attributes ≤ length (f .bases)
+  pub ordered : ascends (map (λ r. r .«attribute_id») (basesOf f o)) ≡ true
 
 -- x is element i of l
 abbrev pub Nth : {A : Type 0} → List A → ℕ → A → Type 0

@@ -1,5 +1,5 @@
-// The sheet (info.rs): bytes, header, records by value, look-ups, shape.
+// The sheet (info.rs): bytes, header, records by value, look-ups.
 pub mod bytes;
 pub mod header;
+pub mod look_ups;
 pub mod records;
-pub mod shape;

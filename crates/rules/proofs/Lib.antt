@@ -3,3 +3,4 @@ pub mod Written
 pub mod Marked
 pub mod Slips
 pub mod Tables
+pub mod Verdicts

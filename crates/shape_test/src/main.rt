@@ -2,10 +2,10 @@
 // Standard input has the steps that make them, from cases/make_damaged.py, which says how.
 use info::bytes::index;
 use info::bytes::u32_at;
-use info::shape::Shaped;
-use info::shape::shape;
 use libc::STDIN_FILENO;
 use libc::STDOUT_FILENO;
+use shape::Shaped;
+use shape::shape;
 use std::num::wrapping_add_u32;
 ghost use Prim.Native.Nat.{_+_, _≤_};
 

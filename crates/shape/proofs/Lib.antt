@@ -1,0 +1,4 @@
+pub mod Scans
+pub mod TableScans
+pub mod Headers
+pub mod Shapes
