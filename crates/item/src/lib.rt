@@ -1,0 +1,32 @@
+// What objects are, where they are, what runs on them (item.rs), and the codes of the sheet.
+use rules::EffectCategory;
+use rules::EffectOperator;
+use rules::ItemState;
+
+pub mod codes;
+pub mod kinds;
+pub mod locations;
+pub mod states;
+
+// CATEGORY_MODULE, CATEGORY_SUBSYSTEM and CATEGORY_STRUCTURE_MODULE, which the header gives.
+pub struct Categories {
+    pub modules: i32,
+    pub subsystems: i32,
+    pub structure_modules: i32,
+}
+
+// What a code stands for, or a state that is asked for, where there is one.
+pub enum CategoryFound {
+    At(EffectCategory),
+    Nothing,
+}
+
+pub enum OperatorFound {
+    At(EffectOperator),
+    Nothing,
+}
+
+pub enum StateFound {
+    At(ItemState),
+    Nothing,
+}
