@@ -1,0 +1,291 @@
+// States and max states after collection (Item::collect_effects, PassTwo::pass).
+use info::bytes::index;
+use info::header::category_module;
+use info::header::category_structure_module;
+use info::header::category_subsystem;
+use info::header::count_of;
+use info::look_ups::FoundBase;
+use info::look_ups::FoundEffect;
+use info::look_ups::get_base;
+use info::look_ups::get_dogma_effect;
+use info::look_ups::get_dogma_effects;
+use info::records::object;
+use info::records::type_effect;
+use item::Categories;
+use item::kinds::is_charge;
+use item::kinds::is_item;
+use item::kinds::is_projected;
+use item::kinds::mutated;
+use item::locations::is_on_char;
+use item::locations::is_passed;
+use item::locations::is_subsystem;
+use item::states::reach_of;
+use rules::ATTRIBUTE_CAPACITOR_NEED_ID;
+use rules::CATEGORY_STRUCTURE;
+use rules::Item;
+use rules::TypeDogmaEffect;
+ghost use mathlib.Core.Path.{_≡_};
+ghost use mathlib.Core.Bool.{_&&_, _||_};
+ghost use mathlib.Core.List.{List};
+ghost use Prim.Native.Nat.{ℕ, _+_, _-_, _≤_, _<_, max, min};
+ghost use lib.ListN.{length};
+ghost use Rattle.laws.specs.Lists.{span};
+ghost use Rattle.rules.specs.Bytes.{countOf};
+ghost use Rattle.rules.specs.Sheet.{Book, Fit, bookOf, fitOf};
+ghost use Rattle.rules.specs.Item.{isItem, isCharge, itemOf, passed, structureFit};
+ghost use Rattle.rules.specs.States.{collectedStates, statesOf};
+ghost use Rattle.info.specs.Sound.{HeldBook, HeldFit, SoundBook, SoundFit};
+ghost use Rattle.item.specs.Categories.{CategoriesOf};
+ghost use Rattle.states.specs.Raised.{among, both, reachOn, raisedBy, reachedOf, ableOf, ObjectOf, rowsOf};
+
+// The higher and the lower of two states.
+pub fn higher(a: u32, b: u32) -> u32
+    ensures { λ r. ⌜ r ≡ max a b ⌝ }
+{
+    if a < b {
+        return b;
+    }
+    a
+}
+
+pub fn lower(a: u32, b: u32) -> u32
+    ensures { λ r. ⌜ r ≡ min a b ⌝ }
+{
+    if a < b {
+        return a;
+    }
+    b
+}
+
+// Whether one of `count` type effects from `first` on has this one's effect.
+pub fn has_effect(
+    book: &[u8],
+    pairs: &[[u32; 2]; 10],
+    first: usize,
+    count: usize,
+    t: TypeDogmaEffect,
+) -> bool
+    requires { ⌜ HeldBook (now book) (now pairs) ⌝ }
+    requires { ⌜ first + count ≤ countOf (now pairs) 4 ⌝ }
+    ensures { λ r. ⌜ r ≡ among (span first count (bookOf (now (book .entry)) (now (pairs .entry)) .typeEffects)) t ⌝ }
+{
+    let end = first + count;
+    let mut i = first;
+    while i < end {
+        let e = type_effect(book, pairs, i);
+        i += 1;
+        if e.effect_id == t.effect_id {
+            return true;
+        }
+    }
+    false
+}
+
+// The place before a number's; the first has none before it.
+fn previous(n: u32) -> usize
+    ensures { λ r. ⌜ r ≡ n - 1 ⌝ }
+{
+    if n == 0 {
+        return 0;
+    }
+    index(n - 1)
+}
+
+pub fn categories_of(book: &[u8]) -> Categories
+    requires { ⌜ 100 ≤ length (now book) ⌝ }
+    ensures { λ r. ⌜ ((pairs : List (List ℕ)) → CategoriesOf (bookOf (now (book .entry)) pairs) r) ⌝ }
+{
+    Categories {
+        modules: category_module(book),
+        subsystems: category_subsystem(book),
+        structure_modules: category_structure_module(book),
+    }
+}
+
+// Whether the hull is a structure.
+pub fn is_structure_fit(fit: &[u8], pairs: &[[u32; 2]; 10]) -> bool
+    requires { ⌜ HeldFit (now fit) (now pairs) ⌝ }
+    ensures { λ r. ⌜ r ≡ structureFit (fitOf (now (fit .entry)) (now (pairs .entry))) ⌝ }
+{
+    if count_of(pairs, 6) == 0 {
+        return false;
+    }
+    let ship = object(fit, pairs, 0);
+    ship.category_id == CATEGORY_STRUCTURE
+}
+
+// Whether an item is passed over, or the item of a charge.
+pub fn is_passed_over(
+    fit: &[u8],
+    pairs: &[[u32; 2]; 10],
+    c: Categories,
+    structure: bool,
+    o: Item,
+) -> bool
+    requires { ⌜ HeldFit (now fit) (now pairs) ⌝ }
+    requires { ⌜ o .number < countOf (now pairs) 6 ⌝ }
+    requires { ⌜ structure ≡ structureFit (fitOf (now fit) (now pairs)) ⌝ }
+    ensures { λ r. ⌜ ((k : Book) → CategoriesOf k c → r ≡ isItem o && passed k (fitOf (now (fit .entry)) (now (pairs .entry))) o || isCharge o && passed k (fitOf (now (fit .entry)) (now (pairs .entry))) (itemOf (fitOf (now (fit .entry)) (now (pairs .entry))) o)) ⌝ }
+{
+    if is_charge(o) {
+        let m = object(fit, pairs, previous(o.number));
+        return is_passed(c, structure, m);
+    }
+    is_item(o) & is_passed(c, structure, o)
+}
+
+// The states of an object that collection does not pass over, with the max state that it was raised to.
+pub fn collected_states(o: Item, top: u32) -> [u32; 2]
+    ensures { λ r. ⌜ ((k : Book) (f : Fit) → top ≡ ableOf k f o → r ≡ both (collectedStates k f o)) ⌝ }
+{
+    if is_subsystem(o) {
+        return [1, 1];
+    }
+    let state = lower(o.state, top);
+    [state, top]
+}
+
+// The state that one effect lets an object be in.
+fn reach_by(book: &[u8], pairs: &[[u32; 2]; 10], o: Item, t: TypeDogmaEffect) -> u32
+    requires { ⌜ SoundBook (now book) (now pairs) ⌝ }
+    ensures { λ r. ⌜ r ≡ reachOn (bookOf (now (book .entry)) (now (pairs .entry))) o t ⌝ }
+{
+    let found = get_dogma_effect(book, pairs, t.effect_id);
+    match found {
+        FoundEffect::At(e) => reach_of(o, e.category),
+        FoundEffect::Nothing => 0,
+    }
+}
+
+// The max state that type effects raise an object to, but for those that are among its own.
+fn raised(
+    book: &[u8],
+    pairs: &[[u32; 2]; 10],
+    o: Item,
+    first: usize,
+    count: usize,
+    own: usize,
+    owned: usize,
+    start: u32,
+) -> u32
+    requires { ⌜ SoundBook (now book) (now pairs) ⌝ }
+    requires { ⌜ first + count ≤ countOf (now pairs) 4 ⌝ }
+    requires { ⌜ own + owned ≤ countOf (now pairs) 4 ⌝ }
+    ensures { λ r. ⌜ r ≡ raisedBy (bookOf (now (book .entry)) (now (pairs .entry))) o first count own owned start ⌝ }
+{
+    let end = first + count;
+    let mut top = start;
+    let mut i = first;
+    while i < end {
+        let t = type_effect(book, pairs, i);
+        i += 1;
+        if !has_effect(book, pairs, own, owned, t) {
+            let reach = reach_by(book, pairs, o, t);
+            top = higher(top, reach);
+        }
+    }
+    top
+}
+
+// The max state that all its effects raise an object to: its own type's, then its base's that the type lacks.
+fn reached(book: &[u8], pairs: &[[u32; 2]; 10], o: Item) -> u32
+    requires { ⌜ SoundBook (now book) (now pairs) ⌝ }
+    ensures { λ r. ⌜ r ≡ reachedOf (bookOf (now (book .entry)) (now (pairs .entry))) o ⌝ }
+{
+    let own = get_dogma_effects(book, pairs, o.type_id);
+    let top = raised(book, pairs, o, own.first, own.count, 0, 0, o.max_state);
+    if mutated(o) {
+        let base = get_dogma_effects(book, pairs, o.mutation_base);
+        return raised(
+            book,
+            pairs,
+            o,
+            base.first,
+            base.count,
+            own.first,
+            own.count,
+            top,
+        );
+    }
+    top
+}
+
+// With attribute 6 it can be Active.
+fn able(book: &[u8], fit: &[u8], pairs: &[[u32; 2]; 10], o: Item) -> u32
+    requires { ⌜ SoundBook (now book) (now pairs) ⌝ }
+    requires { ⌜ SoundFit (now fit) (now pairs) ⌝ }
+    requires { ⌜ ObjectOf (fitOf (now fit) (now pairs)) o ⌝ }
+    ensures { λ r. ⌜ r ≡ ableOf (bookOf (now (book .entry)) (now (pairs .entry))) (fitOf (now (fit .entry)) (now (pairs .entry))) o ⌝ }
+{
+    let top = reached(book, pairs, o);
+    let found = get_base(fit, pairs, o, ATTRIBUTE_CAPACITOR_NEED_ID);
+    match found {
+        FoundBase::At(_) => higher(top, 2),
+        FoundBase::Nothing => top,
+    }
+}
+
+// The states of an object: projected, a structure fit's implant, passed over, or collected.
+fn states_of(
+    book: &[u8],
+    fit: &[u8],
+    pairs: &[[u32; 2]; 10],
+    c: Categories,
+    structure: bool,
+    o: Item,
+) -> [u32; 2]
+    requires { ⌜ SoundBook (now book) (now pairs) ⌝ }
+    requires { ⌜ SoundFit (now fit) (now pairs) ⌝ }
+    requires { ⌜ CategoriesOf (bookOf (now book) (now pairs)) c ⌝ }
+    requires { ⌜ structure ≡ structureFit (fitOf (now fit) (now pairs)) ⌝ }
+    requires { ⌜ ObjectOf (fitOf (now fit) (now pairs)) o ⌝ }
+    ensures { λ r. ⌜ r ≡ both (statesOf (bookOf (now (book .entry)) (now (pairs .entry))) (fitOf (now (fit .entry)) (now (pairs .entry))) o) ⌝ }
+{
+    if is_projected(o) {
+        return [o.state, o.max_state];
+    }
+    if is_item(o) & structure & is_on_char(o) {
+        return [0, o.max_state];
+    }
+    if is_passed_over(fit, pairs, c, structure, o) {
+        return [o.state, o.max_state];
+    }
+    let top = able(book, fit, pairs, o);
+    collected_states(o, top)
+}
+
+// Every object's states, and zeros past the last.
+fn all_states(book: &[u8], fit: &[u8], pairs: &[[u32; 2]; 10]) -> [[u32; 2]; 1024]
+    requires { ⌜ SoundBook (now book) (now pairs) ⌝ }
+    requires { ⌜ SoundFit (now fit) (now pairs) ⌝ }
+    ensures { λ r. ⌜ r ≡ rowsOf (bookOf (now (book .entry)) (now (pairs .entry))) (fitOf (now (fit .entry)) (now (pairs .entry))) ⌝ }
+{
+    let c = categories_of(book);
+    let structure = is_structure_fit(fit, pairs);
+    let n = count_of(pairs, 6);
+    let zeros = [0u32; 2];
+    let mut rows = [zeros; 1024];
+    let mut i = 0;
+    while i < n {
+        let o = object(fit, pairs, i);
+        let row = states_of(book, fit, pairs, c, structure, o);
+        rows[i] = row;
+        i += 1;
+    }
+    rows
+}
+
+// Every object's state and max state after collection.
+pub fn correct_states(
+    states: &mut [[u32; 2]; 1024],
+    book: &[u8],
+    fit: &[u8],
+    pairs: &[[u32; 2]; 10],
+)
+    requires { ⌜ SoundBook (now book) (now pairs) ⌝ }
+    requires { ⌜ SoundFit (now fit) (now pairs) ⌝ }
+    ensures { λ r. ⌜ now (states .exit) ≡ rowsOf (bookOf (now (book .entry)) (now (pairs .entry))) (fitOf (now (fit .entry)) (now (pairs .entry))) ⌝ }
+{
+    let rows = all_states(book, fit, pairs);
+    *states = rows;
+}
