@@ -1,2 +1,0 @@
-// Dispatch (pass_2.rs, second half): whom the collected effects touch.
-pub mod who;

@@ -1,0 +1,34 @@
+-- Numbers of 32 bits: what the definition reads and cuts has them, and their bits tell them apart.
+use Prim.Native.Nat.{ℕ, suc, _-_, _≤_, _<_, _^_}
+use native.Mathlib.Omega.{arith}
+use mathlib.Core.Path.{_≡_, refl}
+use mathlib.Core.Bool.{Bool, true, false}
+use lib.Dec.{eqb, ltb}
+use lib.IntN.{ℤ, pos, negsuc}
+use lib.Ieee.{Float}
+use lib.Ieee.Casts.{toSigned-in}
+use mir.Syntax.{w32}
+use mir.Val.{SFits, ofZ, toZ, sel}
+use borrow.Author.Tests.{ltb-true, ltb-false, ne-eqb}
+use Rattle.rules.specs.Bytes.{signed, bits}
+use Rattle.rules.specs.Number.{cut}
+use Rattle.hits.specs.Who.{noSkill}
+
+-- whatever the number, its signed reading has 32 bits
+selected : (n : ℕ) (t : Bool) → ltb n 2147483648 ≡ t → SFits w32 (sel t (pos n) (negsuc (4294967296 - suc n)))
+selected n true e = record { sfits = omega (arith, ltb-true n 2147483648 e) }
+selected n false e = record { sfits = omega (arith, ltb-false n 2147483648 e) }
+
+pub signed-narrow : (n : ℕ) → SFits w32 (signed n)
+signed-narrow n = selected n (ltb n 2147483648) refl
+
+pub cut-narrow : (x : Float) → SFits w32 (cut x)
+cut-narrow x = record { sfits = toSigned-in 31 x }
+
+bits-few : (a : ℤ) → SFits w32 a → bits a < noSkill
+bits-few (pos n) h = omega (arith, h .sfits)
+bits-few (negsuc n) h = omega arith
+
+-- no skill is noSkill
+pub bits-some : (a : ℤ) → SFits w32 a → eqb (bits a) noSkill ≡ false
+bits-some a h = ne-eqb (bits a) noSkill (λ e. absurd (omega (arith, bits-few a h)))

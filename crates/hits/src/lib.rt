@@ -1,0 +1,2 @@
+// Whom the collected effects touch (pass_2.rs, second half).
+pub mod who;

@@ -1,0 +1,398 @@
+// Who is touched: what of the objects decides it, and the aims of a collected effect.
+use info::bytes::index;
+use info::header::category_module;
+use info::header::category_structure_module;
+use info::header::category_subsystem;
+use info::header::count_of;
+use info::records::object;
+use item::Categories;
+use item::locations::is_in_ship;
+use item::locations::is_on_char;
+use item::locations::is_owner_modifiable;
+use numbers::bits;
+use rules::CHAR;
+use rules::CHARGE;
+use rules::ITEM;
+use rules::Item;
+use rules::SHIP;
+use rules::SKILL;
+ghost use mathlib.Core.Path.{_≡_};
+ghost use mathlib.Core.List.{List, []};
+ghost use Prim.Native.Nat.{ℕ, _+_, _≤_, _<_};
+ghost use lib.Dec.{eqb};
+ghost use lib.IntN.{ℤ};
+ghost use lib.ListN.{length, getD};
+ghost use mir.Syntax.{w32};
+ghost use mir.Val.{SFits};
+ghost use Rattle.laws.specs.Lists.{some?};
+ghost use Rattle.rules.specs.Bytes as bytes;
+ghost use Rattle.rules.specs.Bytes.{countOf};
+ghost use Rattle.rules.specs.Sheet.{Book, Fit, bookOf, fitOf};
+ghost use Rattle.rules.specs.Item as items;
+ghost use Rattle.rules.specs.Item.{charOf};
+ghost use Rattle.rules.specs.Dispatch.{carrier, meant};
+ghost use Rattle.rules.specs.Columns.{yes1, collectedNumbers};
+ghost use Rattle.rules.specs.declared.Pass2Effect.{Pass2Effect};
+ghost use Rattle.info.specs.Sound.{HeldBook, HeldFit, SoundFit};
+ghost use Rattle.item.specs.Categories.{CategoriesOf};
+ghost use Rattle.hits.specs.Who.{reachOf, passes, FirstSkill, Stands, Aims, atLocation, charItems, bySkill, byOwner, alone, nobody, Pointing, Narrow, First, Second};
+
+// What is asked of an object beside its column: nothing, a group, or a required skill, by their bits.
+pub enum Test {
+    All,
+    OfGroup(u32),
+    Requiring(u32),
+}
+
+// Whom an effect touches: objects from one to another whose column is 1, and that pass the test.
+pub struct Aim {
+    pub from: usize,
+    pub end: usize,
+    pub column: usize,
+    pub test: Test,
+}
+
+// Where objects stand: the char, the items and charges from first to end, all objects.
+pub struct Spans {
+    pub character: u32,
+    pub first: usize,
+    pub end: usize,
+    pub objects: usize,
+}
+
+// Columns of what reaches an object, each 0 or 1 but the last.
+const IN_SHIP: usize = 0;
+
+const WITH_CHAR: usize = 1;
+
+const CHAR_ITEMS: usize = 2;
+
+const SKILLED_SHIP: usize = 3;
+
+const SKILLED_CHAR: usize = 4;
+
+const OWNED: usize = 5;
+
+const ANY: usize = 6;
+
+const GROUP: usize = 7;
+
+// ---- what of the objects decides who is touched, read once
+
+fn flag(b: bool) -> u32
+    ensures { λ r. ⌜ r ≡ yes1 b ⌝ }
+{
+    if b {
+        return 1;
+    }
+    0
+}
+
+fn categories_of(book: &[u8]) -> Categories
+    requires { ⌜ 100 ≤ length (now book) ⌝ }
+    ensures { λ r. ⌜ ((pairs : List (List ℕ)) → CategoriesOf (bookOf (now (book .entry)) pairs) r) ⌝ }
+{
+    Categories {
+        modules: category_module(book),
+        subsystems: category_subsystem(book),
+        structure_modules: category_structure_module(book),
+    }
+}
+
+// The item that an item or a charge goes by: a charge's stands before it.
+fn carrier_of(fit: &[u8], pairs: &[[u32; 2]; 10], i: usize) -> Item
+    requires { ⌜ SoundFit (now fit) (now pairs) ⌝ }
+    requires { ⌜ i < countOf (now pairs) 6 ⌝ }
+    ensures { λ r. ⌜ r ≡ carrier (fitOf (now (fit .entry)) (now (pairs .entry))) (items.object (fitOf (now (fit .entry)) (now (pairs .entry))) i) ⌝ }
+{
+    let o = object(fit, pairs, i);
+    if o.kind == CHARGE {
+        return object(fit, pairs, i - 1);
+    }
+    o
+}
+
+// The columns of an object, which goes by c.
+fn columns(categories: Categories, o: Item, c: Item) -> [u32; 8]
+    ensures { λ r. ⌜ ((k : Book) (f : Fit) → CategoriesOf k categories → c ≡ carrier f o → r ≡ reachOf k f o) ⌝ }
+{
+    let fitted = (o.kind == ITEM) | (o.kind == CHARGE);
+    let in_ship = fitted & is_in_ship(categories, c);
+    let on_char = fitted & is_on_char(c);
+    let char_item = (o.kind == ITEM) & is_on_char(o);
+    let owned = (o.kind == CHARGE) | (o.kind == ITEM) & is_owner_modifiable(o);
+    [
+        flag((o.kind == SHIP) | in_ship),
+        flag((o.kind == CHAR) | (o.kind == SKILL)),
+        flag(char_item),
+        flag(in_ship),
+        flag(on_char),
+        flag(owned),
+        1,
+        bits(o.group_id),
+    ]
+}
+
+pub fn reach_of(book: &[u8], fit: &[u8], pairs: &[[u32; 2]; 10], i: usize) -> [u32; 8]
+    requires { ⌜ HeldBook (now book) (now pairs) ⌝ }
+    requires { ⌜ SoundFit (now fit) (now pairs) ⌝ }
+    requires { ⌜ i < countOf (now pairs) 6 ⌝ }
+    ensures { λ r. ⌜ r ≡ reachOf (bookOf (now (book .entry)) (now (pairs .entry))) (fitOf (now (fit .entry)) (now (pairs .entry))) (items.object (fitOf (now (fit .entry)) (now (pairs .entry))) i) ⌝ }
+{
+    let categories = categories_of(book);
+    let o = object(fit, pairs, i);
+    let c = carrier_of(fit, pairs, i);
+    columns(categories, o, c)
+}
+
+// ---- where the objects stand
+
+// The char's number: it stands right after the ship or its mode.
+fn char_of(fit: &[u8], pairs: &[[u32; 2]; 10]) -> u32
+    requires { ⌜ SoundFit (now fit) (now pairs) ⌝ }
+    ensures { λ r. ⌜ r ≡ charOf (fitOf (now (fit .entry)) (now (pairs .entry))) ⌝ }
+{
+    let next = object(fit, pairs, 1);
+    if next.kind == CHAR {
+        return 1;
+    }
+    2
+}
+
+// The first skill from one object on: skills stand last.
+fn first_skill(fit: &[u8], pairs: &[[u32; 2]; 10], from: usize) -> usize
+    requires { ⌜ HeldFit (now fit) (now pairs) ⌝ }
+    requires { ⌜ from ≤ countOf (now pairs) 6 ⌝ }
+    ensures { λ r. ⌜ FirstSkill (fitOf (now (fit .entry)) (now (pairs .entry))) from r ⌝ }
+{
+    let objects = count_of(pairs, 6);
+    let mut i = from;
+    while i < objects {
+        let o = object(fit, pairs, i);
+        if o.kind == SKILL {
+            return i;
+        }
+        i += 1;
+    }
+    i
+}
+
+pub fn spans_of(fit: &[u8], pairs: &[[u32; 2]; 10]) -> Spans
+    requires { ⌜ SoundFit (now fit) (now pairs) ⌝ }
+    ensures { λ r. ⌜ Stands (fitOf (now (fit .entry)) (now (pairs .entry))) r ⌝ }
+{
+    let character = char_of(fit, pairs);
+    let first = character as usize + 1;
+    let end = first_skill(fit, pairs, first);
+    let objects = count_of(pairs, 6);
+    Spans {
+        character,
+        first,
+        end,
+        objects,
+    }
+}
+
+// ---- the aims of an effect
+
+// The aim at one object.
+fn one(target: u32, test: Test) -> Aim
+    ensures { λ r. ⌜ r ≡ alone target test ⌝ }
+{
+    let from = target as usize;
+    Aim {
+        from,
+        end: from + 1,
+        column: ANY,
+        test,
+    }
+}
+
+// The aim at nobody.
+fn none() -> Aim
+    ensures { λ r. ⌜ r ≡ nobody ⌝ }
+{
+    Aim {
+        from: 0,
+        end: 0,
+        column: ANY,
+        test: Test::All,
+    }
+}
+
+// The aim at a location: the ship's, the char's without its items, or the object itself.
+fn located(s: Spans, target: u32, test: Test) -> Aim
+    ensures { λ r. ⌜ ((k : Book) (f : Fit) → Stands f s → target < length (f .objects) → Aims (atLocation test target k f) k f r) ⌝ }
+{
+    if target == 0 {
+        return Aim {
+            from: 0,
+            end: s.end,
+            column: IN_SHIP,
+            test,
+        };
+    }
+    if target == s.character {
+        return Aim {
+            from: target as usize,
+            end: s.objects,
+            column: WITH_CHAR,
+            test,
+        };
+    }
+    one(target, test)
+}
+
+// The aim at the char's items.
+fn char_items(s: Spans, test: Test) -> Aim
+    ensures { λ r. ⌜ ((k : Book) (f : Fit) → Stands f s → Aims (charItems test (s .character) k f) k f r) ⌝ }
+{
+    Aim {
+        from: s.first,
+        end: s.end,
+        column: CHAR_ITEMS,
+        test,
+    }
+}
+
+// The aim at items and charges, on the char or in the ship, that require a skill.
+fn skilled(s: Spans, target: u32, test: Test) -> Aim
+    ensures { λ r. ⌜ ((k : Book) (f : Fit) → Stands f s → target < length (f .objects) → Aims (bySkill test target k f) k f r) ⌝ }
+{
+    if target == s.character {
+        return Aim {
+            from: s.first,
+            end: s.end,
+            column: SKILLED_CHAR,
+            test,
+        };
+    }
+    Aim {
+        from: s.first,
+        end: s.end,
+        column: SKILLED_SHIP,
+        test,
+    }
+}
+
+// The aim at drones, fighters and charges that require a skill.
+fn owned(s: Spans, test: Test) -> Aim
+    ensures { λ r. ⌜ ((k : Book) (f : Fit) → Stands f s → Aims (byOwner test k f) k f r) ⌝ }
+{
+    Aim {
+        from: s.first,
+        end: s.end,
+        column: OWNED,
+        test,
+    }
+}
+
+// The bits of the skill that effect j means: -1 is the source's own type; a buff's is 0.
+fn skill_of(collected: &[[u32; 14]], fit: &[u8], pairs: &[[u32; 2]; 10], j: usize) -> u32
+    requires { ⌜ j < length (now collected) ⌝ }
+    requires { ⌜ HeldFit (now fit) (now pairs) ⌝ }
+    requires { ⌜ Pointing (getD (now collected) j []) (countOf (now pairs) 6) ⌝ }
+    ensures { λ r. ⌜ ((t : Pass2Effect) (s : ℤ) → getD (now (collected .entry)) j [] ≡ collectedNumbers t → getD (getD (now (collected .entry)) j []) 7 0 ≡ bytes.bits s → SFits w32 s → r ≡ bytes.bits (meant (fitOf (now (fit .entry)) (now (pairs .entry))) (t .origin) s)) ⌝ }
+{
+    let skill = collected[j][7];
+    if skill != 4294967295 {
+        return skill;
+    }
+    let origin = collected[j][0];
+    if origin == 1 {
+        return 0;
+    }
+    let source = object(fit, pairs, index(collected[j][2]));
+    bits(source.type_id)
+}
+
+// Whom effect j touches first.
+pub fn aim_of(
+    collected: &[[u32; 14]],
+    fit: &[u8],
+    pairs: &[[u32; 2]; 10],
+    s: Spans,
+    j: usize,
+) -> Aim
+    requires { ⌜ j < length (now collected) ⌝ }
+    requires { ⌜ SoundFit (now fit) (now pairs) ⌝ }
+    requires { ⌜ Pointing (getD (now collected) j []) (countOf (now pairs) 6) ⌝ }
+    requires { ⌜ Stands (fitOf (now fit) (now pairs)) s ⌝ }
+    ensures { λ r. ⌜ ((k : Book) (t : Pass2Effect) → getD (now (collected .entry)) j [] ≡ collectedNumbers t → Narrow (t .modifier) → First k (fitOf (now (fit .entry)) (now (pairs .entry))) t r) ⌝ }
+{
+    let func = collected[j][6];
+    let what = collected[j][7];
+    let target = collected[j][10];
+    if func == 4 {
+        return one(target, Test::All);
+    }
+    if func == 1 {
+        return located(s, target, Test::OfGroup(what));
+    }
+    if func == 2 {
+        return located(s, target, Test::All);
+    }
+    let skill = skill_of(collected, fit, pairs, j);
+    if func == 3 {
+        return owned(s, Test::Requiring(skill));
+    }
+    skilled(s, target, Test::Requiring(skill))
+}
+
+// Whom effect j touches then: the char's location has its items last.
+pub fn aim_then(collected: &[[u32; 14]], s: Spans, j: usize) -> Aim
+    requires { ⌜ j < length (now collected) ⌝ }
+    ensures { λ r. ⌜ ((k : Book) (f : Fit) (t : Pass2Effect) → Stands f s → t .target < length (f .objects) → getD (now (collected .entry)) j [] ≡ collectedNumbers t → Narrow (t .modifier) → Second k f t r) ⌝ }
+{
+    let func = collected[j][6];
+    let what = collected[j][7];
+    let target = collected[j][10];
+    if target != s.character {
+        return none();
+    }
+    if func == 1 {
+        return char_items(s, Test::OfGroup(what));
+    }
+    if func == 2 {
+        return char_items(s, Test::All);
+    }
+    none()
+}
+
+// ---- the test
+
+// Whether a skill is among those that an object requires.
+fn requires_skill(row: [u64; 6], skill: u32) -> bool
+    ensures { λ r. ⌜ r ≡ some? (eqb skill) row ⌝ }
+{
+    let wanted = skill as u64;
+    let mut k = 0;
+    while k < 6 {
+        if wanted == row[k] {
+            return true;
+        }
+        k += 1;
+    }
+    false
+}
+
+// Whether an aim is at object i, which stands in its range.
+pub fn is_hit(reach: &[[u32; 8]; 1024], skills: &[[u64; 6]; 1024], a: Aim, i: usize) -> bool
+    requires { ⌜ (i < 1024) × (a .column < 8) ⌝ }
+    ensures { λ r. ⌜ r ≡ passes a (getD (now (reach .entry)) i []) (getD (now (skills .entry)) i []) ⌝ }
+{
+    let column = a.column;
+    let reached = reach[i][column];
+    if reached == 0 {
+        return false;
+    }
+    let test = a.test;
+    match test {
+        Test::All => true,
+        Test::OfGroup(group) => reach[i][GROUP] == group,
+        Test::Requiring(skill) => {
+            let row = skills[i];
+            requires_skill(row, skill)
+        }
+    }
+}
