@@ -20,7 +20,8 @@ use Rattle.rules.specs.declared.OptionalId.{OptionalId}
 use Rattle.rules.specs.declared.OptionalId.the-variants.{Absent}
 use Rattle.rules.specs.declared.Pass2Effect.{Pass2Effect}
 use Rattle.rules.specs.declared.Refusal.{Refusal}
-use Rattle.modifiers.specs.Causes.{ownTarget, resistanceOf}
+use Rattle.modifiers.specs.declared.TargetTest.{TargetTest}
+use Rattle.modifiers.specs.Causes.{ownTarget, resistanceOf, targetOf}
 use Rattle.modifiers.proofs.Tests.{then-is}
 
 module _ (o : Item) (e : DogmaEffect) (m : DogmaModifier) where
@@ -49,8 +50,8 @@ module _ (o : Item) (e : DogmaEffect) (m : DogmaModifier) where
     pub own-operation : {func : Modifier} {t : Test EffectOperator} → testFunc m ≡ go func → testOperation (m .operation) (m .number) ≡ t → modifierMoves k f o e c m ≡ then t (λ op. ownTarget f o m (λ target. taken (effectOf (sourceOf c) Absent func op target) ∷ []))
     own-operation h i = own-func h ∙ then-is i _
 
-    pub own-target : {func : Modifier} {op : EffectOperator} (t : Test ℕ) → testFunc m ≡ go func → testOperation (m .operation) (m .number) ≡ go op → ((g : ℕ → List Move) → then t g ≡ ownTarget f o m g) → modifierMoves k f o e c m ≡ then t (λ target. taken (effectOf (sourceOf c) Absent func op target) ∷ [])
-    own-target t h i j = own-operation h i ∙ sym (j _)
+    pub own-target : {func : Modifier} {op : EffectOperator} (r : TargetTest) {t : TargetTest} → testFunc m ≡ go func → testOperation (m .operation) (m .number) ≡ go op → ((g : ℕ → List Move) → then (targetOf r) g ≡ ownTarget f o m g) → r ≡ t → modifierMoves k f o e c m ≡ then (targetOf t) (λ target. taken (effectOf (sourceOf c) Absent func op target) ∷ [])
+    own-target r h i j g = own-operation h i ∙ sym (j _) ∙ then-is (ap targetOf g) _
 
   -- a projected one: target, func, operation
   module _ (f : Fit) (c : EffectCategory) where

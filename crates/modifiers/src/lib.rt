@@ -63,5 +63,6 @@ pub enum Cause {
     Buff(ProjectedBuff, EffectOperator),
 }
 
+pub mod causes;
 pub mod codes;
 pub mod rows;
