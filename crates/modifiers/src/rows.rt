@@ -1,5 +1,6 @@
 // Rows of lists 1 and 4.
 use super::Counted;
+use super::Moved;
 use super::Rooms;
 use item::codes::category_code;
 use item::codes::operator_code;
@@ -16,6 +17,7 @@ ghost use lib.Ieee.{Float};
 ghost use lib.ListN.{length};
 ghost use Rattle.rules.specs.Collect.{taken, plain};
 ghost use Rattle.rules.specs.Columns.{collectedNumbers, modifierNumbers, optionalNumbers, originNumbers, originValue};
+ghost use Rattle.modifiers.specs.Causes.{movesOf};
 ghost use Rattle.modifiers.specs.Ran.{Lent, at, ran, standOf};
 
 fn origin_numbers(o: Origin) -> [u32; 6]
@@ -128,6 +130,25 @@ pub fn push(
     c[n] = row;
     v[n] = value;
     Counted::At(n + 1, p)
+}
+
+// What a modifier gives goes to list 1.
+pub fn put(
+    c: &mut [[u32; 14]],
+    v: &mut [f64],
+    rooms: Rooms,
+    n: usize,
+    p: usize,
+    x: Moved,
+) -> Counted
+    requires { ⌜ Lent rooms (now c) (now v) ⌝ }
+    ensures { λ r. ⌜ ((l : List (List ℕ)) → standOf r (now (c .exit)) (now (v .exit)) l ≡ ran rooms (movesOf x) (at n p (now (c .entry)) (now (v .entry)) l)) ⌝ }
+{
+    match x {
+        Moved::Taken(e) => push(c, v, rooms, n, p, e),
+        Moved::Over => Counted::At(n, p),
+        Moved::Bad(y) => Counted::Refused(y),
+    }
 }
 
 // A plain effect goes to the end of list 4.
