@@ -5,3 +5,4 @@ pub mod Tests
 pub mod Moves
 pub mod Loops
 pub mod Gives
+pub mod Inside
