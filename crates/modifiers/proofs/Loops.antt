@@ -7,6 +7,7 @@ use mathlib.Core.List.{List}
 use lib.Ieee.{Float}
 use lib.ListN.{length, getD}
 use Rattle.laws.specs.Lists.{flat, span}
+use Rattle.laws.proofs.Spans.{span-all}
 use Rattle.rules.specs.Sheet.{Fit}
 use Rattle.rules.specs.Collect.{Move}
 use Rattle.rules.specs.declared.Refusal.{Refusal}
@@ -50,6 +51,12 @@ module _ {q : Rooms} {A X : Type 0} {F : X → A → List Move} {M : List A} {fi
 -- from a first and a count
 pub counted-from : (q : Rooms) {A : Type 0} (F : A → List Move) (M : List A) (s : Stand) {i e first count j : ℕ} → i ≡ first → j ≡ count → e ≡ i + j → ran q (flat F (span i (e - i) M)) s ≡ ran q (flat F (span first count M)) s
 counted-from q F M s {i} {e} {first} {count} {j} a b c = rw (c, add-sub-cancel-left, a, b) refl
+
+-- the whole list
+pub all-of : (q : Rooms) {A : Type 0} (F : A → List Move) (M : List A) (s : Stand) {e : ℕ} → e ≡ length M → ran q (flat F (span 0 (e - 0) M)) s ≡ ran q (flat F M) s
+all-of q {A} F M s {e} h =
+    let n : e - 0 ≡ length M = omega arith in
+    ap (λ (k : ℕ). ran q (flat F (span 0 k M)) s) n ∙ ap (λ (l : List A). ran q (flat F l) s) (span-all M)
 
 -- columns as long as those lent
 pub lent-kept : {q : Rooms} {c c′ : List (List ℕ)} {v v′ : List Float} → Lent q c v → length c′ ≡ length c → length v′ ≡ length v → Lent q c′ v′

@@ -65,4 +65,5 @@ pub enum Cause {
 
 pub mod causes;
 pub mod codes;
+pub mod collecting;
 pub mod rows;
