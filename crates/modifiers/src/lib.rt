@@ -63,6 +63,7 @@ pub enum Cause {
     Buff(ProjectedBuff, EffectOperator),
 }
 
+pub mod buffs;
 pub mod causes;
 pub mod codes;
 pub mod collecting;
