@@ -6,3 +6,4 @@ pub mod Moves
 pub mod Loops
 pub mod Gives
 pub mod Inside
+pub mod Resists

@@ -67,4 +67,5 @@ pub mod buffs;
 pub mod causes;
 pub mod codes;
 pub mod collecting;
+pub mod projected;
 pub mod rows;
