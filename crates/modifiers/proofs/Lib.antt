@@ -7,3 +7,4 @@ pub mod Loops
 pub mod Gives
 pub mod Inside
 pub mod Resists
+pub mod Taking
