@@ -64,3 +64,6 @@ module _ (o : Item) (e : DogmaEffect) (m : DogmaModifier) where
 
     pub projected-operation : {target : ℕ} {func : Modifier} {t : Test EffectOperator} → testProjectedDomain f m ≡ go target → testFunc m ≡ go func → testOperation (m .operation) (m .number) ≡ t → projectedModifierMoves f o e c m ≡ then t (λ op. taken (effectOf c (resistanceOf f o e) func op target) ∷ [])
     projected-operation h i j = projected-func h i ∙ then-is j _
+
+    pub projected-taken : {target : ℕ} {func : Modifier} {op : EffectOperator} {r : OptionalId} → testProjectedDomain f m ≡ go target → testFunc m ≡ go func → testOperation (m .operation) (m .number) ≡ go op → r ≡ resistanceOf f o e → projectedModifierMoves f o e c m ≡ taken (effectOf c r func op target) ∷ []
+    projected-taken {target} {func} {op} h i j g = projected-operation h i j ∙ ap (λ (r : OptionalId). taken (effectOf c r func op target) ∷ []) (sym g)

@@ -57,9 +57,10 @@ fn get_resistance(fit: &[u8], pairs: &[[u32; 2]; 10], o: Item, e: DogmaEffect) -
     requires { ⌜ Based (fitOf (now fit) (now pairs)) o ⌝ }
     ensures { λ r. ⌜ r ≡ resistanceOf (fitOf (now (fit .entry)) (now (pairs .entry))) o e ⌝ }
 {
-    let own = unless_zero(e.resistance_attribute_id, OptionalId::Absent);
-    let id = named_resistance(fit, pairs, o);
-    unless_zero(id, own)
+    let own = e.resistance_attribute_id;
+    let named = named_resistance(fit, pairs, o);
+    let other = unless_zero(own, OptionalId::Absent);
+    unless_zero(named, other)
 }
 
 // A projected effect that was found, against the resistance that it meets.
