@@ -22,12 +22,12 @@ use Rattle.rules.specs.declared.Refusal.the-variants.{Category}
 module _ (k : Book) (f : Fit) (o : Item) (t : TypeDogmaEffect) where
   module _ (e : DogmaEffect) where
     -- an effect without modifiers is plain
-    abbrev given : EffectCategory → ℕ → List Move
+    abbrev pub given : EffectCategory → ℕ → List Move
     given c zero = plain (o .number) (e .id) ∷ []
     given c (suc n) = flat (modifierMoves k f o e (categoryOn o c)) (modifiersOf k e)
 
     -- with a category that is known; with another
-    abbrev found : Option EffectCategory → ℕ → List Move
+    abbrev pub found : Option EffectCategory → ℕ → List Move
     found none n = refuse (Category (e .number)) ∷ []
     found (some c) n = unless (not (inUse k f o e t (categoryOn o c))) (given c n)
 
@@ -45,7 +45,7 @@ module _ (k : Book) (f : Fit) (o : Item) (t : TypeDogmaEffect) where
     category-is none = refl
     category-is (some c) = ap (λ (l : List Move). unless (not (inUse k f o e t (categoryOn o c))) l) (given-is c (e .modifiers))
 
-    found-is : (x : Option EffectCategory) → categoryAt (e .category) ≡ x → foundMoves k f o t e ≡ found x (e .modifiers)
+    pub found-is : (x : Option EffectCategory) → categoryAt (e .category) ≡ x → foundMoves k f o t e ≡ found x (e .modifiers)
     unfolding foundMoves
     found-is x h = category-is (categoryAt (e .category)) ∙ ap (λ (y : Option EffectCategory). found y (e .modifiers)) h
 

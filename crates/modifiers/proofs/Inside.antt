@@ -1,5 +1,5 @@
 -- What the records of a sound sheet point at lies inside its table.
-use Prim.Native.Nat.{ℕ, _+_, _≤_, _<_}
+use Prim.Native.Nat.{ℕ, _+_, _≤_}
 use mathlib.Core.Path.{_≡_, sym, ap, _∙_}
 use mathlib.Core.Bool.{Bool, true, false, _&&_, _||_}
 use mathlib.Core.List.{List, [], _∷_, map}
@@ -7,13 +7,13 @@ use mathlib.Core.Option.{Option, none, some}
 use borrow.Author.Tests.{leb-true}
 use lib.Dec.{leb, eqb}
 use lib.IntN.{ℤ}
-use lib.ListN.{length, getD}
+use lib.ListN.{length}
 use Rattle.laws.specs.Lists.{eqZ, every?, first, orElse, ascends}
 use Rattle.laws.proofs.Bools.{and-left, and-right}
 use Rattle.laws.proofs.Every.{every-at}
 use Rattle.rules.specs.Bytes.{countOf}
 use Rattle.rules.specs.Sheet.{Book, Fit, bookOf, fitOf}
-use Rattle.rules.specs.Shape.{bookBad, fitBad, effectsGood, buffCollectionsGood, objectGood, inside}
+use Rattle.rules.specs.Shape.{bookBad, effectsGood, buffCollectionsGood, objectGood, inside}
 use Rattle.rules.specs.Info.{getDogmaEffect, getDbuffCollection}
 use Rattle.rules.specs.declared.DogmaEffect.{DogmaEffect}
 use Rattle.rules.specs.declared.DbuffCollection.{DbuffCollection}

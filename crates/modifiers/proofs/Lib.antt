@@ -8,3 +8,5 @@ pub mod Gives
 pub mod Inside
 pub mod Resists
 pub mod Taking
+pub mod Comes
+pub mod Pointed

@@ -2,7 +2,7 @@
 use Prim.Native.Nat.{ℕ, _+_, _-_, _≤_, _<_}
 use native.Mathlib.Nat.{add-sub-cancel-left}
 use native.Mathlib.Omega.{arith}
-use mathlib.Core.Path.{_≡_, refl, sym, ap, _∙_}
+use mathlib.Core.Path.{_≡_, refl, ap, _∙_}
 use mathlib.Core.List.{List}
 use lib.Ieee.{Float}
 use lib.ListN.{length, getD}
@@ -13,10 +13,8 @@ use Rattle.rules.specs.Collect.{Move}
 use Rattle.rules.specs.declared.Refusal.{Refusal}
 use Rattle.modifiers.specs.declared.Rooms.{Rooms}
 use Rattle.modifiers.specs.declared.Cause.{Cause}
-use Rattle.modifiers.specs.declared.Counted.{Counted}
-use Rattle.modifiers.specs.declared.Counted.the-variants.{At, Refused}
 use Rattle.modifiers.specs.Causes.{CauseOf}
-use Rattle.modifiers.specs.Ran.{Stand, at, stop, standOf, ran, Lent}
+use Rattle.modifiers.specs.Ran.{Stand, at, stop, ran, Lent}
 use Rattle.modifiers.proofs.Runs.{turn, ended-at, halted}
 
 -- a fit that a cause belongs to, and a column of list 4 that is not lent

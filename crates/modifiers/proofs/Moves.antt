@@ -1,13 +1,13 @@
 -- What an own and a projected modifier give, test by test.
 use Prim.Native.Nat.{ℕ}
-use mathlib.Core.Path.{_≡_, refl, sym, ap, _∙_}
+use mathlib.Core.Path.{_≡_, sym, ap, _∙_}
 use mathlib.Core.Bool.{_&&_, cond}
 use mathlib.Core.List.{List, [], _∷_}
 use Rattle.laws.specs.Lists.{eqZ}
 use Rattle.rules.specs.Constants.{upgradeLoad}
 use Rattle.rules.specs.Sheet.{Book, Fit}
 use Rattle.rules.specs.Item.{isRig}
-use Rattle.rules.specs.Collect.{Move, taken, refuse, Test, go, over, bad, then, testFunc, testOperation, testProjectedDomain, modifierMoves, projectedModifierMoves}
+use Rattle.rules.specs.Collect.{Move, taken, Test, go, then, testFunc, testOperation, testProjectedDomain, modifierMoves, projectedModifierMoves}
 use Rattle.rules.specs.declared.Item.{Item}
 use Rattle.rules.specs.declared.DogmaEffect.{DogmaEffect}
 use Rattle.rules.specs.declared.DogmaModifier.{DogmaModifier}
@@ -19,7 +19,6 @@ use Rattle.rules.specs.declared.Origin.the-variants.{Effect}
 use Rattle.rules.specs.declared.OptionalId.{OptionalId}
 use Rattle.rules.specs.declared.OptionalId.the-variants.{Absent}
 use Rattle.rules.specs.declared.Pass2Effect.{Pass2Effect}
-use Rattle.rules.specs.declared.Refusal.{Refusal}
 use Rattle.modifiers.specs.declared.TargetTest.{TargetTest}
 use Rattle.modifiers.specs.Causes.{ownTarget, resistanceOf, targetOf}
 use Rattle.modifiers.proofs.Tests.{then-is}

@@ -26,7 +26,7 @@ ghost use Rattle.laws.specs.Lists.{eqZ};
 ghost use Rattle.rules.specs.Constants.{upgradeLoad};
 ghost use Rattle.rules.specs.Sheet.{Book, Fit};
 ghost use Rattle.rules.specs.Item.{isRig};
-ghost use Rattle.rules.specs.Collect.{modifierMoves, projectedModifierMoves, buffModifierMoves, unlessZero, named};
+ghost use Rattle.rules.specs.Collect.{modifierMoves, projectedModifierMoves, buffModifierMoves};
 ghost use Rattle.modifiers.specs.Causes.{OwnerOf, CauseOf, movesOf, causeMoves, resistanceOf};
 
 // On attribute 1152 a rig keeps Passive.

@@ -4,7 +4,6 @@ use borrow.Author.Needs.{needs}
 use Rattle.modifiers.proofs.buffs.collect_collection.Statement.{statement}
 use Rattle.modifiers.proofs.buffs.collect_collection.Tie as tie
 use mathlib.Core.Path.{sym, ap, _∙_}
-use mathlib.Core.List.{List}
 use Rattle.rules.specs.Sheet.{bookOf}
 use Rattle.modifiers.specs.Causes.{operationOf}
 use Rattle.modifiers.proofs.Runs.{ran-none, refused-one, ran-same}

@@ -3,7 +3,7 @@
 use borrow.Author.Needs.{needs}
 use Rattle.modifiers.proofs.causes.buff_move.Statement.{statement}
 use Rattle.modifiers.proofs.causes.buff_move.Tie as tie
-use mathlib.Core.Path.{refl, sym, ap, _∙_}
+use mathlib.Core.Path.{sym, ap, _∙_}
 use borrow.Author.Needs.{sfits-of}
 use mir.Syntax.{w32}
 use mir.ValLaws.{toZ-ofZ}

@@ -3,13 +3,11 @@
 use borrow.Author.Needs.{needs}
 use Rattle.modifiers.proofs.causes.projected_move.Statement.{statement}
 use Rattle.modifiers.proofs.causes.projected_move.Tie as tie
-use mathlib.Core.Path.{refl, sym, ap, _∙_}
+use mathlib.Core.Path.{sym, ap, _∙_}
 use borrow.Author.Needs.{sfits-of}
 use mir.Syntax.{w32}
 use mir.ValLaws.{toZ-ofZ}
 use Rattle.modifiers.specs.Causes.{funcOf, operationOf, targetOf}
-use Rattle.rules.specs.Collect.{then, taken}
-use mathlib.Core.List.{[], _∷_}
 use Rattle.modifiers.proofs.Moves.{projected-target, projected-func, projected-operation, projected-taken}
 
 pub projected-move-spec : {M : Type 1} → statement M

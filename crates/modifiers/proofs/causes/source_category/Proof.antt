@@ -3,10 +3,10 @@
 use borrow.Author.Needs.{needs}
 use Rattle.modifiers.proofs.causes.source_category.Statement.{statement}
 use Rattle.modifiers.proofs.causes.source_category.Tie as tie
-use mathlib.Core.Path.{refl, sym, ap, _∙_}
+use mathlib.Core.Path.{refl}
 use lib.IntN.{pos}
 use mir.Syntax.{w32}
-use borrow.Author.Needs.{needs, sfits-of}
+use borrow.Author.Needs.{needs}
 use Rattle.laws.proofs.Signs.{eqZ-bits}
 
 pub source-category-spec : {M : Type 1} → statement M

@@ -3,12 +3,12 @@
 use Rattle.modifiers.proofs.collecting.collect_modifiers.Statement.{statement}
 use Rattle.modifiers.proofs.collecting.collect_modifiers.Tie as tie
 use borrow.Author.Needs.{needs}
-use Prim.Native.Nat.{ℕ, _-_}
+use Prim.Native.Nat.{_-_}
 use native.Mathlib.Omega.{arith}
 use mathlib.Core.Path.{_≡_, refl, sym, _∙_}
 use lib.ListN.{length}
 use Rattle.rules.specs.Sheet.{bookOf}
-use Rattle.modifiers.specs.Causes.{causeMoves, movesOf}
+use Rattle.modifiers.specs.Causes.{causeMoves}
 use Rattle.modifiers.specs.Ran.{at}
 use Rattle.modifiers.proofs.Runs.{answered, was-refused}
 use Rattle.modifiers.proofs.Loops.{Case, Left, begin, next, refused-on, at-end, counted-from, lent-kept}
