@@ -13,6 +13,9 @@ use Rattle.rules.specs.declared.EffectOperator.{EffectOperator}
 use Rattle.rules.specs.declared.DogmaModifier.{DogmaModifier}
 use Rattle.rules.specs.declared.DogmaEffect.{DogmaEffect}
 use Rattle.rules.specs.declared.Item.{Item}
+use Rattle.rules.specs.declared.EffectCategory.{EffectCategory}
+use Rattle.rules.specs.declared.Origin.the-variants.{Effect}
+use Rattle.rules.specs.declared.Pass2Effect.{Pass2Effect}
 use Rattle.rules.specs.declared.OptionalId.{OptionalId}
 use Rattle.rules.specs.declared.OptionalId.the-variants.{Absent}
 use Rattle.modifiers.specs.declared.FuncTest.{FuncTest}
@@ -60,6 +63,19 @@ ownTarget f o m g =
     unless (isItem o && eqb (m .domain) 3 && not (hasCharge f o)) (
     unless (isSkill o && structureFit f && eqb (m .domain) 1) (
     then (testDomain f o m) g))
+
+-- the collected effect of an object's modifier, by what its tests gave
+abbrev pub effectOf : Item → DogmaEffect → DogmaModifier → EffectCategory → OptionalId → Modifier → EffectOperator → ℕ → Pass2Effect
+effectOf o e m c r func op target =
+    record {
+      origin = Effect (e .id) (o .number) c (m .«modifying_attribute_id»);
+      modifier = func;
+      operator = op;
+      «source_quantity» = o .quantity;
+      target = target;
+      «target_attribute_id» = m .«modified_attribute_id»;
+      resistance = r;
+    }
 
 abbrev pub resistanceOf : Fit → Item → DogmaEffect → OptionalId
 resistanceOf f o e = unlessZero (named f o) (unlessZero (e .«resistance_attribute_id») Absent)

@@ -16,6 +16,7 @@ use rules::DogmaModifier;
 use rules::EffectCategory;
 use rules::EffectOperator;
 use rules::Item;
+use rules::Modifier;
 use rules::OptionalId;
 use rules::Origin;
 use rules::Pass2Effect;
@@ -27,7 +28,7 @@ ghost use Rattle.rules.specs.Constants.{upgradeLoad};
 ghost use Rattle.rules.specs.Sheet.{Book, Fit};
 ghost use Rattle.rules.specs.Item.{isRig};
 ghost use Rattle.rules.specs.Collect.{modifierMoves, projectedModifierMoves, buffModifierMoves};
-ghost use Rattle.modifiers.specs.Causes.{OwnerOf, CauseOf, movesOf, causeMoves, resistanceOf};
+ghost use Rattle.modifiers.specs.Causes.{OwnerOf, CauseOf, movesOf, causeMoves, effectOf, resistanceOf};
 
 // On attribute 1152 a rig keeps Passive.
 fn source_category(o: Item, category: EffectCategory, attribute: i32) -> EffectCategory
@@ -37,6 +38,35 @@ fn source_category(o: Item, category: EffectCategory, attribute: i32) -> EffectC
         return EffectCategory::Passive;
     }
     category
+}
+
+// The collected effect of an object's modifier, by what its tests gave.
+fn effect_of(
+    o: Item,
+    e: DogmaEffect,
+    m: DogmaModifier,
+    source: EffectCategory,
+    resistance: OptionalId,
+    modifier: Modifier,
+    operator: EffectOperator,
+    target: u32,
+) -> Pass2Effect
+    ensures { λ r. ⌜ r ≡ effectOf o e m source resistance modifier operator target ⌝ }
+{
+    Pass2Effect {
+        origin: Origin::Effect {
+            effect_id: e.id,
+            source: o.number,
+            source_category: source,
+            attribute_id: m.modifying_attribute_id,
+        },
+        modifier: modifier,
+        operator: operator,
+        source_quantity: o.quantity,
+        target: target,
+        target_attribute_id: m.modified_attribute_id,
+        resistance: resistance,
+    }
 }
 
 // An own modifier: func, operation, item without charge, ship domain skipped, target domain.
@@ -54,20 +84,9 @@ fn own_move(w: Owner, e: DogmaEffect, category: EffectCategory, m: DogmaModifier
                     match aim {
                         TargetTest::Go(target) => {
                             let source = source_category(o, category, m.modified_attribute_id);
-                            Moved::Taken(Pass2Effect {
-                                origin: Origin::Effect {
-                                    effect_id: e.id,
-                                    source: o.number,
-                                    source_category: source,
-                                    attribute_id: m.modifying_attribute_id,
-                                },
-                                modifier: modifier,
-                                operator: operator,
-                                source_quantity: o.quantity,
-                                target: target,
-                                target_attribute_id: m.modified_attribute_id,
-                                resistance: OptionalId::Absent,
-                            })
+                            let absent = OptionalId::Absent;
+                            let t = effect_of(o, e, m, source, absent, modifier, operator, target);
+                            Moved::Taken(t)
                         }
                         TargetTest::Over => Moved::Over,
                         TargetTest::Bad(x) => Moved::Bad(x),
@@ -101,20 +120,10 @@ fn projected_move(
                 FuncTest::Go(modifier) => {
                     let operation = get_effect_operator(m.operation, m.number);
                     match operation {
-                        OperationTest::Go(operator) => Moved::Taken(Pass2Effect {
-                            origin: Origin::Effect {
-                                effect_id: e.id,
-                                source: o.number,
-                                source_category: category,
-                                attribute_id: m.modifying_attribute_id,
-                            },
-                            modifier: modifier,
-                            operator: operator,
-                            source_quantity: o.quantity,
-                            target: target,
-                            target_attribute_id: m.modified_attribute_id,
-                            resistance: resistance,
-                        }),
+                        OperationTest::Go(op) => {
+                            let t = effect_of(o, e, m, category, resistance, modifier, op, target);
+                            Moved::Taken(t)
+                        }
                         OperationTest::Over => Moved::Over,
                         OperationTest::Bad(x) => Moved::Bad(x),
                     }

@@ -4,9 +4,6 @@ use borrow.Author.Needs.{needs}
 use Rattle.modifiers.proofs.causes.projected_move.Statement.{statement}
 use Rattle.modifiers.proofs.causes.projected_move.Tie as tie
 use mathlib.Core.Path.{sym, ap, _∙_}
-use borrow.Author.Needs.{sfits-of}
-use mir.Syntax.{w32}
-use mir.ValLaws.{toZ-ofZ}
 use Rattle.modifiers.specs.Causes.{funcOf, operationOf, targetOf}
 use Rattle.modifiers.proofs.Moves.{projected-target, projected-func, projected-operation, projected-taken}
 
@@ -20,13 +17,14 @@ projected-move-spec =
     (λ c. search needs)
     (λ c κs. search needs)
     (λ c. search needs)
+    (λ c κs. search needs)
     (λ c. search needs)
     (λ c. search needs)
     (λ c. search needs)
     (λ c. search needs)
     (λ c. search needs)
     (λ c. search needs)
-    (λ c. λ f h r. rw (toZ-ofZ w32 (c .before .before .before .before .before .before .before .before .before .before .before .before .before .before .before .before .args .m .«modified_attribute_id») (sfits-of (c .before .struct-told2 .given .1 .1 .1 .1 .1 .0 .1)), toZ-ofZ w32 (c .before .before .before .before .before .before .before .before .before .before .before .before .before .before .before .before .args .e .id) (sfits-of (c .before .before .struct-told .given .1 .0 .1)), toZ-ofZ w32 (c .before .before .before .before .before .before .before .before .before .before .before .before .before .before .before .before .args .m .«modifying_attribute_id») (sfits-of (c .before .struct-told2 .given .1 .1 .1 .1 .0 .1))) (sym (projected-taken (c .before .before .before .before .before .before .before .before .before .before .before .before .before .before .before .before .args .w .item) (c .before .before .before .before .before .before .before .before .before .before .before .before .before .before .before .before .args .e) (c .before .before .before .before .before .before .before .before .before .before .before .before .before .before .before .before .args .m) f (c .before .before .before .before .before .before .before .before .before .before .before .before .before .before .before .before .args .category) (sym (c .before .before .before .before .before .before .before .before .before .before .before .before .before .before .get-projected-object .ensures f h) ∙ ap targetOf (c .before .before .before .before .before .before .before .before .before .before .before .before .aim .given .1)) (sym (c .before .before .before .before .before .before .before .before .before .before .get-modifier-func .ensures) ∙ ap funcOf (c .before .before .before .before .before .before .before .before .func .given .1)) (sym (c .before .before .before .before .before .before .get-effect-operator .ensures) ∙ ap operationOf (c .before .before .before .before .operation .given .1)) r)))
+    (λ c. λ f h r. rw (c .effect-of .ensures) (sym (projected-taken (c .before .before .before .before .before .before .before .before .before .before .before .before .before .before .args .w .item) (c .before .before .before .before .before .before .before .before .before .before .before .before .before .before .args .e) (c .before .before .before .before .before .before .before .before .before .before .before .before .before .before .args .m) f (c .before .before .before .before .before .before .before .before .before .before .before .before .before .before .args .category) (sym (c .before .before .before .before .before .before .before .before .before .before .before .before .get-projected-object .ensures f h) ∙ ap targetOf (c .before .before .before .before .before .before .before .before .before .before .aim .given .1)) (sym (c .before .before .before .before .before .before .before .before .get-modifier-func .ensures) ∙ ap funcOf (c .before .before .before .before .before .before .func .given .1)) (sym (c .before .before .before .before .get-effect-operator .ensures) ∙ ap operationOf (c .before .before .operation .given .1)) r)))
     (λ c. λ f h r. sym (projected-operation (c .before .before .before .before .before .before .before .before .before .before .before .before .args .w .item) (c .before .before .before .before .before .before .before .before .before .before .before .before .args .e) (c .before .before .before .before .before .before .before .before .before .before .before .before .args .m) f (c .before .before .before .before .before .before .before .before .before .before .before .before .args .category) (sym (c .before .before .before .before .before .before .before .before .before .before .get-projected-object .ensures f h) ∙ ap targetOf (c .before .before .before .before .before .before .before .before .aim .given .1)) (sym (c .before .before .before .before .before .before .get-modifier-func .ensures) ∙ ap funcOf (c .before .before .before .before .func .given .1)) (sym (c .before .before .get-effect-operator .ensures) ∙ ap operationOf (c .enum-told .given .1))))
     (λ c. λ f h r. sym (projected-operation (c .before .before .before .before .before .before .before .before .before .before .before .before .before .args .w .item) (c .before .before .before .before .before .before .before .before .before .before .before .before .before .args .e) (c .before .before .before .before .before .before .before .before .before .before .before .before .before .args .m) f (c .before .before .before .before .before .before .before .before .before .before .before .before .before .args .category) (sym (c .before .before .before .before .before .before .before .before .before .before .before .get-projected-object .ensures f h) ∙ ap targetOf (c .before .before .before .before .before .before .before .before .before .aim .given .1)) (sym (c .before .before .before .before .before .before .before .get-modifier-func .ensures) ∙ ap funcOf (c .before .before .before .before .before .func .given .1)) (sym (c .before .before .before .get-effect-operator .ensures) ∙ ap operationOf (c .before .operation2 .given .1))))
     (λ c. λ f h r. sym (projected-func (c .before .before .before .before .before .before .before .before .args .w .item) (c .before .before .before .before .before .before .before .before .args .e) (c .before .before .before .before .before .before .before .before .args .m) f (c .before .before .before .before .before .before .before .before .args .category) (sym (c .before .before .before .before .before .before .get-projected-object .ensures f h) ∙ ap targetOf (c .before .before .before .before .aim .given .1)) (sym (c .before .before .get-modifier-func .ensures) ∙ ap funcOf (c .enum-told2 .given .1))))
