@@ -148,7 +148,7 @@ pub fn reach_of(book: &[u8], fit: &[u8], pairs: &[[u32; 2]; 10], i: usize) -> [u
 // ---- where the objects stand
 
 // The char's number: it stands right after the ship or its mode.
-fn char_of(fit: &[u8], pairs: &[[u32; 2]; 10]) -> u32
+pub fn char_of(fit: &[u8], pairs: &[[u32; 2]; 10]) -> u32
     requires { ⌜ SoundFit (now fit) (now pairs) ⌝ }
     ensures { λ r. ⌜ r ≡ charOf (fitOf (now (fit .entry)) (now (pairs .entry))) ⌝ }
 {

@@ -1,0 +1,6 @@
+pub mod Seeking
+pub mod Pointers
+pub mod Neighbours
+pub mod Turns
+pub mod Own
+pub mod Phases

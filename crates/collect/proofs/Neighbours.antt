@@ -1,0 +1,25 @@
+-- The object after one and the object before it.
+use Prim.Native.Nat.{ℕ, suc, _-_, _≤_}
+use native.Mathlib.Omega.{arith}
+use mathlib.Core.Path.{_≡_, sym, ap, _∙_}
+use mathlib.Core.Bool.{Bool, false, cond}
+use mathlib.Core.List.{List}
+use lib.ListN.{length, getD, List·getD-eq-default}
+use Rattle.rules.specs.Sheet.{Fit, fitOf}
+use Rattle.rules.specs.Item.{object, noItem, isItem, isCharge, itemOf}
+use Rattle.rules.specs.declared.Item.{Item}
+use Rattle.info.specs.Sound.{Nth}
+use Rattle.hits.proofs.Sheets.{numbered}
+use Rattle.modifiers.specs.Causes.{Stands}
+
+module _ (f : Fit) {n : ℕ} where
+  pub next-there : {i : ℕ} {t : Bool} (x : Item) → Nth (f .objects) i x → i ≡ suc n → t ≡ isCharge x → t ≡ isCharge (object f (suc n))
+  next-there x h e g = g ∙ ap isCharge (h noItem ∙ ap (λ (j : ℕ). getD (f .objects) j noItem) e)
+
+  pub next-none : length (f .objects) ≤ suc n → false ≡ isCharge (object f (suc n))
+  next-none h = sym (ap isCharge (List·getD-eq-default (f .objects) noItem h))
+
+-- objects have their places as their numbers
+pub beside-is : (b : List ℕ) (pairs : List (List ℕ)) (o : Item) {x : ℕ} → Stands (fitOf b pairs) o → x ≡ cond (isItem o) (suc (o .number)) (o .number - 1) → x ≡ cond (isItem o) (suc (o .number)) (itemOf (fitOf b pairs) o .number)
+beside-is b pairs o s e =
+    e ∙ ap (λ (n : ℕ). cond (isItem o) (suc (o .number)) n) (sym (numbered b pairs (o .number - 1) (omega (arith, s .few))))

@@ -1,0 +1,16 @@
+-- Parts of the moves one after another.
+use mathlib.Core.Path.{_≡_, sym, ap, _∙_}
+use mathlib.Core.List.{List, _++_}
+use Rattle.rules.specs.Collect.{Move}
+use Rattle.rules.specs.declared.Refusal.{Refusal}
+use Rattle.modifiers.specs.declared.Rooms.{Rooms}
+use Rattle.modifiers.specs.Ran.{Stand, stop, ran}
+use Rattle.modifiers.proofs.Runs.{ran-append, ran-stop}
+
+-- one part, and then the other; or a refusal in the first
+module _ (q : Rooms) (xs ys : List Move) (s : Stand) where
+  pub in-turn : (t u : Stand) → t ≡ ran q xs s → u ≡ ran q ys t → u ≡ ran q (xs ++ ys) s
+  in-turn t u e g = g ∙ ap (ran q ys) e ∙ sym (ran-append q xs ys s)
+
+  pub stopped-first : (x : Refusal) → stop x ≡ ran q xs s → stop x ≡ ran q (xs ++ ys) s
+  stopped-first x e = sym (ran-append q xs ys s ∙ ap (ran q ys) (sym e) ∙ ran-stop q ys x)

@@ -1,0 +1,50 @@
+-- The parts of collection: what all objects go by, an object's effects in two passes, and what each pass over the objects collects.
+use mathlib.Core.Path.{_≡_}
+use mathlib.Core.Bool.{Bool, not, cond, _&&_, _||_}
+use mathlib.Core.List.{List, []}
+use lib.Dec.{leb}
+use Rattle.laws.specs.Lists.{keep, flat}
+use Rattle.rules.specs.Sheet.{Book, Fit}
+use Rattle.rules.specs.Item.{isItem, isCharge, isSkill, isProjected, charOf, itemOf, structureFit, passed}
+use Rattle.rules.specs.Collect.{Move, effectMoves, ownMoves, projectedMoves, fittedMoves}
+use Rattle.rules.specs.declared.Item.{Item}
+use Rattle.rules.specs.declared.TypeDogmaEffect.{TypeDogmaEffect}
+use Rattle.item.specs.Categories.{CategoriesOf}
+use Rattle.states.specs.Raised.{among}
+use Rattle.collect.specs.declared.Hull.{Hull}
+use Rattle.collect.specs.declared.Phase.{Phase}
+use Rattle.collect.specs.declared.Phase.the-variants.{Front, Projected, Fitted, Skills}
+
+-- h is what the objects of the fit go by
+pub record HullOf (k : Book) (f : Fit) (h : Hull) : Type 0 where
+  pub categories : CategoriesOf k (h .categories)
+  pub structure : h .structure ≡ structureFit f
+  pub character : h .character ≡ charOf f
+
+-- what a type effect gives, unless it is among these
+abbrev pub newMoves : Book → Fit → Item → List TypeDogmaEffect → TypeDogmaEffect → List Move
+newMoves k f o own t = cond (not (among own t)) (effectMoves k f o t) []
+
+-- whether an object is collected in a phase, and what it gives then
+abbrev pub inPhase : Phase → Item → Bool
+inPhase Front o = leb (o .kind) 2
+inPhase Projected o = isProjected o
+inPhase Fitted o = isItem o || isCharge o
+inPhase Skills o = isSkill o
+
+abbrev pub phaseMoves : Book → Fit → Phase → Item → List Move
+phaseMoves k f Front o = ownMoves k f o
+phaseMoves k f Projected o = projectedMoves k f o
+phaseMoves k f Fitted o = fittedMoves k f o
+phaseMoves k f Skills o = ownMoves k f o
+
+abbrev pub objectMoves : Book → Fit → Phase → Item → List Move
+objectMoves k f x o = cond (inPhase x o) (phaseMoves k f x o) []
+
+-- all of a phase
+abbrev pub allOf : Book → Fit → Phase → List Move
+allOf k f x = flat (phaseMoves k f x) (keep (inPhase x) (f .objects))
+
+-- an item that is passed over, or the charge of one
+abbrev pub isOver : Book → Fit → Item → Bool
+isOver k f o = isItem o && passed k f o || isCharge o && passed k f (itemOf f o)
