@@ -1,5 +1,4 @@
 pub mod Seeking
-pub mod Pointers
 pub mod Neighbours
 pub mod Turns
 pub mod Own

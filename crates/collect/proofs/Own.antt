@@ -35,8 +35,16 @@ module _ (k : Book) (f : Fit) (o : Item) where
     pub own-alone : mutated o ≡ false → flat (newMoves k f o []) (span first count (k .typeEffects)) ≡ ownMoves k f o
     own-alone m = own-new (span first count (k .typeEffects)) ∙ ap (flat (effectMoves k f o)) (sym h) ∙ sym (by-mutation false m)
 
-    pub own-and-base : (start many : ℕ) → mutated o ≡ true → getDogmaEffects k (o .«mutation_base») ≡ span start many (k .typeEffects) → flat (newMoves k f o []) (span first count (k .typeEffects)) ++ flat (newMoves k f o (span first count (k .typeEffects))) (span start many (k .typeEffects)) ≡ ownMoves k f o
-    own-and-base start many m g =
+    pub own-and-base : (l : List TypeDogmaEffect) → mutated o ≡ true → getDogmaEffects k (o .«mutation_base») ≡ l → flat (newMoves k f o []) (span first count (k .typeEffects)) ++ flat (newMoves k f o (span first count (k .typeEffects))) l ≡ ownMoves k f o
+    own-and-base l m g =
         rw (own-new (span first count (k .typeEffects)), ← h, ← g)
         (ap (λ (l : List Move). flat (effectMoves k f o) own ++ l) (sym (flat-keep (effectMoves k f o) (λ t. not (among own t)) (getDogmaEffects k (o .«mutation_base»))))
         ∙ sym (flat-append (effectMoves k f o) own base) ∙ sym (by-mutation true m))
+
+  -- one effect: among them, or not
+  module _ (l : List TypeDogmaEffect) (t : TypeDogmaEffect) where
+    pub known : among l t ≡ true → [] ≡ newMoves k f o l t
+    known h = sym (ap (λ (b : Bool). cond (not b) (effectMoves k f o t) []) h)
+
+    pub unknown : among l t ≡ false → effectMoves k f o t ≡ newMoves k f o l t
+    unknown h = sym (ap (λ (b : Bool). cond (not b) (effectMoves k f o t) []) h)

@@ -3,7 +3,7 @@ use Prim.Native.Nat.{ℕ, _≤_}
 use native.Mathlib.Omega.{arith}
 use mathlib.Core.Path.{_≡_, refl, sym, ap, _∙_}
 use mathlib.Core.Bool.{Bool, true, false, _&&_, _||_, not, cond}
-use mathlib.Core.List.{List, [], _++_}
+use mathlib.Core.List.{List, [], _++_, append-assoc}
 use lib.Dec.{leb, eqb}
 use borrow.Author.Tests.{eqb-true, leb-true, ne-eqb}
 use Rattle.laws.specs.Lists.{keep, flat, span}
@@ -17,12 +17,12 @@ use Rattle.rules.specs.Collect.{Move, unless, ownMoves, projectedMoves, buffMov
 use Rattle.rules.specs.declared.Item.{Item}
 use Rattle.collect.specs.declared.Phase.{Phase}
 use Rattle.collect.specs.declared.Phase.the-variants.{Front, Projected, Fitted, Skills}
-use Rattle.collect.specs.Parts.{inPhase, phaseMoves, objectMoves, allOf, isOver}
+use Rattle.collect.specs.Parts.{inPhase, phaseMoves, objectMoves, allOf, restOf, isOver}
 
 module _ (k : Book) (f : Fit) where
-  pub in-phases : allOf k f Front ++ (allOf k f Projected ++ (flat (buffMoves k) (f .buffs) ++ (allOf k f Fitted ++ allOf k f Skills))) ≡ moves k f
+  pub in-phases : (allOf k f Front ++ allOf k f Projected) ++ restOf k f ≡ moves k f
   unfolding moves
-  in-phases = refl
+  in-phases = append-assoc (allOf k f Front) (allOf k f Projected) (restOf k f)
 
   -- all objects, one after another
   pub phase-objects : (x : Phase) → flat (objectMoves k f x) (f .objects) ≡ allOf k f x

@@ -1,12 +1,12 @@
 -- The parts of collection: what all objects go by, an object's effects in two passes, and what each pass over the objects collects.
 use mathlib.Core.Path.{_≡_}
 use mathlib.Core.Bool.{Bool, not, cond, _&&_, _||_}
-use mathlib.Core.List.{List, []}
+use mathlib.Core.List.{List, [], _++_}
 use lib.Dec.{leb}
 use Rattle.laws.specs.Lists.{keep, flat}
 use Rattle.rules.specs.Sheet.{Book, Fit}
 use Rattle.rules.specs.Item.{isItem, isCharge, isSkill, isProjected, charOf, itemOf, structureFit, passed}
-use Rattle.rules.specs.Collect.{Move, effectMoves, ownMoves, projectedMoves, fittedMoves}
+use Rattle.rules.specs.Collect.{Move, effectMoves, ownMoves, projectedMoves, fittedMoves, buffMoves}
 use Rattle.rules.specs.declared.Item.{Item}
 use Rattle.rules.specs.declared.TypeDogmaEffect.{TypeDogmaEffect}
 use Rattle.item.specs.Categories.{CategoriesOf}
@@ -44,6 +44,10 @@ objectMoves k f x o = cond (inPhase x o) (phaseMoves k f x o) []
 -- all of a phase
 abbrev pub allOf : Book → Fit → Phase → List Move
 allOf k f x = flat (phaseMoves k f x) (keep (inPhase x) (f .objects))
+
+-- all after the projected objects
+abbrev pub restOf : Book → Fit → List Move
+restOf k f = flat (buffMoves k) (f .buffs) ++ (allOf k f Fitted ++ allOf k f Skills)
 
 -- an item that is passed over, or the charge of one
 abbrev pub isOver : Book → Fit → Item → Bool
