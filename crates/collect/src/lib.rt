@@ -16,5 +16,6 @@ pub enum Phase {
     Skills,
 }
 
+pub mod effects;
 pub mod owners;
 pub mod uses;
