@@ -3,3 +3,4 @@ pub mod Neighbours
 pub mod Turns
 pub mod Own
 pub mod Phases
+pub mod Whole

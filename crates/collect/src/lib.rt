@@ -17,5 +17,6 @@ pub enum Phase {
 }
 
 pub mod effects;
+pub mod objects;
 pub mod owners;
 pub mod uses;
