@@ -5,7 +5,7 @@ use mathlib.Core.Bool.{Bool, true, false, _&&_, _||_}
 use mathlib.Core.List.{List, [], _∷_, map}
 use mathlib.Core.Option.{Option, none, some}
 use lib.Dec.{eqb}
-use lib.IntN.{ℤ}
+use lib.IntN.{ℤ, pos}
 use lib.Signed.{ltZ}
 use mir.Syntax.{w32}
 use mir.Val.{SFits}
@@ -23,7 +23,7 @@ use Rattle.rules.specs.Number.{cut}
 use Rattle.rules.specs.Dispatch.{requires}
 use Rattle.rules.specs.declared.Item.{Item}
 use Rattle.rules.specs.declared.BaseAttribute.{BaseAttribute}
-use Rattle.hits.specs.Who.{skillBits, requiredBits}
+use Rattle.hits.specs.Who.{noSkill, skillBits, requiredBits}
 use Rattle.hits.proofs.Narrow.{cut-narrow, bits-some}
 
 -- ---- two lists, searched in either order
@@ -90,3 +90,18 @@ module _ (skill : ℤ) (h : SFits w32 skill) where
       some-map (eqb (bits skill)) (λ a. skillBits (getBase f o a)) attributeSkills
       ∙ some-same _ _ (λ a. by-base (getBase f o a) ∙ sym (some-once (λ r. r .«attribute_id») (λ r. eqZ (cut (r .value)) skill) a (basesOf f o) s)) attributeSkills
       ∙ some-swap (λ r a. eqZ (r .«attribute_id») a) (λ r. eqZ (cut (r .value)) skill) attributeSkills (basesOf f o)
+
+-- ---- as the code finds them
+
+pub skill-absent : {b : Option BaseAttribute} → none ≡ b → noSkill ≡ skillBits b
+skill-absent e = ap skillBits e
+
+pub skill-given : {b : Option BaseAttribute} {r : BaseAttribute} {n : ℕ} → some r ≡ b → n ≡ bits (cut (r .value)) → n ≡ skillBits b
+skill-given e h = h ∙ ap skillBits e
+
+six : {a b c d e f a′ b′ c′ d′ e′ f′ : ℕ} → a ≡ a′ → b ≡ b′ → c ≡ c′ → d ≡ d′ → e ≡ e′ → f ≡ f′ → a ∷ b ∷ c ∷ d ∷ e ∷ f ∷ [] ≡ a′ ∷ b′ ∷ c′ ∷ d′ ∷ e′ ∷ f′ ∷ []
+six p q r s t u = rw (p, q, r, s, t, u) refl
+
+pub six-skills : (f : Fit) {o x : Item} {a b c d e g : ℕ} → x ≡ o → a ≡ skillBits (getBase f x (pos 182)) → b ≡ skillBits (getBase f x (pos 183)) → c ≡ skillBits (getBase f x (pos 184)) → d ≡ skillBits (getBase f x (pos 1285)) → e ≡ skillBits (getBase f x (pos 1289)) → g ≡ skillBits (getBase f x (pos 1290)) → a ∷ b ∷ c ∷ d ∷ e ∷ g ∷ [] ≡ requiredBits f o
+unfolding requiredBits
+six-skills f {o} {x} i a b c d e g = six a b c d e g ∙ ap (requiredBits f) i
