@@ -34,6 +34,10 @@ module _ (r : List ℕ) where
   origin-10 (origin.Effect e o c a) = refl
   origin-10 (origin.Buff b v) = refl
 
+  origin-11 : (g : Origin) → getD (originNumbers g ++ r) 11 0 ≡ getD r 5 0
+  origin-11 (origin.Effect e o c a) = refl
+  origin-11 (origin.Buff b v) = refl
+
   modifier-0 : (m : Modifier) → getD (modifierNumbers m ++ r) 0 0 ≡ getD (modifierNumbers m) 0 0
   modifier-0 (LocationRequiredSkillModifier s) = refl
   modifier-0 (LocationGroupModifier g) = refl
@@ -54,6 +58,13 @@ module _ (r : List ℕ) where
   modifier-4 LocationModifier = refl
   modifier-4 (OwnerRequiredSkillModifier s) = refl
   modifier-4 ItemModifier = refl
+
+  modifier-5 : (m : Modifier) → getD (modifierNumbers m ++ r) 5 0 ≡ getD r 3 0
+  modifier-5 (LocationRequiredSkillModifier s) = refl
+  modifier-5 (LocationGroupModifier g) = refl
+  modifier-5 LocationModifier = refl
+  modifier-5 (OwnerRequiredSkillModifier s) = refl
+  modifier-5 ItemModifier = refl
 
 module _ (t : Pass2Effect) where
   abbrev rest : List ℕ
@@ -77,6 +88,9 @@ module _ (t : Pass2Effect) where
 
   pub target-at : getD (collectedNumbers t) 10 0 ≡ t .target
   target-at = ap (λ (l : List ℕ). getD l 10 0) whole ∙ origin-10 (modifierNumbers (t .modifier) ++ rest) (t .origin) ∙ modifier-4 rest (t .modifier)
+
+  pub attribute-at : getD (collectedNumbers t) 11 0 ≡ bits (t .«target_attribute_id»)
+  attribute-at = ap (λ (l : List ℕ). getD l 11 0) whole ∙ origin-11 (modifierNumbers (t .modifier) ++ rest) (t .origin) ∙ modifier-5 rest (t .modifier)
 
   pub pointing : (n : ℕ) → getD (originNumbers (t .origin)) 2 0 < n → t .target < n → Pointing (collectedNumbers t) n
   pointing n s l = record { source = rw source-at s; target = rw target-at l }
