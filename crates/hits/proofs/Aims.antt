@@ -47,7 +47,7 @@ module _ (p : Item → Bool) (k : Book) (f : Fit) where
         exact = λ i h. e i h ∙ ranged (within a i) (g (object f i)) (askedOf (a .test) k f (object f i)) (getD (reachOf k f (object f i)) (a .column) 0) (col (object f i)) (w i h);
       }
 
-  only : (n i : ℕ) → leb n i && ltb i (n + 1) ≡ eqb i n
+  pub only : (n i : ℕ) → leb n i && ltb i (n + 1) ≡ eqb i n
   only n i =
       same-test (leb n i && ltb i (n + 1)) (eqb i n)
       (λ e. eq-eqb i n (omega (arith, leb-true n i (and-left (leb n i) (ltb i (n + 1)) e), ltb-true i (n + 1) (and-right (leb n i) (ltb i (n + 1)) e))))

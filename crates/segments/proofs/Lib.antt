@@ -6,3 +6,6 @@ pub mod Stowing
 pub mod Gathering
 pub mod Gates
 pub mod Filling
+pub mod Numbering
+pub mod Segmenting
+pub mod Cutting
