@@ -53,8 +53,12 @@ behind (origin.Buff b v) (OwnerRequiredSkillModifier s) r = refl
 behind (origin.Buff b v) ItemModifier r = refl
 
 -- the target attribute is number 11
-target-number : (t : Pass2Effect) → getD (collectedNumbers t) 11 0 ≡ bits (t .«target_attribute_id»)
+pub target-number : (t : Pass2Effect) → getD (collectedNumbers t) 11 0 ≡ bits (t .«target_attribute_id»)
 target-number t = sym (getD-drop 8 (collectedNumbers t) 3 0) ∙ ap (λ (l : List ℕ). getD l 3 0) (behind (t .origin) (t .modifier) _)
+
+-- the source's quantity is number 9
+pub quantity-number : (t : Pass2Effect) → getD (collectedNumbers t) 9 0 ≡ t .«source_quantity»
+quantity-number t = sym (getD-drop 8 (collectedNumbers t) 1 0) ∙ ap (λ (l : List ℕ). getD l 1 0) (behind (t .origin) (t .modifier) _)
 
 module _ (es : List Pass2Effect) (c : List (List ℕ)) (v : List Float) (C : Collected es c v) where
   pub hit-target : (e : List ℕ) → hitNumber e < length es → hitId c e ≡ targetOf (effectAt es (hitNumber e))

@@ -1,0 +1,2 @@
+pub mod RowOf
+pub mod Filling
