@@ -1,2 +1,3 @@
 pub mod RowOf
 pub mod Filling
+pub mod Owned

@@ -3,18 +3,18 @@ use Prim.Native.Nat.{ℕ, _%_, _<_}
 use native.Mathlib.Omega.{arith}
 use mathlib.Core.Path.{_≡_, refl, sym, ap, _∙_}
 use mathlib.Core.Bool.{Bool, true, false, not, _&&_, _||_, cond}
-use mathlib.Core.List.{List}
+use mathlib.Core.List.{List, map}
 use lib.Dec.{eqb}
 use lib.IntN.{ℤ, pos}
 use lib.ListN.{length, getD}
 use mir.Syntax.{w32}
 use mir.Val.{SFits, ofZ, toZ}
 use mir.Facts.{toZ-ofZ}
-use Rattle.laws.specs.Lists.{eqZ, some?}
+use Rattle.laws.specs.Lists.{eqZ, some?, ascends}
 use Rattle.laws.proofs.Bools.{or-none-right, and-false-right, and-true-right}
 use Rattle.rules.specs.Bytes.{countOf}
 use Rattle.rules.specs.Constants.{exemptCategories}
-use Rattle.rules.specs.Sheet.{Book, Fit, fitOf, objectFrom}
+use Rattle.rules.specs.Sheet.{Book, Fit, fitOf, objectFrom, basesOf}
 use Rattle.rules.specs.Info.{getDogmaAttribute, stackable}
 use Rattle.rules.specs.Item.{object}
 use Rattle.rules.specs.Dispatch.{sourceCategory, isSource, entry}
@@ -24,8 +24,9 @@ use Rattle.rules.specs.declared.DogmaAttribute.{DogmaAttribute}
 use Rattle.rules.specs.declared.Pass2Effect.{Pass2Effect}
 use Rattle.rules.specs.declared.Origin.{Origin}
 use Rattle.rules.specs.declared.Origin.the-variants as origin
+use Rattle.info.specs.Sound.{SoundFit}
 use Rattle.rules.proofs.Tables.{table-length}
-use Rattle.hits.proofs.Sheets.{numbered}
+use Rattle.hits.proofs.Sheets.{numbered, sized}
 use Rattle.hits.proofs.Rows.{origin-at, source-at}
 use Rattle.dispatch.specs.Entries.{exemptBits, entryRow}
 use Rattle.dispatch.proofs.Defined.{target-number, quantity-number}
@@ -116,6 +117,10 @@ module _ (b : List ℕ) (pairs : List (List ℕ)) where
 
   pub object-number : (i : ℕ) → i < countOf pairs 6 → object (fitOf b pairs) i .number ≡ i
   object-number i h = numbered b pairs i (rw objects-long h)
+
+  -- its base attributes ascend
+  pub bases-ascend : SoundFit b pairs → (i : ℕ) → i < countOf pairs 6 → ascends (map (λ r. r .«attribute_id») (basesOf (fitOf b pairs) (object (fitOf b pairs) i))) ≡ true
+  bases-ascend S i h = sized b pairs (S .good) .bases i (rw objects-long h)
 
 -- the whole row, whose penalty is a number
 pub entry-written : (k : Book) (f : Fit) (o : Item) (t : Pass2Effect) (c : List ℕ) (p : Bool) (x q : ℕ) → c ≡ collectedNumbers t → x ≡ yes1 p → p ≡ entry k f o t .penalty → q ≡ entry k f o t .quantity → entryRow c x q ≡ entryNumbers (entry k f o t)
