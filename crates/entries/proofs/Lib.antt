@@ -1,3 +1,4 @@
 pub mod RowOf
 pub mod Filling
 pub mod Owned
+pub mod Together

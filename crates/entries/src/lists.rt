@@ -4,9 +4,11 @@ use dispatch::entries::set_firsts;
 use dispatch::entries::spread;
 use dispatch::rows::Laid;
 use dispatch::rows::object_rows;
+use info::bytes::index;
+use info::header::count_of;
 ghost use mathlib.Core.Path.{_≡_};
 ghost use mathlib.Core.List.{List, [], map};
-ghost use Prim.Native.Nat.{ℕ, _+_, _<_, _^_};
+ghost use Prim.Native.Nat.{ℕ, _+_, _≤_, _<_, _^_};
 ghost use lib.ListN.{length};
 ghost use Rattle.rules.specs.Bytes.{countOf};
 ghost use Rattle.rules.specs.Sheet.{bookOf, fitOf};
@@ -18,6 +20,7 @@ ghost use Rattle.dispatch.specs.Tallies.{hitId, Numbered, tallied};
 ghost use Rattle.dispatch.specs.Entries.{hitsIn, rowsFor};
 ghost use Rattle.entries.specs.Effects.{Effects, Listing};
 ghost use Rattle.entries.specs.Laying.{Tallied, EntriesLaid, ObjectLaid};
+ghost use Rattle.entries.specs.Parts.{Parts, Parting, rowsTo, AllLaid};
 
 // The entries of object i, in its own segment, which begins at place `from` of list 3; `rows` are its rows as the hits left them.
 fn object_entries(
@@ -94,4 +97,54 @@ pub fn object_lists(
         from,
     );
     Laid::Rows(k)
+}
+
+// The rows and entries of all objects, whose segments end at `ends`: how many rows there are, or that they are more than the room.
+pub fn all_lists(
+    rows: &mut [[u32; 6]],
+    bases: &mut [f64],
+    entries: &mut [[u32; 11]],
+    values: &mut [f64],
+    ends: &[u32; 1024],
+    collected: &[[u32; 14]],
+    collected_values: &[f64],
+    book: &[u8],
+    fit: &[u8],
+    pairs: &[[u32; 2]; 10],
+    room: usize,
+) -> Laid
+    requires { ⌜ SoundBook (now book) (now pairs) ⌝ }
+    requires { ⌜ SoundFit (now fit) (now pairs) ⌝ }
+    requires { ⌜ Listing (now collected) (now «collected_values») (countOf (now pairs) 6) ⌝ }
+    requires { ⌜ (room ≤ length (now rows)) × (room ≤ length (now bases)) ⌝ }
+    requires { ⌜ Parting (countOf (now pairs) 6) (now entries) (now values) (now ends) (now collected) ⌝ }
+    ensures { λ r. ⌜ ((es : List Pass2Effect) (part : ℕ → List ℕ) → Effects es (now (collected .entry)) (now («collected_values» .entry)) (countOf (now (pairs .entry)) 6) → Parts part (countOf (now (pairs .entry)) 6) (now (entries .entry)) (now (ends .entry)) → AllLaid r room (rowsTo (bookOf (now (book .entry)) (now (pairs .entry))) (fitOf (now (fit .entry)) (now (pairs .entry))) es part (countOf (now (pairs .entry)) 6)) (now (rows .entry)) (now (rows .exit)) (now (bases .entry)) (now (bases .exit)) (now (entries .entry)) (now (entries .exit)) (now (values .entry)) (now (values .exit))) ⌝ }
+{
+    let objects = count_of(pairs, 6);
+    let mut n: usize = 0;
+    let mut from: usize = 0;
+    let mut i: usize = 0;
+    while i < objects {
+        let end = index(ends[i]);
+        let got = object_lists(
+            &mut rows[n..room],
+            &mut bases[n..room],
+            &mut entries[from..end],
+            &mut values[from..end],
+            collected,
+            collected_values,
+            book,
+            fit,
+            pairs,
+            i,
+            from as u32,
+        );
+        let Laid::Rows(more) = got else {
+            return Laid::Full;
+        };
+        n += more;
+        from = end;
+        i += 1;
+    }
+    Laid::Rows(n)
 }
