@@ -24,13 +24,13 @@ use Rattle.rules.specs.Columns.{originValue, rowsNumbers, entryNumbers}
 use Rattle.rules.specs.declared.Item.{Item}
 use Rattle.rules.specs.declared.Effect.{Effect}
 use Rattle.rules.specs.declared.Pass2Effect.{Pass2Effect}
-use Rattle.dispatch.specs.Tallies.{Tally, idOf, baseOf, tallyNumbers, narrow?, rowKey, hitNumber, hitId, Numbered, tallied, tallyOf, Stretch, Answered}
-use Rattle.dispatch.specs.declared.rows.Laid.{Laid}
-use Rattle.dispatch.specs.declared.rows.Laid.the-variants.{Rows, Full}
-use Rattle.dispatch.specs.Entries.{times, rowsFrom, rowCount, started, effectNumber, effectAt, hitsAt, spreadOver, hitsIn, rowFor, rowsFor, Counted, Spreading}
-use Rattle.dispatch.proofs.Defined.{hits-targets, spread-entries, rows-numbers}
-use Rattle.dispatch.proofs.Begins.{tallied-counted, spreading, begun-keys}
-use Rattle.dispatch.proofs.Tallied.{tallied-is}
+use Rattle.rows.specs.Tallies.{Tally, idOf, baseOf, tallyNumbers, narrow?, rowKey, hitNumber, hitId, Numbered, tallied, tallyOf, Stretch, Answered}
+use Rattle.rows.specs.declared.rows.Laid.{Laid}
+use Rattle.rows.specs.declared.rows.Laid.the-variants.{Rows, Full}
+use Rattle.rows.specs.Entries.{times, rowsFrom, rowCount, started, effectNumber, effectAt, hitsAt, spreadOver, hitsIn, rowFor, rowsFor, Counted, Spreading}
+use Rattle.rows.proofs.Defined.{hits-targets, spread-entries, rows-numbers}
+use Rattle.rows.proofs.Begins.{tallied-counted, spreading, begun-keys}
+use Rattle.rows.proofs.Tallied.{tallied-is}
 use Rattle.entries.specs.Effects.{Effects, Taken, entryOf, valueOf}
 use Rattle.entries.specs.Laying.{Tallied, entriesOf, EntriesLaid, RowsLaid}
 

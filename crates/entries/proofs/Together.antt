@@ -26,10 +26,10 @@ use Rattle.rules.specs.Item.{object}
 use Rattle.rules.specs.Dispatch.{Row}
 use Rattle.rules.specs.Columns.{originValue, rowsNumbers, entryNumbers}
 use Rattle.rules.specs.declared.Pass2Effect.{Pass2Effect}
-use Rattle.dispatch.specs.Tallies.{hitNumber, Numbered}
-use Rattle.dispatch.specs.Entries.{effectAt, hitsIn, rowsFor}
-use Rattle.dispatch.specs.declared.rows.Laid.{Laid}
-use Rattle.dispatch.specs.declared.rows.Laid.the-variants.{Rows, Full}
+use Rattle.rows.specs.Tallies.{hitNumber, Numbered}
+use Rattle.rows.specs.Entries.{effectAt, hitsIn, rowsFor}
+use Rattle.rows.specs.declared.rows.Laid.{Laid}
+use Rattle.rows.specs.declared.rows.Laid.the-variants.{Rows, Full}
 use Rattle.entries.specs.Effects.{Effects, Listing}
 use Rattle.entries.specs.Laying.{entriesOf, EntriesLaid, RowsLaid, ObjectLaid}
 use Rattle.entries.specs.Parts.{hitsTo, Parts, Parting, partRows, rowsTo, ListsLaid, AllLaid}

@@ -10,9 +10,9 @@ use Rattle.laws.specs.Columns.{Col}
 use Rattle.rules.specs.Dispatch.{Row}
 use Rattle.rules.specs.Columns.{originValue, rowsNumbers, entryNumbers}
 use Rattle.rules.specs.declared.Effect.{Effect}
-use Rattle.dispatch.specs.Tallies.{Tally, idOf, tallyNumbers, narrow?}
-use Rattle.dispatch.specs.declared.rows.Laid.{Laid}
-use Rattle.dispatch.specs.declared.rows.Laid.the-variants.{Rows, Full}
+use Rattle.rows.specs.Tallies.{Tally, idOf, tallyNumbers, narrow?}
+use Rattle.rows.specs.declared.rows.Laid.{Laid}
+use Rattle.rows.specs.declared.rows.Laid.the-variants.{Rows, Full}
 
 -- rows of object i as its hits left them
 pub record Tallied (i : ℕ) (ts : List Tally) (rows : List (List ℕ)) : Type 0 where

@@ -13,10 +13,10 @@ use Rattle.rules.specs.Item.{object}
 use Rattle.rules.specs.Dispatch.{Row}
 use Rattle.rules.specs.Columns.{originValue, rowsNumbers, entryNumbers}
 use Rattle.rules.specs.declared.Pass2Effect.{Pass2Effect}
-use Rattle.dispatch.specs.Tallies.{hitNumber}
-use Rattle.dispatch.specs.Entries.{effectAt, rowsFor}
-use Rattle.dispatch.specs.declared.rows.Laid.{Laid}
-use Rattle.dispatch.specs.declared.rows.Laid.the-variants.{Rows, Full}
+use Rattle.rows.specs.Tallies.{hitNumber}
+use Rattle.rows.specs.Entries.{effectAt, rowsFor}
+use Rattle.rows.specs.declared.rows.Laid.{Laid}
+use Rattle.rows.specs.declared.rows.Laid.the-variants.{Rows, Full}
 use Rattle.entries.specs.Laying.{entriesOf}
 
 -- how many hits the first n objects have

@@ -1,11 +1,11 @@
 // The rows and entries of objects, each in its own stretch of list 2 and its own segment of list 3.
 use super::write::write_entries;
-use dispatch::entries::set_firsts;
-use dispatch::entries::spread;
-use dispatch::rows::Laid;
-use dispatch::rows::object_rows;
 use info::bytes::index;
 use info::header::count_of;
+use rows::entries::set_firsts;
+use rows::entries::spread;
+use rows::rows::Laid;
+use rows::rows::object_rows;
 ghost use mathlib.Core.Path.{_≡_};
 ghost use mathlib.Core.List.{List, [], map};
 ghost use Prim.Native.Nat.{ℕ, _+_, _≤_, _<_, _^_};
@@ -16,8 +16,8 @@ ghost use Rattle.rules.specs.Item as items;
 ghost use Rattle.rules.specs.Columns.{rowsNumbers};
 ghost use Rattle.rules.specs.declared.Pass2Effect.{Pass2Effect};
 ghost use Rattle.info.specs.Sound.{SoundBook, SoundFit};
-ghost use Rattle.dispatch.specs.Tallies.{hitId, Numbered, tallied};
-ghost use Rattle.dispatch.specs.Entries.{hitsIn, rowsFor};
+ghost use Rattle.rows.specs.Tallies.{hitId, Numbered, tallied};
+ghost use Rattle.rows.specs.Entries.{hitsIn, rowsFor};
 ghost use Rattle.entries.specs.Effects.{Effects, Listing};
 ghost use Rattle.entries.specs.Laying.{Tallied, EntriesLaid, ObjectLaid};
 ghost use Rattle.entries.specs.Parts.{Parts, Parting, rowsTo, AllLaid};

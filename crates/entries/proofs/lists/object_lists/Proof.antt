@@ -6,7 +6,7 @@ use Rattle.entries.proofs.lists.object_lists.Tie as tie
 use native.Mathlib.Omega.{arith}
 use mathlib.Core.Path.{_≡_, refl, sym, _∙_}
 use mathlib.Core.List.{map}
-use Rattle.dispatch.specs.Tallies.{hitId, tallied}
+use Rattle.rows.specs.Tallies.{hitId, tallied}
 use Rattle.rules.specs.Sheet.{bookOf, fitOf}
 use Rattle.rules.specs.Item.{object}
 use Rattle.entries.proofs.RowOf.{bases-ascend}
