@@ -155,7 +155,7 @@ abbrev pub baseIds : Fit → ℕ → List ℤ
 baseIds f i = map (λ r. r .«attribute_id») (basesOf f (object f i))
 
 -- one place alone can pass
-some-only : (p : ℕ → Bool) (j a n : ℕ) → ((i : ℕ) → a ≤ i → i < a + n → (j ≡ i → ⊥) → p i ≡ false) → a ≤ j → j < a + n → some? p (from a n) ≡ p j
+pub some-only : (p : ℕ → Bool) (j a n : ℕ) → ((i : ℕ) → a ≤ i → i < a + n → (j ≡ i → ⊥) → p i ≡ false) → a ≤ j → j < a + n → some? p (from a n) ≡ p j
 some-only p j a zero u h l = absurd (omega arith)
 some-only p j a (suc n) u h l = by (true-or-false (eqb j a)) (λ e. some-only p j (suc a) n (λ i x y. u i (omega arith) (omega arith)) (omega arith) (omega arith))
   where
@@ -175,7 +175,7 @@ some-only p j a (suc n) u h l = by (true-or-false (eqb j a)) (λ e. some-only p 
         let apart : j ≡ a → ⊥ = λ s. both-ways (eq-eqb j a s) e in
         ap (λ (t : Bool). t || some? p (from (suc a) n)) (u a (omega arith) (omega arith) apart) ∙ i apart
 
-some-and : {A : Type 0} (t : Bool) (q : A → Bool) (xs : List A) → some? (λ x. t && q x) xs ≡ t && some? q xs
+pub some-and : {A : Type 0} (t : Bool) (q : A → Bool) (xs : List A) → some? (λ x. t && q x) xs ≡ t && some? q xs
 some-and true q xs = refl
 some-and false q [] = refl
 some-and false q (x ∷ xs) = some-and false q xs

@@ -1,3 +1,5 @@
 pub mod Rooms
 pub mod ByObject
 pub mod Bases
+pub mod Parted
+pub mod Ending

@@ -1,2 +1,81 @@
 // Dispatch (pass_2.rs, second half): the rows and entries of all objects, or the list that is full first.
+use entries::lists::all_lists;
+use room::full_at;
+use rows::rows::Laid;
+use segments::places::set_hits;
+ghost use mathlib.Core.Path.{_≡_};
+ghost use mathlib.Core.List.{List};
+ghost use Prim.Native.Nat.{_≤_, _<_, _^_};
+ghost use lib.ListN.{length};
+ghost use Rattle.rules.specs.Bytes.{countOf};
+ghost use Rattle.rules.specs.Sheet.{bookOf, fitOf};
+ghost use Rattle.rules.specs.Dispatch.{baseKeys};
+ghost use Rattle.rules.specs.declared.Pass2Effect.{Pass2Effect};
+ghost use Rattle.info.specs.Sound.{SoundBook, SoundFit};
+ghost use Rattle.dispatch.specs.Whole.{Collection, Collecting, Given};
+
 pub mod room;
+
+// How many rows and entries there are; or the list that is full first.
+pub enum Dispatched {
+    Lists(usize, usize),
+    Full(u32),
+}
+
+// The rows and entries of n collected effects. Where a list is full, the columns may hold anything.
+pub fn dispatch(
+    rows: &mut [[u32; 6]],
+    bases: &mut [f64],
+    entries: &mut [[u32; 11]],
+    values: &mut [f64],
+    collected: &[[u32; 14]],
+    collected_values: &[f64],
+    book: &[u8],
+    fit: &[u8],
+    pairs: &[[u32; 2]; 10],
+    n: usize,
+    room: usize,
+    room_entries: usize,
+) -> Dispatched
+    requires { ⌜ SoundBook (now book) (now pairs) ⌝ }
+    requires { ⌜ SoundFit (now fit) (now pairs) ⌝ }
+    requires { ⌜ Collecting n (now collected) (now «collected_values») (countOf (now pairs) 6) ⌝ }
+    requires { ⌜ (room ≤ length (now rows)) × (room ≤ length (now bases)) × (length (baseKeys (fitOf (now fit) (now pairs))) ≤ room) ⌝ }
+    requires { ⌜ («room_entries» ≤ length (now entries)) × («room_entries» ≤ length (now values)) × (n < 2 ^ 32) × («room_entries» < 2 ^ 32) ⌝ }
+    ensures { λ r. ⌜ ((es : List Pass2Effect) → Collection es n (now (collected .entry)) (now («collected_values» .entry)) (countOf (now (pairs .entry)) 6) → Given r room «room_entries» (bookOf (now (book .entry)) (now (pairs .entry))) (fitOf (now (fit .entry)) (now (pairs .entry))) es (now (rows .entry)) (now (rows .exit)) (now (bases .entry)) (now (bases .exit)) (now (entries .exit)) (now (values .entry)) (now (values .exit))) ⌝ }
+{
+    let mut ends = [0u32; 1024];
+    let mut past = [0u32; 2];
+    let used = set_hits(
+        entries,
+        &mut ends,
+        &mut past,
+        collected,
+        book,
+        fit,
+        pairs,
+        n,
+        room_entries,
+    );
+    let laid = all_lists(
+        rows,
+        bases,
+        entries,
+        values,
+        &ends,
+        &collected[..n],
+        &collected_values[..n],
+        book,
+        fit,
+        pairs,
+        room,
+    );
+    let Laid::Rows(k) = laid else {
+        return Dispatched::Full(2);
+    };
+    if room_entries < used {
+        let list = full_at(rows, past, k, room);
+        return Dispatched::Full(list);
+    }
+    Dispatched::Lists(k, used)
+}

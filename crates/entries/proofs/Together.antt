@@ -93,12 +93,12 @@ take-drop-front (suc e) (suc n) (x ∷ xs) h = take-drop-front e n xs (le-of-suc
     less : n - e ≡ suc n - suc e
     less = omega arith
 
-every-take : {A : Type 0} (p : A → Bool) (n : ℕ) (xs : List A) → every? p xs ≡ true → every? p (take n xs) ≡ true
+pub every-take : {A : Type 0} (p : A → Bool) (n : ℕ) (xs : List A) → every? p xs ≡ true → every? p (take n xs) ≡ true
 every-take p zero xs h = refl
 every-take p (suc n) [] h = refl
 every-take p (suc n) (x ∷ xs) h = and-both (and-left (p x) (every? p xs) h) (every-take p n xs (and-right (p x) (every? p xs) h))
 
-every-drop : {A : Type 0} (p : A → Bool) (n : ℕ) (xs : List A) → every? p xs ≡ true → every? p (drop n xs) ≡ true
+pub every-drop : {A : Type 0} (p : A → Bool) (n : ℕ) (xs : List A) → every? p xs ≡ true → every? p (drop n xs) ≡ true
 every-drop p zero xs h = h
 every-drop p (suc n) [] h = refl
 every-drop p (suc n) (x ∷ xs) h = every-drop p n xs (and-right (p x) (every? p xs) h)
@@ -327,9 +327,9 @@ module _ (k : Book) (f : Fit) (c : List (List ℕ)) (v : List Float) (objects : 
 
   -- all objects
   pub turns-all : {i n e : ℕ} {rows : List (List ℕ)} {bases : List Float} {entries : List (List ℕ)} {values : List Float} → Turns i n e rows bases entries values → objects ≤ i
-      → (es : List Pass2Effect) (part : ℕ → List ℕ) → Effects es c v objects → Parts part objects entries₀ ends → AllLaid (Rows n) room (rowsTo k f es part objects) rows₀ rows bases₀ bases entries₀ entries values₀ values
+      → (es : List Pass2Effect) (part : ℕ → List ℕ) → Effects es c v objects → Parts part objects entries₀ ends → AllLaid (Rows n) room (hitsTo part objects) (rowsTo k f es part objects) rows₀ rows bases₀ bases entries₀ entries values₀ values
   turns-all {i} {n} {e} {rows} {bases} {entries} {values} T h es part E Q =
       let same : i ≡ objects = omega (arith, T .within) in
       let K = T .sofar es part E Q in
-      subst (λ (m : ℕ). AllLaid (Rows n) room (rowsTo k f es part m) rows₀ rows bases₀ bases entries₀ entries values₀ values) same
-      (K .count, rw (sym (K .count)) (T .inside), K .laid)
+      subst (λ (m : ℕ). AllLaid (Rows n) room (hitsTo part m) (rowsTo k f es part m) rows₀ rows bases₀ bases entries₀ entries values₀ values) same
+      (K .count, rw (sym (K .count)) (T .inside), sym (K .own) ∙ K .start, K .laid)

@@ -51,7 +51,7 @@ pub record ListsLaid (rs : List Row) (r₀ r : List (List ℕ)) (b₀ b : List F
   pub entries : Col entryNumbers (entriesOf rs) e₀ e
   pub values : Col (λ x. originValue (x .origin)) (entriesOf rs) v₀ v
 
--- or there is no room for the rows
-abbrev pub AllLaid : Laid → ℕ → List Row → List (List ℕ) → List (List ℕ) → List Float → List Float → List (List ℕ) → List (List ℕ) → List Float → List Float → Type 0
-AllLaid (Rows n) room rs r₀ r b₀ b e₀ e v₀ v = (n ≡ length rs) × (length rs ≤ room) × ListsLaid rs r₀ r b₀ b e₀ e v₀ v
-AllLaid Full room rs r₀ r b₀ b e₀ e v₀ v = room < length rs
+-- with so many entries; or there is no room for the rows
+abbrev pub AllLaid : Laid → ℕ → ℕ → List Row → List (List ℕ) → List (List ℕ) → List Float → List Float → List (List ℕ) → List (List ℕ) → List Float → List Float → Type 0
+AllLaid (Rows n) room m rs r₀ r b₀ b e₀ e v₀ v = (n ≡ length rs) × (length rs ≤ room) × (length (entriesOf rs) ≡ m) × ListsLaid rs r₀ r b₀ b e₀ e v₀ v
+AllLaid Full room m rs r₀ r b₀ b e₀ e v₀ v = room < length rs

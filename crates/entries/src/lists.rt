@@ -20,7 +20,7 @@ ghost use Rattle.rows.specs.Tallies.{hitId, Numbered, tallied};
 ghost use Rattle.rows.specs.Entries.{hitsIn, rowsFor};
 ghost use Rattle.entries.specs.Effects.{Effects, Listing};
 ghost use Rattle.entries.specs.Laying.{Tallied, EntriesLaid, ObjectLaid};
-ghost use Rattle.entries.specs.Parts.{Parts, Parting, rowsTo, AllLaid};
+ghost use Rattle.entries.specs.Parts.{hitsTo, Parts, Parting, rowsTo, AllLaid};
 
 // The entries of object i, in its own segment, which begins at place `from` of list 3; `rows` are its rows as the hits left them.
 fn object_entries(
@@ -118,7 +118,7 @@ pub fn all_lists(
     requires { ⌜ Listing (now collected) (now «collected_values») (countOf (now pairs) 6) ⌝ }
     requires { ⌜ (room ≤ length (now rows)) × (room ≤ length (now bases)) ⌝ }
     requires { ⌜ Parting (countOf (now pairs) 6) (now entries) (now values) (now ends) (now collected) ⌝ }
-    ensures { λ r. ⌜ ((es : List Pass2Effect) (part : ℕ → List ℕ) → Effects es (now (collected .entry)) (now («collected_values» .entry)) (countOf (now (pairs .entry)) 6) → Parts part (countOf (now (pairs .entry)) 6) (now (entries .entry)) (now (ends .entry)) → AllLaid r room (rowsTo (bookOf (now (book .entry)) (now (pairs .entry))) (fitOf (now (fit .entry)) (now (pairs .entry))) es part (countOf (now (pairs .entry)) 6)) (now (rows .entry)) (now (rows .exit)) (now (bases .entry)) (now (bases .exit)) (now (entries .entry)) (now (entries .exit)) (now (values .entry)) (now (values .exit))) ⌝ }
+    ensures { λ r. ⌜ ((es : List Pass2Effect) (part : ℕ → List ℕ) → Effects es (now (collected .entry)) (now («collected_values» .entry)) (countOf (now (pairs .entry)) 6) → Parts part (countOf (now (pairs .entry)) 6) (now (entries .entry)) (now (ends .entry)) → AllLaid r room (hitsTo part (countOf (now (pairs .entry)) 6)) (rowsTo (bookOf (now (book .entry)) (now (pairs .entry))) (fitOf (now (fit .entry)) (now (pairs .entry))) es part (countOf (now (pairs .entry)) 6)) (now (rows .entry)) (now (rows .exit)) (now (bases .entry)) (now (bases .exit)) (now (entries .entry)) (now (entries .exit)) (now (values .entry)) (now (values .exit))) ⌝ }
 {
     let objects = count_of(pairs, 6);
     let mut n: usize = 0;

@@ -1,0 +1,104 @@
+-- The three ways that dispatch ends.
+use Prim.Native.Nat.{ℕ, _+_, _≤_, _<_, _^_}
+use native.Mathlib.Omega.{arith}
+use mathlib.Core.Path.{_≡_, refl, sym, ap, subst, _∙_}
+use mathlib.Core.Bool.{Bool, not, _&&_, cond}
+use mathlib.Core.List.{List, [], _∷_, map}
+use mathlib.Core.Option.{Option, none, some}
+use lib.Dec.{eqb}
+use lib.Ieee.{Float}
+use lib.ListN.{length, getD, take, drop, length-map}
+use lib.Seq.{take-at, take-all}
+use Rattle.laws.specs.Lists.{some?}
+use Rattle.laws.specs.Columns.{Col}
+use Rattle.rules.specs.Bytes.{countOf}
+use Rattle.rules.specs.Sheet.{Book, fitOf}
+use Rattle.rules.specs.Dispatch.{Row, baseKeys, rows}
+use Rattle.rules.specs.Columns.{entryNumbers}
+use Rattle.rules.specs.declared.Pass2Effect.{Pass2Effect}
+use Rattle.info.specs.Sound.{SoundFit}
+use Rattle.hits.proofs.Sheets.{numbered}
+use Rattle.segments.specs.Strikes.{Strike, arrivals, Segmented}
+use Rattle.segments.proofs.Cutting.{parts-length}
+use Rattle.rows.specs.declared.rows.Laid.{Laid}
+use Rattle.rows.specs.declared.rows.Laid.the-variants.{Rows, Full}
+use Rattle.entries.specs.Effects.{Listing}
+use Rattle.entries.specs.Laying.{entriesOf}
+use Rattle.entries.specs.Parts.{hitsTo, Parts, Parting, rowsTo, ListsLaid, AllLaid}
+use Rattle.entries.proofs.RowOf.{objects-long, bases-ascend}
+use Rattle.dispatch.specs.Keyed.{isRow}
+use Rattle.dispatch.specs.Whole.{Collection, Collecting, full, Held}
+use Rattle.dispatch.proofs.Parted.{bases-narrow, as-effects, partOf, parts-of, parting-of, rows-are, full-rows, full-not, full-list}
+
+-- list 1, cut to its effects
+pub cut-listing : {n : ℕ} {c : List (List ℕ)} {v : List Float} {objects : ℕ} → Collecting n c v objects → Listing (take n c) (take n v) objects
+cut-listing C = record { effects = C .effects; listed = as-effects (C .collection) }
+
+-- the columns hold the rows: the entries stand in front
+held : {rs : List Row} {r₀ r : List (List ℕ)} {b₀ b : List Float} {e₀ e : List (List ℕ)} {v₀ v : List Float} → ListsLaid rs r₀ r b₀ b e₀ e v₀ v → Held rs r₀ r b₀ b e v₀ v
+held {rs} {e₀ = e₀} L =
+    record {
+      rows = L .rows;
+      bases = L .bases;
+      entries =
+          ap (take (length (entriesOf rs))) (L .entries .is)
+          ∙ take-at (map entryNumbers (entriesOf rs)) (drop (length (entriesOf rs)) e₀) (length (entriesOf rs)) (length-map (entriesOf rs) entryNumbers);
+      values = L .values;
+    }
+
+module _ (k : Book) (fit : List ℕ) (pairs : List (List ℕ)) (S : SoundFit fit pairs) (es : List Pass2Effect) (room3 : ℕ) where
+  abbrev objects : ℕ
+  objects = countOf pairs 6
+
+  abbrev pub parts : ℕ → List ℕ
+  parts = partOf k (fitOf fit pairs) objects (objects-long fit pairs) (numbered fit pairs) (bases-ascend fit pairs S) es room3
+
+  abbrev hs : List Strike
+  hs = arrivals k (fitOf fit pairs) 0 es
+
+  few : objects ≤ 1024
+  few = omega (arith, S .held .objects .few)
+
+  module _ {entries : List (List ℕ)} {ends past : List ℕ} {used : ℕ} (G : Segmented es hs room3 objects entries ends past used) where
+    pub ending-parts : Parts parts objects entries ends
+    ending-parts = parts-of k (fitOf fit pairs) objects (objects-long fit pairs) (numbered fit pairs) (bases-ascend fit pairs S) es room3 G few
+
+    pub ending-parting : {n : ℕ} {c : List (List ℕ)} {v values : List Float} → Collection es n c v objects → room3 ≤ length entries → room3 ≤ length values → room3 < 2 ^ 32 → Parting objects entries values ends (take n c)
+    ending-parting C p q r = parting-of k (fitOf fit pairs) objects (objects-long fit pairs) (numbered fit pairs) (bases-ascend fit pairs S) es room3 G few C p q r
+
+    abbrev all : List Row
+    all = rowsTo k (fitOf fit pairs) es parts objects
+
+    module _ (room : ℕ) (based : length (baseKeys (fitOf fit pairs)) ≤ room) (r : Laid) (rows₀ rows′ : List (List ℕ)) (bases₀ bases′ : List Float) (entries′ : List (List ℕ)) (values₀ values′ : List Float)
+        (A : AllLaid r room (hitsTo parts objects) all rows₀ rows′ bases₀ bases′ entries entries′ values₀ values′) where
+      answer : (q : Laid) → r ≡ q → AllLaid q room (hitsTo parts objects) all rows₀ rows′ bases₀ bases′ entries entries′ values₀ values′
+      answer q e = subst (λ (x : Laid). AllLaid x room (hitsTo parts objects) all rows₀ rows′ bases₀ bases′ entries entries′ values₀ values′) e A
+
+      pub ending-full : r ≡ Full → full room room3 k (fitOf fit pairs) es ≡ some 2
+      ending-full e = full-rows k (fitOf fit pairs) objects (objects-long fit pairs) (numbered fit pairs) (bases-ascend fit pairs S) es room3 room based (answer Full e)
+
+      module _ {m : ℕ} (e : r ≡ Rows m) where
+        pub ending-inside : room ≤ length rows₀ → length rows′ ≡ length rows₀ → m ≤ length rows′
+        ending-inside h l =
+            let X = answer (Rows m) e in
+            omega (arith, X .0, X .1)
+
+        pub ending-past : {n : ℕ} {c : List (List ℕ)} {v : List Float} → Collection es n c v objects → room3 < used → (l : ℕ)
+            → l ≡ cond (eqb m room && not (some? (isRow (getD past 0 0) (getD past 1 0)) (take m rows′))) 2 3 → full room room3 k (fitOf fit pairs) es ≡ some l
+        ending-past C h l q =
+            let X = answer (Rows m) e in
+            let over : room3 < length hs = rw (G .count) at h in
+            full-list k (fitOf fit pairs) objects (objects-long fit pairs) (numbered fit pairs) (bases-ascend fit pairs S) es room3 (bases-narrow fit pairs) (C .held .narrow) room based over m l (X .0) (X .1) (X .3 .rows) (G .left over) q
+
+        pub ending-done : used ≤ room3 → (full room room3 k (fitOf fit pairs) es ≡ none) × (m ≡ length (rows k (fitOf fit pairs) es)) × (used ≡ length (entriesOf (rows k (fitOf fit pairs) es)))
+            × Held (rows k (fitOf fit pairs) es) rows₀ rows′ bases₀ bases′ entries′ values₀ values′
+        ending-done h =
+            let X = answer (Rows m) e in
+            let l : length hs ≤ room3 = rw (G .count) at h in
+            let same : all ≡ rows k (fitOf fit pairs) es = rows-are k (fitOf fit pairs) objects (objects-long fit pairs) (numbered fit pairs) (bases-ascend fit pairs S) es room3 l in
+            let hits : hitsTo parts objects ≡ used = parts-length k (fitOf fit pairs) (numbered fit pairs) es objects room3 (objects-long fit pairs) ∙ ap length (take-all room3 hs l) ∙ sym (G .count) in (
+              full-not k (fitOf fit pairs) objects (objects-long fit pairs) (numbered fit pairs) (bases-ascend fit pairs S) es room3 room based (X .1) l,
+              X .0 ∙ ap length same,
+              sym (ap (λ (x : List Row). length (entriesOf x)) (sym same) ∙ X .2 ∙ hits),
+              subst (λ (x : List Row). Held x rows₀ rows′ bases₀ bases′ entries′ values₀ values′) same (held (X .3)),
+            )
