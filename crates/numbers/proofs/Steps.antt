@@ -1,5 +1,5 @@
 -- What `step` and `_>>=_` give.
-use mathlib.Core.Path.{_≡_}
+use mathlib.Core.Path.{_≡_, refl}
 use mathlib.Core.Bool.{Bool, cond}
 use lib.Ieee.{Float, nan, inf, fin}
 use Rattle.laws.specs.Floats.{finite}
@@ -20,3 +20,8 @@ bound k e = rw e
 pub refused : {g : Step} (k : Float → Step) → g ≡ NotFinite → (g >>= k) ≡ NotFinite
 unfolding _>>=_
 refused k e = rw e
+
+pub assoc : (g : Step) (j k : Float → Step) → ((g >>= j) >>= k) ≡ (g >>= λ x. j x >>= k)
+unfolding _>>=_
+assoc (Finite x) j k = refl
+assoc NotFinite j k = refl

@@ -1,0 +1,3 @@
+pub mod Snocs
+pub mod Copies
+pub mod Applied

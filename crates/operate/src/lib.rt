@@ -1,0 +1,161 @@
+// What one operator does to a value with the values that it gathers, one by one (pass_3.rs).
+use numbers::Bucket;
+use numbers::as_float;
+use numbers::less;
+use numbers::power;
+use numbers::product;
+use numbers::sum;
+use rules::EffectOperator;
+use rules::Step;
+ghost use mathlib.Core.Path.{_≡_};
+ghost use mathlib.Core.Bool.{Bool, false};
+ghost use mathlib.Core.List.{List, [], _++_};
+ghost use Prim.Native.Nat.{_+_, _*_, _<_, _^_};
+ghost use lib.Dec.{T};
+ghost use lib.Ieee.{Float};
+ghost use Rattle.laws.specs.Floats.{finite};
+ghost use Rattle.rules.specs.Number as N;
+ghost use Rattle.rules.specs.Operate.{Copy, Values, hasPenalty, applied};
+ghost use Rattle.rules.specs.Value.{withStack};
+ghost use Rattle.numbers.specs.Held.{Gathered};
+ghost use Rattle.operate.specs.SoFar.{better, chosenOf, addedOne, multipliedOne, plainlyOne, RunningOf, copiesFrom};
+
+// What an operator has made of its unpenalised values so far, and whether there was one.
+pub struct Running {
+    pub step: Step,
+    pub any: bool,
+}
+
+// No value is there yet.
+pub fn start(v: f64) -> Running
+    ensures { λ r. ⌜ ((high : Bool) (op : EffectOperator) → T (finite v) → RunningOf high op v [] r) ⌝ }
+{
+    Running {
+        step: Step::Finite(v),
+        any: false,
+    }
+}
+
+// The last of equal greatest, or the first of equal least.
+fn better_of(high: bool, best: f64, x: f64) -> f64
+    ensures { λ r. ⌜ r ≡ better high best x ⌝ }
+{
+    let below = less(x, best);
+    if high {
+        return if below { best } else { x };
+    }
+    if below { x } else { best }
+}
+
+// The first value that is assigned, or the better one.
+fn chosen(high: bool, any: bool, best: Step, x: f64) -> Step
+    ensures { λ r. ⌜ r ≡ chosenOf high any best x ⌝ }
+{
+    if !any {
+        return Step::Finite(x);
+    }
+    match best {
+        Step::Finite(b) => Step::Finite(better_of(high, b, x)),
+        Step::NotFinite => Step::NotFinite,
+    }
+}
+
+// So many times x more.
+fn added(step: Step, x: f64, quantity: u32) -> Step
+    ensures { λ r. ⌜ r ≡ N._>>=_ step (λ v. addedOne v x quantity) ⌝ }
+{
+    let Step::Finite(v) = step else {
+        return Step::NotFinite;
+    };
+    let scaled = product(x, as_float(quantity));
+    let Step::Finite(y) = scaled else {
+        return Step::NotFinite;
+    };
+    sum(v, y)
+}
+
+// So many times 1.0 + x as a factor.
+fn multiplied(step: Step, x: f64, quantity: u32) -> Step
+    ensures { λ r. ⌜ r ≡ N._>>=_ step (λ v. multipliedOne v x quantity) ⌝ }
+{
+    let Step::Finite(v) = step else {
+        return Step::NotFinite;
+    };
+    let raised = sum(1.0, x);
+    let Step::Finite(y) = raised else {
+        return Step::NotFinite;
+    };
+    let factor = power(y, quantity);
+    let Step::Finite(z) = factor else {
+        return Step::NotFinite;
+    };
+    product(v, z)
+}
+
+// One unpenalised value more.
+fn stepped(running: Running, high: bool, operator: EffectOperator, x: f64, quantity: u32) -> Step
+    ensures { λ r. ⌜ r ≡ plainlyOne high operator running x quantity ⌝ }
+{
+    let step = running.step;
+    match operator {
+        EffectOperator::PreAssign => chosen(high, running.any, step, x),
+        EffectOperator::PreMul => multiplied(step, x, quantity),
+        EffectOperator::PreDiv => multiplied(step, x, quantity),
+        EffectOperator::ModAdd => added(step, x, quantity),
+        EffectOperator::ModSub => added(step, x, quantity),
+        EffectOperator::PostMul => multiplied(step, x, quantity),
+        EffectOperator::PostDiv => multiplied(step, x, quantity),
+        EffectOperator::PostPercent => multiplied(step, x, quantity),
+        EffectOperator::PostAssign => chosen(high, running.any, step, x),
+    }
+}
+
+// One unpenalised value more, unless its quantity is 0.
+pub fn more(
+    running: Running,
+    high: bool,
+    operator: EffectOperator,
+    x: f64,
+    quantity: u32,
+) -> Running
+    ensures { λ r. ⌜ ((v : Float) (g : Values) → T (finite x) → RunningOf high operator v (g .unpenalized) running → RunningOf high operator v (withStack x quantity g .unpenalized) r) ⌝ }
+{
+    if quantity == 0 {
+        return running;
+    }
+    Running {
+        step: stepped(running, high, operator, x, quantity),
+        any: true,
+    }
+}
+
+// The penalised copies after the unpenalised values: positives go first.
+pub fn finished(running: Running, positive: Bucket, negative: Bucket) -> Step
+    ensures { λ r. ⌜ ((high : Bool) (op : EffectOperator) (v : Float) (g : Values) → RunningOf high op v (g .unpenalized) running → Gathered (g .positive) positive → Gathered (g .negative) negative → (hasPenalty op ≡ false → (g .positive ≡ []) × (g .negative ≡ [])) → r ≡ applied high op v g) ⌝ }
+{
+    let step = running.step;
+    let Step::Finite(plain) = step else {
+        return Step::NotFinite;
+    };
+    let weighed = positive.weigh(plain);
+    let Step::Finite(w) = weighed else {
+        return weighed;
+    };
+    negative.weigh(w)
+}
+
+// So many copies more, whose source rows are the first, and a step on each time.
+pub fn put_copies(bucket: Bucket, x: f64, first: u32, step: u32, copies: u32) -> Bucket
+    requires { ⌜ first + copies * step < 2 ^ 32 ⌝ }
+    ensures { λ r. ⌜ ((xs : List Copy) → Gathered xs bucket → T (finite x) → Gathered (xs ++ copiesFrom x first step copies) r) ⌝ }
+{
+    let mut b = bucket;
+    let mut source = first;
+    let mut k: u32 = 0;
+    while k < copies {
+        b = b.insert(x, source);
+        source += step;
+        k += 1;
+    }
+    b
+}
