@@ -1,0 +1,135 @@
+-- What stands in an entry's numbers stands for the entry.
+use Prim.Native.Nat.{ℕ, suc, _+_, _-_, _≤_, _<_}
+use native.Mathlib.Omega.{arith}
+use mathlib.Core.Path.{_≡_, refl, sym, ap, _∙_}
+use mathlib.Core.Bool.{Bool, true, false}
+use mathlib.Core.List.{List, [], _∷_, _++_, map}
+use mathlib.Core.Option.{Option, none, some}
+use lib.Dec.{eqb}
+use lib.IntN.{ℤ}
+use lib.Ieee.{Float}
+use lib.ListN.{length, getD}
+use mir.Syntax.{w32}
+use mir.Val.{SFits, toZ, ofZ}
+use mir.Facts.{toZ-ofZ}
+use borrow.Author.Tests.{eq-eqb, ne-eqb}
+use Rattle.laws.specs.Lists.{some?, span}
+use Rattle.laws.proofs.Scans.{some-on, some-off, some-done}
+use Rattle.laws.proofs.Spans.{span-left, span-end}
+use Rattle.rules.specs.Codes.{categoryAt, categoryCode, operatorAt, operatorCode, sameOperator}
+use Rattle.rules.specs.Item.{runsAt}
+use Rattle.rules.specs.Columns.{yes1, originNumbers, originValue, optionalNumbers, entryNumbers}
+use Rattle.rules.specs.declared.Effect.{Effect}
+use Rattle.rules.specs.declared.EffectCategory.{EffectCategory}
+use Rattle.rules.specs.declared.EffectOperator.{EffectOperator}
+use Rattle.rules.specs.declared.Origin.{Origin}
+use Rattle.rules.specs.declared.Origin.the-variants as origin
+use Rattle.rules.specs.declared.OptionalId.{OptionalId}
+use Rattle.rules.specs.declared.OptionalId.the-variants.{Absent, Given}
+use Rattle.item.proofs.Back.{category-back, operator-back}
+use Rattle.reading.specs.Held.{NarrowOrigin, NarrowId, EntryHeld, isRunning, hasCode}
+
+-- ---- codes
+
+pub the-one : {A : Type 0} {o : Option A} {x y : A} → some x ≡ o → o ≡ some y → x ≡ y
+the-one e f = cc
+
+pub not-none : {A : Type 0} {o : Option A} {x y : A} → none ≡ o → o ≡ some y → x ≡ y
+not-none e f = let z : _≡_ {A = ℕ} 0 1 = cc in absurd (omega arith)
+
+pub category-coded : (code : ℕ) (c : EffectCategory) → code ≡ categoryCode c → categoryAt code ≡ some c
+category-coded code c e = ap categoryAt e ∙ category-back c
+
+pub operator-coded : (code : ℕ) (o : EffectOperator) → code ≡ operatorCode o → operatorAt code ≡ some o
+operator-coded code o e = ap operatorAt e ∙ operator-back o
+
+-- ---- ids
+
+-- the bits of a narrow id, read
+read-back : (x : ℤ) {n : ℕ} (a : ℤ) → SFits w32 a → ofZ w32 x ≡ n → n ≡ ofZ w32 a → toZ w32 (ofZ w32 x) ≡ a
+read-back x a f e h = ap (toZ w32) (e ∙ h) ∙ toZ-ofZ f
+
+pub id-given : {given n : ℕ} (x : ℤ) → ofZ w32 x ≡ n → given ≡ 1 → (o : OptionalId) → NarrowId o → given ≡ getD (optionalNumbers o) 0 0 → n ≡ getD (optionalNumbers o) 1 0 → Given (toZ w32 (ofZ w32 x)) ≡ o
+id-given x r t Absent f g h = absurd (omega arith)
+id-given x r t (Given a) f g h = ap Given (read-back x a f r h)
+
+pub id-absent : {given n : ℕ} → (given ≡ 1 → ⊥) → (o : OptionalId) → NarrowId o → given ≡ getD (optionalNumbers o) 0 0 → n ≡ getD (optionalNumbers o) 1 0 → Absent ≡ o
+id-absent t Absent f g h = refl
+id-absent t (Given a) f g h = absurd (t g)
+
+-- ---- origins
+
+module _ {e : List ℕ} {value : Float} where
+  pub from-effect : getD e 0 0 ≡ 0 → (x z : ℤ) {c : EffectCategory} → ofZ w32 x ≡ getD e 1 0 → ((k : EffectCategory) → getD e 3 0 ≡ categoryCode k → c ≡ k) → ofZ w32 z ≡ getD e 4 0
+      → (g : Origin) (rest : List ℕ) → NarrowOrigin g → e ≡ originNumbers g ++ rest → value ≡ originValue g → origin.Effect (toZ w32 (ofZ w32 x)) (getD e 2 0) c (toZ w32 (ofZ w32 z)) ≡ g
+  from-effect t x z {c} ex ec ez (origin.Effect f s k a) rest n h v =
+      let p = read-back x f (n .0) ex (ap (λ (l : List ℕ). getD l 1 0) h) in
+      let q = ap (λ (l : List ℕ). getD l 2 0) h in
+      let r = ec k (ap (λ (l : List ℕ). getD l 3 0) h) in
+      let u = read-back z a (n .1) ez (ap (λ (l : List ℕ). getD l 4 0) h) in
+      cc
+  from-effect t x z ex ec ez (origin.Buff b w) rest n h v = absurd (omega (arith, ap (λ (l : List ℕ). getD l 0 0) h))
+
+  pub from-buff : (getD e 0 0 ≡ 0 → ⊥) → (x : ℤ) → ofZ w32 x ≡ getD e 5 0
+      → (g : Origin) (rest : List ℕ) → NarrowOrigin g → e ≡ originNumbers g ++ rest → value ≡ originValue g → origin.Buff (toZ w32 (ofZ w32 x)) value ≡ g
+  from-buff t x ex (origin.Effect f s k a) rest n h v = absurd (t (ap (λ (l : List ℕ). getD l 0 0) h))
+  from-buff t x ex (origin.Buff b w) rest n h v =
+      let p = read-back x b n ex (ap (λ (l : List ℕ). getD l 5 0) h) in
+      cc
+
+-- ---- entries
+
+past-origin : (g : Origin) (r : List ℕ) (k : ℕ) → getD (originNumbers g ++ r) (suc (suc (suc (suc (suc (suc k)))))) 0 ≡ getD r k 0
+past-origin (origin.Effect f s c a) r k = refl
+past-origin (origin.Buff b v) r k = refl
+
+flagged : (t : Bool) → eqb (yes1 t) 1 ≡ t
+flagged true = refl
+flagged false = refl
+
+abbrev tail : Effect → List ℕ
+tail e = operatorCode (e .operator) ∷ yes1 (e .penalty) ∷ e .quantity ∷ optionalNumbers (e .resistance)
+
+made : (e : Effect) {o : Origin} {p : EffectOperator} {t : Bool} {q : ℕ} {i : OptionalId} → o ≡ e .origin → p ≡ e .operator → t ≡ e .penalty → q ≡ e .quantity → i ≡ e .resistance
+    → record { origin = o; operator = p; penalty = t; quantity = q; resistance = i } ≡ e
+made e a b c d f = rw (a, b, c, d, f)
+
+module _ {e : List ℕ} {value : Float} where
+  pub entry-read : {o : Origin} {p : EffectOperator} {i : OptionalId}
+      → ((g : Origin) (rest : List ℕ) → NarrowOrigin g → e ≡ originNumbers g ++ rest → value ≡ originValue g → o ≡ g)
+      → ((k : EffectOperator) → getD e 6 0 ≡ operatorCode k → p ≡ k)
+      → ((k : OptionalId) → NarrowId k → getD e 9 0 ≡ getD (optionalNumbers k) 0 0 → getD e 10 0 ≡ getD (optionalNumbers k) 1 0 → i ≡ k)
+      → (x : Effect) → EntryHeld x e value → record { origin = o; operator = p; penalty = eqb (getD e 7 0) 1; quantity = getD e 8 0; resistance = i } ≡ x
+  entry-read fo fp fi x h =
+      made x (fo (x .origin) (tail x) (h .origin) (h .numbers) (h .value)) (fp (x .operator) (at 0)) (ap (λ (n : ℕ). eqb n 1) (at 1) ∙ flagged (x .penalty)) (at 2)
+      (fi (x .resistance) (h .resistance) (at 3) (at 4))
+    where
+      at : (k : ℕ) → getD e (suc (suc (suc (suc (suc (suc k)))))) 0 ≡ getD (tail x) k 0
+      at k = ap (λ (l : List ℕ). getD l (suc (suc (suc (suc (suc (suc k)))))) 0) (h .numbers) ∙ past-origin (x .origin) (tail x) k
+
+-- whether an effect runs, its source at place s
+pub effect-runs : (states : List (List ℕ)) {g : Origin} {f : ℤ} {o : ℕ} {c : EffectCategory} {a : ℤ} {s : ℕ} {r : Bool} → g ≡ origin.Effect f o c a → s ≡ o
+    → r ≡ runsAt c (getD (getD states s []) 0 0) → r ≡ isRunning states g
+effect-runs states {g} {f} {o} {c} {a} e h r = r ∙ ap (λ (n : ℕ). runsAt c (getD (getD states n []) 0 0)) h ∙ sym (ap (isRunning states) e)
+
+-- an entry of an operator by the codes is one by the definition
+pub some-of : (op : EffectOperator) (es : List Effect) → some? (hasCode (operatorCode op)) (map entryNumbers es) ≡ some? (λ e. sameOperator (e .operator) op) es
+some-of op [] = refl
+some-of op (e ∷ es) = rw (past-origin (e .origin) (tail e) 0, some-of op es)
+
+-- ---- a scan for a code: what is left of the places first to e decides
+
+module _ (l : List (List ℕ)) (first e code i : ℕ) (inside : e ≤ length l) (left : some? (hasCode code) (span first (e - first) l) ≡ some? (hasCode code) (span i (e - i) l)) where
+  next : i < e → span i (e - i) l ≡ getD l i [] ∷ span (i + 1) (e - (i + 1)) l
+  next h = span-left i e l [] h (omega arith)
+
+  pub code-passed : i < e → (getD (getD l i []) 6 0 ≡ code → ⊥) → some? (hasCode code) (span first (e - first) l) ≡ some? (hasCode code) (span (i + 1) (e - (i + 1)) l)
+  code-passed h n = left ∙ some-on (hasCode code) (next h) (ne-eqb (getD (getD l i []) 6 0) code n)
+
+  module _ {c : ℕ} (is : code ≡ c) where
+    pub code-found : i < e → getD (getD l i []) 6 0 ≡ code → true ≡ some? (hasCode c) (span first (e - first) l)
+    code-found h f =
+        sym (left ∙ some-off (hasCode code) (next h) (eq-eqb (getD (getD l i []) 6 0) code f)) ∙ ap (λ (k : ℕ). some? (hasCode k) (span first (e - first) l)) is
+
+    pub code-missing : e ≤ i → false ≡ some? (hasCode c) (span first (e - first) l)
+    code-missing h = sym (left ∙ some-done (hasCode code) (span-end i e l h)) ∙ ap (λ (k : ℕ). some? (hasCode k) (span first (e - first) l)) is

@@ -1,0 +1,149 @@
+// Entries by value, and what is asked of them.
+use info::bytes::index;
+use item::CategoryFound;
+use item::OperatorFound;
+use item::codes::category_at;
+use item::codes::operator_at;
+use item::codes::operator_code;
+use item::states::runs_at;
+use numbers::signed;
+use rules::Effect;
+use rules::EffectCategory;
+use rules::EffectOperator;
+use rules::OptionalId;
+use rules::Origin;
+ghost use mathlib.Core.Path.{_≡_};
+ghost use mathlib.Core.List.{List, [], _++_};
+ghost use Prim.Native.Nat.{ℕ, _-_, _≤_, _<_};
+ghost use lib.ListN.{length, getD};
+ghost use lib.Ieee.{nan};
+ghost use Rattle.laws.specs.Lists.{some?, span};
+ghost use Rattle.rules.specs.Codes.{categoryCode, operatorCode};
+ghost use Rattle.rules.specs.Operate.{hasPenalty};
+ghost use Rattle.rules.specs.Columns.{originNumbers, originValue, optionalNumbers};
+ghost use Rattle.reading.specs.Held.{NarrowOrigin, NarrowId, EntryHeld, Sourced, isRunning, hasCode};
+
+// What the code of a category stands for; no other number is met.
+fn category_of(code: u32) -> EffectCategory
+    ensures { λ r. ⌜ ((c : EffectCategory) → code ≡ categoryCode c → r ≡ c) ⌝ }
+{
+    let found = category_at(code);
+    match found {
+        CategoryFound::At(category) => category,
+        CategoryFound::Nothing => EffectCategory::Passive,
+    }
+}
+
+fn operator_of(code: u32) -> EffectOperator
+    ensures { λ r. ⌜ ((o : EffectOperator) → code ≡ operatorCode o → r ≡ o) ⌝ }
+{
+    let found = operator_at(code);
+    match found {
+        OperatorFound::At(operator) => operator,
+        OperatorFound::Nothing => EffectOperator::PreAssign,
+    }
+}
+
+fn optional_id(given: u32, id: u32) -> OptionalId
+    ensures { λ r. ⌜ ((o : OptionalId) → NarrowId o → given ≡ getD (optionalNumbers o) 0 0 → id ≡ getD (optionalNumbers o) 1 0 → r ≡ o) ⌝ }
+{
+    if given == 1 {
+        return OptionalId::Given(signed(id));
+    }
+    OptionalId::Absent
+}
+
+fn origin_of(e: [u32; 11], value: f64) -> Origin
+    ensures { λ r. ⌜ ((g : Origin) (rest : List ℕ) → NarrowOrigin g → e ≡ originNumbers g ++ rest → value ≡ originValue g → r ≡ g) ⌝ }
+{
+    if e[0] == 0 {
+        return Origin::Effect {
+            effect_id: signed(e[1]),
+            source: e[2],
+            source_category: category_of(e[3]),
+            attribute_id: signed(e[4]),
+        };
+    }
+    Origin::Buff {
+        buff_id: signed(e[5]),
+        value,
+    }
+}
+
+// Entry i, by value: a buff's value is in its origin.
+pub fn entry_at(entries: &[[u32; 11]], values: &[f64], i: usize) -> Effect
+    requires { ⌜ (i < length (now entries)) × (i < length (now values)) ⌝ }
+    ensures { λ r. ⌜ ((e : Effect) → EntryHeld e (getD (now (entries .entry)) i []) (getD (now (values .entry)) i nan) → r ≡ e) ⌝ }
+{
+    let e = entries[i];
+    let value = values[i];
+    Effect {
+        origin: origin_of(e, value),
+        operator: operator_of(e[6]),
+        penalty: e[7] == 1,
+        quantity: e[8],
+        resistance: optional_id(e[9], e[10]),
+    }
+}
+
+// Whether an entry runs: a buff always does.
+pub fn is_running(states: &[[u32; 2]; 1024], origin: Origin) -> bool
+    requires { ⌜ Sourced origin ⌝ }
+    ensures { λ r. ⌜ r ≡ isRunning (now (states .entry)) origin ⌝ }
+{
+    match origin {
+        Origin::Effect {
+            effect_id: _,
+            source,
+            source_category,
+            attribute_id: _,
+        } => {
+            let s = index(source);
+            let state = states[s][0];
+            runs_at(source_category, state)
+        }
+        Origin::Buff {
+            buff_id: _,
+            value: _,
+        } => true,
+    }
+}
+
+// Whether an entry from first to end is of an operator.
+pub fn has_operator(
+    entries: &[[u32; 11]],
+    first: usize,
+    end: usize,
+    operator: EffectOperator,
+) -> bool
+    requires { ⌜ end ≤ length (now entries) ⌝ }
+    ensures { λ r. ⌜ r ≡ some? (hasCode (operatorCode operator)) (span first (end - first) (now (entries .entry))) ⌝ }
+{
+    let code = operator_code(operator);
+    let mut i = first;
+    while i < end {
+        let c = entries[i][6];
+        if c == code {
+            return true;
+        }
+        i += 1;
+    }
+    false
+}
+
+// Whether an operator takes the stacking penalty.
+pub fn has_penalty(operator: EffectOperator) -> bool
+    ensures { λ r. ⌜ r ≡ hasPenalty operator ⌝ }
+{
+    match operator {
+        EffectOperator::PreAssign => false,
+        EffectOperator::PreMul => true,
+        EffectOperator::PreDiv => true,
+        EffectOperator::ModAdd => false,
+        EffectOperator::ModSub => false,
+        EffectOperator::PostMul => true,
+        EffectOperator::PostDiv => true,
+        EffectOperator::PostPercent => true,
+        EffectOperator::PostAssign => false,
+    }
+}
