@@ -1,3 +1,4 @@
 pub mod Snocs
 pub mod Copies
 pub mod Applied
+pub mod PassedOver
