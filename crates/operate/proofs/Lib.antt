@@ -2,3 +2,4 @@ pub mod Snocs
 pub mod Copies
 pub mod Applied
 pub mod PassedOver
+pub mod Entered

@@ -1,11 +1,9 @@
 -- An operator that no entry of a row has is passed over: it gathers nothing and changes nothing.
 use Prim.Native.Nat.{ℕ}
-use mathlib.Core.Path.{_≡_, refl, sym, ap, _∙_}
+use mathlib.Core.Path.{_≡_, refl, ap, _∙_}
 use mathlib.Core.Bool.{Bool, false}
 use mathlib.Core.List.{List, [], _∷_}
-use lib.ListN.{set}
 use lib.Seq.{set-getD}
-use lib.Ieee.{Float}
 use Rattle.laws.specs.Lists.{some?}
 use Rattle.laws.proofs.Bools.{or-false-left, or-false-right}
 use Rattle.rules.specs.Answer.{Res, ok, _>>=_}
@@ -14,7 +12,7 @@ use Rattle.rules.specs.Info.{getDogmaAttribute, highIsGood}
 use Rattle.rules.specs.Number.{numberAt}
 use Rattle.rules.specs.Operate.{sorted, applied}
 use Rattle.rules.specs.Dispatch.{Row}
-use Rattle.rules.specs.Value.{World, Mem, Read, Reader, Gathered, nothing, ownSources, gather, marked, markedBy, operate}
+use Rattle.rules.specs.Value.{World, Mem, Read, Reader, Gathered, nothing, gather, marked, markedBy, operate}
 use Rattle.rules.specs.declared.Step.{Step}
 use Rattle.rules.specs.declared.Step.the-variants.{Finite}
 use Rattle.rules.specs.declared.Effect.{Effect}

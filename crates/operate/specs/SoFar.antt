@@ -2,13 +2,13 @@
 use Prim.Native.Nat.{ℕ, zero, suc, _+_}
 use mathlib.Core.Path.{_≡_}
 use mathlib.Core.Bool.{Bool, true, false, cond}
-use mathlib.Core.List.{List, [], _∷_}
+use mathlib.Core.List.{List, [], _∷_, _++_}
 use lib.Dec.{T}
 use lib.IntN.{pos}
 use lib.Ieee.{Float, binary64, lt, ofInt}
 use Rattle.laws.specs.Floats.{finite, oneF}
 use Rattle.rules.specs.Number.{plus, times, power, _>>=_}
-use Rattle.rules.specs.Operate.{Stack, Copy, assigned, added, multiplied}
+use Rattle.rules.specs.Operate.{Stack, Copy, Values, assigned, added, multiplied}
 use Rattle.rules.specs.declared.Step.{Step}
 use Rattle.rules.specs.declared.Step.the-variants.{Finite}
 use Rattle.rules.specs.declared.EffectOperator.{EffectOperator}
@@ -73,3 +73,8 @@ plainlyOne high PostAssign r x n = chosenOf high (r .any) (r .step) x
 abbrev pub copiesFrom : Float → ℕ → ℕ → ℕ → List Copy
 copiesFrom x first step zero = []
 copiesFrom x first step (suc n) = copy x first ∷ copiesFrom x (first + step) step n
+
+-- copies that came one after another, all of one sign
+abbrev pub withCopies : Bool → List Copy → Values → Values
+withCopies true xs g = record { unpenalized = g .unpenalized; positive = g .positive; negative = g .negative ++ xs }
+withCopies false xs g = record { unpenalized = g .unpenalized; positive = g .positive ++ xs; negative = g .negative }
