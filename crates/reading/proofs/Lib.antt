@@ -1,3 +1,4 @@
 pub mod Orders
 pub mod Finds
 pub mod Decodes
+pub mod Ascends

@@ -21,7 +21,7 @@ use Rattle.laws.proofs.Order.{ltZ-trans, ltZ-apart}
 use Rattle.rules.specs.Dispatch.{Row}
 use Rattle.reading.specs.Held.{isBefore, isOf, rowBefore, ascending}
 
-data Before (p : ℕ) (x : ℤ) (o : ℕ) (a : ℤ) : Type 0 where
+pub data Before (p : ℕ) (x : ℤ) (o : ℕ) (a : ℤ) : Type 0 where
   lower : p < o → Before p x o a
   level : p ≡ o → ltZ x a ≡ true → Before p x o a
 
@@ -32,7 +32,7 @@ tells p x o a false e h = lower (ltb-true p o h)
 told : (p : ℕ) (x : ℤ) (o : ℕ) (a : ℤ) → isBefore p x o a ≡ true → Before p x o a
 told p x o a h = tells p x o a (eqb p o) refl h
 
-tested : (p : ℕ) (x : ℤ) (o : ℕ) (a : ℤ) → Before p x o a → isBefore p x o a ≡ true
+pub tested : (p : ℕ) (x : ℤ) (o : ℕ) (a : ℤ) → Before p x o a → isBefore p x o a ≡ true
 tested p x o a (lower l) = ap (λ (t : Bool). cond t (ltZ x a) (ltb p o)) (ne-eqb p o (λ e. omega arith)) ∙ lt-ltb p o l
 tested p x o a (level e h) = ap (λ (t : Bool). cond t (ltZ x a) (ltb p o)) (eq-eqb p o e) ∙ h
 
