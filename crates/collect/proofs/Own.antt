@@ -3,7 +3,6 @@ use Prim.Native.Nat.{ℕ}
 use mathlib.Core.Path.{_≡_, refl, sym, ap, _∙_}
 use mathlib.Core.Bool.{Bool, true, false, not, cond}
 use mathlib.Core.List.{List, [], _++_}
-use lib.IntN.{ℤ}
 use Rattle.laws.specs.Lists.{keep, flat, span}
 use Rattle.laws.proofs.Flat.{flat-append, flat-keep, flat-same}
 use Rattle.rules.specs.Sheet.{Book, Fit}

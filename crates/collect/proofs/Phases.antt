@@ -1,19 +1,17 @@
 -- The moves in phases, and what one object gives in a phase, test by test.
-use Prim.Native.Nat.{ℕ, _≤_}
+use Prim.Native.Nat.{ℕ}
 use native.Mathlib.Omega.{arith}
 use mathlib.Core.Path.{_≡_, refl, sym, ap, _∙_}
-use mathlib.Core.Bool.{Bool, true, false, _&&_, _||_, not, cond}
-use mathlib.Core.List.{List, [], _++_, append-assoc}
-use lib.Dec.{leb, eqb}
+use mathlib.Core.Bool.{Bool, true, false, _&&_, _||_, cond}
+use mathlib.Core.List.{[], _++_, append-assoc}
+use lib.Dec.{eqb}
 use borrow.Author.Tests.{eqb-true, leb-true, ne-eqb}
-use Rattle.laws.specs.Lists.{keep, flat, span}
+use Rattle.laws.specs.Lists.{flat}
 use Rattle.laws.proofs.Bools.{both-ways, or-none-right}
 use Rattle.laws.proofs.Flat.{flat-keep}
-use Rattle.laws.proofs.Spans.{span-all}
-use lib.ListN.{length}
 use Rattle.rules.specs.Sheet.{Book, Fit}
 use Rattle.rules.specs.Item.{isItem, isCharge, isProjected, itemOf, passed}
-use Rattle.rules.specs.Collect.{Move, unless, ownMoves, projectedMoves, buffMoves, fittedMoves, moves}
+use Rattle.rules.specs.Collect.{unless, ownMoves, projectedMoves, fittedMoves, moves}
 use Rattle.rules.specs.declared.Item.{Item}
 use Rattle.collect.specs.declared.Phase.{Phase}
 use Rattle.collect.specs.declared.Phase.the-variants.{Front, Projected, Fitted, Skills}

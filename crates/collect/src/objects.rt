@@ -21,7 +21,6 @@ ghost use mathlib.Core.Path.{_≡_};
 ghost use mathlib.Core.List.{_++_};
 ghost use Prim.Native.Nat.{_+_, _≤_};
 ghost use lib.ListN.{length};
-ghost use Rattle.rules.specs.Bytes.{countOf};
 ghost use Rattle.rules.specs.Sheet.{bookOf, fitOf};
 ghost use Rattle.rules.specs.Collect.{moves};
 ghost use Rattle.rules.specs.Outcome as outcome;

@@ -1,11 +1,9 @@
 // Who is touched: what of the objects decides it, and the aims of a collected effect.
 use info::bytes::index;
-use info::header::category_module;
-use info::header::category_structure_module;
-use info::header::category_subsystem;
 use info::header::count_of;
 use info::records::object;
 use item::Categories;
+use item::header::categories_of;
 use item::locations::is_in_ship;
 use item::locations::is_on_char;
 use item::locations::is_owner_modifiable;
@@ -17,8 +15,8 @@ use rules::Item;
 use rules::SHIP;
 use rules::SKILL;
 ghost use mathlib.Core.Path.{_≡_};
-ghost use mathlib.Core.List.{List, []};
-ghost use Prim.Native.Nat.{ℕ, _+_, _≤_, _<_};
+ghost use mathlib.Core.List.{[]};
+ghost use Prim.Native.Nat.{_+_, _≤_, _<_};
 ghost use lib.Dec.{eqb};
 ghost use lib.IntN.{ℤ};
 ghost use lib.ListN.{length, getD};
@@ -86,17 +84,6 @@ fn flag(b: bool) -> u32
         return 1;
     }
     0
-}
-
-fn categories_of(book: &[u8]) -> Categories
-    requires { ⌜ 100 ≤ length (now book) ⌝ }
-    ensures { λ r. ⌜ ((pairs : List (List ℕ)) → CategoriesOf (bookOf (now (book .entry)) pairs) r) ⌝ }
-{
-    Categories {
-        modules: category_module(book),
-        subsystems: category_subsystem(book),
-        structure_modules: category_structure_module(book),
-    }
 }
 
 // The item that an item or a charge goes by: a charge's stands before it.

@@ -4,6 +4,7 @@ use rules::EffectOperator;
 use rules::ItemState;
 
 pub mod codes;
+pub mod header;
 pub mod kinds;
 pub mod locations;
 pub mod states;

@@ -1,8 +1,5 @@
 // States and max states after collection (Item::collect_effects, PassTwo::pass).
 use info::bytes::index;
-use info::header::category_module;
-use info::header::category_structure_module;
-use info::header::category_subsystem;
 use info::header::count_of;
 use info::look_ups::FoundBase;
 use info::look_ups::FoundEffect;
@@ -12,6 +9,7 @@ use info::look_ups::get_dogma_effects;
 use info::records::object;
 use info::records::type_effect;
 use item::Categories;
+use item::header::categories_of;
 use item::kinds::is_charge;
 use item::kinds::is_item;
 use item::kinds::is_projected;
@@ -26,9 +24,7 @@ use rules::Item;
 use rules::TypeDogmaEffect;
 ghost use mathlib.Core.Path.{_≡_};
 ghost use mathlib.Core.Bool.{_&&_, _||_};
-ghost use mathlib.Core.List.{List};
-ghost use Prim.Native.Nat.{ℕ, _+_, _-_, _≤_, _<_, max, min};
-ghost use lib.ListN.{length};
+ghost use Prim.Native.Nat.{_+_, _-_, _≤_, _<_, max, min};
 ghost use Rattle.laws.specs.Lists.{span};
 ghost use Rattle.rules.specs.Bytes.{countOf};
 ghost use Rattle.rules.specs.Sheet.{Book, Fit, bookOf, fitOf};
@@ -89,17 +85,6 @@ fn previous(n: u32) -> usize
         return 0;
     }
     index(n - 1)
-}
-
-pub fn categories_of(book: &[u8]) -> Categories
-    requires { ⌜ 100 ≤ length (now book) ⌝ }
-    ensures { λ r. ⌜ ((pairs : List (List ℕ)) → CategoriesOf (bookOf (now (book .entry)) pairs) r) ⌝ }
-{
-    Categories {
-        modules: category_module(book),
-        subsystems: category_subsystem(book),
-        structure_modules: category_structure_module(book),
-    }
 }
 
 // Whether the hull is a structure.

@@ -3,7 +3,7 @@
 use Rattle.collect.proofs.effects.collect_run.Statement.{statement}
 use Rattle.collect.proofs.effects.collect_run.Tie as tie
 use borrow.Author.Needs.{needs}
-use Prim.Native.Nat.{ℕ, _-_}
+use Prim.Native.Nat.{_-_}
 use native.Mathlib.Omega.{arith}
 use mathlib.Core.Path.{_≡_, refl, sym, _∙_}
 use lib.ListN.{length}

@@ -4,8 +4,7 @@ use borrow.Author.Needs.{needs}
 use Rattle.collect.proofs.owners.owner_of.Statement.{statement}
 use Rattle.collect.proofs.owners.owner_of.Tie as tie
 use native.Mathlib.Omega.{arith}
-use mathlib.Core.Path.{refl, _∙_}
-use Rattle.rules.specs.Sheet.{fitOf}
+use mathlib.Core.Path.{refl}
 use Rattle.info.proofs.Elements.{objects-length}
 use Rattle.collect.proofs.Neighbours.{beside-is}
 

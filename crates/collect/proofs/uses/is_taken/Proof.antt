@@ -2,7 +2,7 @@
 -- `uses::is_taken` meets its contract. Assumes nothing.
 use Rattle.collect.proofs.uses.is_taken.Statement.{statement}
 use Rattle.collect.proofs.uses.is_taken.Tie as tie
-use mathlib.Core.Path.{refl, sym, ap, _∙_}
+use mathlib.Core.Path.{refl}
 use lib.IntN.{pos}
 use mir.Syntax.{w32}
 use mir.ValLaws.{toZ-ofZ}

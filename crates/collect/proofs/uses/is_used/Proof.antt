@@ -3,7 +3,7 @@
 use borrow.Author.Needs.{needs}
 use Rattle.collect.proofs.uses.is_used.Statement.{statement}
 use Rattle.collect.proofs.uses.is_used.Tie as tie
-use mathlib.Core.Path.{refl, sym, ap, _∙_}
+use mathlib.Core.Path.{refl}
 use mir.Syntax.{w32}
 use mir.ValLaws.{toZ-ofZ}
 use borrow.Author.Needs.{sfits-of}
