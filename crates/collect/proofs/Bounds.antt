@@ -3,19 +3,22 @@ use Prim.Native.Nat.{ℕ, _<_}
 use native.Mathlib.Omega.{arith}
 use mathlib.Core.Path.{sym, subst}
 use mathlib.Core.Bool.{Bool, true, false, cond}
-use mathlib.Core.List.{List}
+use mathlib.Core.List.{List, []}
 use mathlib.Core.Option.{Option, none, some}
 use lib.IntN.{ℤ, pos}
 use lib.ListN.{length, getD}
 use mir.Syntax.{w32}
 use mir.Val.{SFits}
 use Rattle.laws.specs.Lists.{eqZ}
+use Rattle.laws.specs.Columns.{laid}
+use Rattle.laws.proofs.Laid.{laid-row}
 use Rattle.rules.specs.Bytes.{u32At, i32At, recordAt}
 use Rattle.rules.specs.Number.{cut}
 use Rattle.rules.specs.Constants.{remoteResistance}
 use Rattle.rules.specs.Sheet.{Book, Fit, bookOf, fitOf}
 use Rattle.rules.specs.Info.{getBase}
 use Rattle.rules.specs.Collect.{testFunc, unlessZero, named, takenOf, moves}
+use Rattle.rules.specs.Columns.{collectedNumbers}
 use Rattle.rules.specs.declared.Item.{Item}
 use Rattle.rules.specs.declared.BaseAttribute.{BaseAttribute}
 use Rattle.rules.specs.declared.DogmaEffect.{DogmaEffect}
@@ -26,7 +29,7 @@ use Rattle.rules.specs.declared.Pass2Effect.{Pass2Effect}
 use Rattle.rules.specs.declared.ProjectedBuff.{ProjectedBuff}
 use Rattle.rules.proofs.Verdicts.{objects-good}
 use Rattle.info.specs.Sound.{SoundFit}
-use Rattle.hits.specs.Who.{Narrow}
+use Rattle.hits.specs.Who.{Pointing, Narrow}
 use Rattle.hits.proofs.Narrow.{signed-narrow, cut-narrow}
 use Rattle.hits.proofs.Rows.{pointing}
 use Rattle.hits.proofs.Sheets.{numbered, char-inside}
@@ -127,3 +130,8 @@ module _ (book fit : List ℕ) (pairs : List (List ℕ)) where
     -- row j of list 1
     pub bounded-at : (j : ℕ) (d : Pass2Effect) → j < length (takenOf (moves (bookOf book pairs) (fitOf fit pairs))) → Bounded (length (fitOf fit pairs .objects)) (getD (takenOf (moves (bookOf book pairs) (fitOf fit pairs))) j d)
     bounded-at j d h = each-at (Bounded (length (f .objects))) (moves k f) each-bounded j d h
+
+    -- its numbers, laid over a column
+    pub row-points : (c : List (List ℕ)) (j : ℕ) (d : Pass2Effect) → j < length (takenOf (moves (bookOf book pairs) (fitOf fit pairs))) → Pointing (getD (laid collectedNumbers (takenOf (moves (bookOf book pairs) (fitOf fit pairs))) c) j []) (length (fitOf fit pairs .objects))
+    row-points c j d h =
+        subst (λ (r : List ℕ). Pointing r (length (f .objects))) (sym (laid-row collectedNumbers (takenOf (moves k f)) c j d [] h)) (bounded-at j d h .pointing)
