@@ -3,7 +3,7 @@ use Prim.Native.Nat.{ℕ, _+_, _≤_, _<_, _^_}
 use native.Mathlib.Omega.{arith}
 use mathlib.Core.Path.{_≡_, refl, sym, ap, subst, _∙_}
 use mathlib.Core.Bool.{Bool, not, _&&_, cond}
-use mathlib.Core.List.{List, [], _∷_, map}
+use mathlib.Core.List.{List, [], _∷_, _++_, map}
 use mathlib.Core.Option.{Option, none, some}
 use lib.Dec.{eqb}
 use lib.Ieee.{Float}
@@ -27,24 +27,16 @@ use Rattle.entries.specs.Laying.{entriesOf}
 use Rattle.entries.specs.Parts.{hitsTo, Parts, Parting, rowsTo, ListsLaid, AllLaid}
 use Rattle.entries.proofs.RowOf.{objects-long, bases-ascend}
 use Rattle.dispatch.specs.Keyed.{isRow}
-use Rattle.dispatch.specs.Whole.{Collection, Collecting, full, Held}
+use Rattle.dispatch.specs.Whole.{Collection, Collecting, full}
 use Rattle.dispatch.proofs.Parted.{bases-narrow, as-effects, partOf, parts-of, parting-of, rows-are, full-rows, full-not, full-list}
 
 -- list 1, cut to its effects
 pub cut-listing : {n : ℕ} {c : List (List ℕ)} {v : List Float} {objects : ℕ} → Collecting n c v objects → Listing (take n c) (take n v) objects
 cut-listing C = record { effects = C .effects; listed = as-effects (C .collection) }
 
--- the columns hold the rows: the entries stand in front
-held : {rs : List Row} {r₀ r : List (List ℕ)} {b₀ b : List Float} {e₀ e : List (List ℕ)} {v₀ v : List Float} → ListsLaid rs r₀ r b₀ b e₀ e v₀ v → Held rs r₀ r b₀ b e v₀ v
-held {rs} {e₀ = e₀} L =
-    record {
-      rows = L .rows;
-      bases = L .bases;
-      entries =
-          ap (take (length (entriesOf rs))) (L .entries .is)
-          ∙ take-at (map entryNumbers (entriesOf rs)) (drop (length (entriesOf rs)) e₀) (length (entriesOf rs)) (length-map (entriesOf rs) entryNumbers);
-      values = L .values;
-    }
+-- a column whose end was kept holds the rows in what it was before
+col-kept : {R B : Type 0} (enc : R → B) (rs : List R) {c₀ c₁ c : List B} → drop (length rs) c₁ ≡ drop (length rs) c₀ → length c₁ ≡ length c₀ → Col enc rs c₁ c → Col enc rs c₀ c
+col-kept {R} {B} enc rs e l K = record { is = K .is ∙ ap (λ (t : List B). map enc rs ++ t) e; long = K .long ∙ l }
 
 module _ (k : Book) (fit : List ℕ) (pairs : List (List ℕ)) (S : SoundFit fit pairs) (es : List Pass2Effect) (room3 : ℕ) where
   abbrev objects : ℕ
@@ -59,7 +51,7 @@ module _ (k : Book) (fit : List ℕ) (pairs : List (List ℕ)) (S : SoundFit fit
   few : objects ≤ 1024
   few = omega (arith, S .held .objects .few)
 
-  module _ {entries : List (List ℕ)} {ends past : List ℕ} {used : ℕ} (G : Segmented es hs room3 objects entries ends past used) where
+  module _ {entries₀ entries : List (List ℕ)} {ends past : List ℕ} {used : ℕ} (G : Segmented es hs room3 objects entries₀ entries ends past used) where
     pub ending-parts : Parts parts objects entries ends
     ending-parts = parts-of k (fitOf fit pairs) objects (objects-long fit pairs) (numbered fit pairs) (bases-ascend fit pairs S) es room3 G few
 
@@ -90,15 +82,19 @@ module _ (k : Book) (fit : List ℕ) (pairs : List (List ℕ)) (S : SoundFit fit
             let over : room3 < length hs = rw (G .count) at h in
             full-list k (fitOf fit pairs) objects (objects-long fit pairs) (numbered fit pairs) (bases-ascend fit pairs S) es room3 (bases-narrow fit pairs) (C .held .narrow) room based over m l (X .0) (X .1) (X .3 .rows) (G .left over) q
 
-        pub ending-done : used ≤ room3 → (full room room3 k (fitOf fit pairs) es ≡ none) × (m ≡ length (rows k (fitOf fit pairs) es)) × (used ≡ length (entriesOf (rows k (fitOf fit pairs) es)))
-            × Held (rows k (fitOf fit pairs) es) rows₀ rows′ bases₀ bases′ entries′ values₀ values′
-        ending-done h =
+        pub ending-done : length entries ≡ length entries₀ → used ≤ room3 → (full room room3 k (fitOf fit pairs) es ≡ none) × (m ≡ length (rows k (fitOf fit pairs) es)) × (used ≡ length (entriesOf (rows k (fitOf fit pairs) es)))
+            × ListsLaid (rows k (fitOf fit pairs) es) rows₀ rows′ bases₀ bases′ entries₀ entries′ values₀ values′
+        ending-done z h =
             let X = answer (Rows m) e in
             let l : length hs ≤ room3 = rw (G .count) at h in
             let same : all ≡ rows k (fitOf fit pairs) es = rows-are k (fitOf fit pairs) objects (objects-long fit pairs) (numbered fit pairs) (bases-ascend fit pairs S) es room3 l in
-            let hits : hitsTo parts objects ≡ used = parts-length k (fitOf fit pairs) (numbered fit pairs) es objects room3 (objects-long fit pairs) ∙ ap length (take-all room3 hs l) ∙ sym (G .count) in (
+            let count : length (entriesOf all) ≡ length (take room3 hs) = X .2 ∙ parts-length k (fitOf fit pairs) (numbered fit pairs) es objects room3 (objects-long fit pairs) in
+            let hits : hitsTo parts objects ≡ used = parts-length k (fitOf fit pairs) (numbered fit pairs) es objects room3 (objects-long fit pairs) ∙ ap length (take-all room3 hs l) ∙ sym (G .count) in
+            let ends-kept : drop (length (entriesOf all)) entries ≡ drop (length (entriesOf all)) entries₀ =
+            ap (λ (x : ℕ). drop x entries) count ∙ G .kept ∙ sym (ap (λ (x : ℕ). drop x entries₀) count) in (
               full-not k (fitOf fit pairs) objects (objects-long fit pairs) (numbered fit pairs) (bases-ascend fit pairs S) es room3 room based (X .1) l,
               X .0 ∙ ap length same,
               sym (ap (λ (x : List Row). length (entriesOf x)) (sym same) ∙ X .2 ∙ hits),
-              subst (λ (x : List Row). Held x rows₀ rows′ bases₀ bases′ entries′ values₀ values′) same (held (X .3)),
+              subst (λ (x : List Row). ListsLaid x rows₀ rows′ bases₀ bases′ entries₀ entries′ values₀ values′) same
+                  (record { rows = X .3 .rows; bases = X .3 .bases; entries = col-kept entryNumbers (entriesOf all) ends-kept z (X .3 .entries); values = X .3 .values }),
             )

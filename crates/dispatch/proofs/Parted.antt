@@ -130,7 +130,7 @@ module _ (k : Book) (f : Fit) (objects : ℕ) (long : length (f .objects) ≡ ob
 
   -- ---- the parts
 
-  module _ {entries : List (List ℕ)} {ends past : List ℕ} {used : ℕ} (S : Segmented es hs room3 objects entries ends past used) (few : objects ≤ 1024) where
+  module _ {entries₀ entries : List (List ℕ)} {ends past : List ℕ} {used : ℕ} (S : Segmented es hs room3 objects entries₀ entries ends past used) (few : objects ≤ 1024) where
     pub parts-of : Parts partOf objects entries ends
     parts-of = record { placed = parts-placed k f number es objects room3 long S; ended = parts-ended k f number es objects room3 long S few }
 

@@ -1,18 +1,17 @@
 -- What dispatch gives: the definition's rows and entries, or the list that is full first. Definitions only.
 use Prim.Native.Nat.{ℕ, _≤_, _<_}
 use mathlib.Core.Path.{_≡_}
-use mathlib.Core.List.{List, [], map}
+use mathlib.Core.List.{List, []}
 use mathlib.Core.Option.{Option, none, some}
 use lib.Ieee.{Float}
-use lib.ListN.{length, getD, take}
-use Rattle.laws.specs.Columns.{Col}
+use lib.ListN.{length, getD}
 use Rattle.rules.specs.Sheet.{Book, Fit}
-use Rattle.rules.specs.Dispatch.{Row, baseKeys, hitKeys, fullAt, rows}
-use Rattle.rules.specs.Columns.{originValue, rowsNumbers, entryNumbers}
+use Rattle.rules.specs.Dispatch.{baseKeys, hitKeys, fullAt, rows}
 use Rattle.rules.specs.declared.Pass2Effect.{Pass2Effect}
 use Rattle.hits.specs.Who.{Pointing, Narrow}
 use Rattle.rows.specs.Entries.{effectAt, Collected}
 use Rattle.entries.specs.Laying.{entriesOf}
+use Rattle.entries.specs.Parts.{ListsLaid}
 use Rattle.dispatch.specs.declared.Dispatched.{Dispatched}
 use Rattle.dispatch.specs.declared.Dispatched.the-variants.{Lists, Full}
 
@@ -34,15 +33,8 @@ pub record Collecting (n : ℕ) (c : List (List ℕ)) (v : List Float) (objects 
 abbrev pub full : ℕ → ℕ → Book → Fit → List Pass2Effect → Option ℕ
 full room2 room3 k f es = fullAt room2 room3 (baseKeys f) (length (baseKeys f)) 0 (hitKeys k f es)
 
--- the columns of lists 2 and 3 hold the rows rs and their entries; behind the entries' numbers anything may stand
-pub record Held (rs : List Row) (r₀ r : List (List ℕ)) (b₀ b : List Float) (e : List (List ℕ)) (v₀ v : List Float) : Type 0 where
-  pub rows : Col (λ r. r) (rowsNumbers 0 0 rs []) r₀ r
-  pub bases : Col (λ r. r .base) rs b₀ b
-  pub entries : take (length (entriesOf rs)) e ≡ map entryNumbers (entriesOf rs)
-  pub values : Col (λ x. originValue (x .origin)) (entriesOf rs) v₀ v
-
 -- the columns of lists 2 and 3 hold the definition's rows and entries, counted; or a list is full
-abbrev pub Given : Dispatched → ℕ → ℕ → Book → Fit → List Pass2Effect → List (List ℕ) → List (List ℕ) → List Float → List Float → List (List ℕ) → List Float → List Float → Type 0
-Given (Lists a b) room2 room3 k f es r₀ r b₀ b′ e v₀ v =
-    (full room2 room3 k f es ≡ none) × (a ≡ length (rows k f es)) × (b ≡ length (entriesOf (rows k f es))) × Held (rows k f es) r₀ r b₀ b′ e v₀ v
-Given (Full l) room2 room3 k f es r₀ r b₀ b′ e v₀ v = full room2 room3 k f es ≡ some l
+abbrev pub Given : Dispatched → ℕ → ℕ → Book → Fit → List Pass2Effect → List (List ℕ) → List (List ℕ) → List Float → List Float → List (List ℕ) → List (List ℕ) → List Float → List Float → Type 0
+Given (Lists a b) room2 room3 k f es r₀ r b₀ b′ e₀ e v₀ v =
+    (full room2 room3 k f es ≡ none) × (a ≡ length (rows k f es)) × (b ≡ length (entriesOf (rows k f es))) × ListsLaid (rows k f es) r₀ r b₀ b′ e₀ e v₀ v
+Given (Full l) room2 room3 k f es r₀ r b₀ b′ e₀ e v₀ v = full room2 room3 k f es ≡ some l

@@ -42,7 +42,7 @@ pub fn dispatch(
     requires { ⌜ Collecting n (now collected) (now «collected_values») (countOf (now pairs) 6) ⌝ }
     requires { ⌜ (room ≤ length (now rows)) × (room ≤ length (now bases)) × (length (baseKeys (fitOf (now fit) (now pairs))) ≤ room) ⌝ }
     requires { ⌜ («room_entries» ≤ length (now entries)) × («room_entries» ≤ length (now values)) × (n < 2 ^ 32) × («room_entries» < 2 ^ 32) ⌝ }
-    ensures { λ r. ⌜ ((es : List Pass2Effect) → Collection es n (now (collected .entry)) (now («collected_values» .entry)) (countOf (now (pairs .entry)) 6) → Given r room «room_entries» (bookOf (now (book .entry)) (now (pairs .entry))) (fitOf (now (fit .entry)) (now (pairs .entry))) es (now (rows .entry)) (now (rows .exit)) (now (bases .entry)) (now (bases .exit)) (now (entries .exit)) (now (values .entry)) (now (values .exit))) ⌝ }
+    ensures { λ r. ⌜ ((es : List Pass2Effect) → Collection es n (now (collected .entry)) (now («collected_values» .entry)) (countOf (now (pairs .entry)) 6) → Given r room «room_entries» (bookOf (now (book .entry)) (now (pairs .entry))) (fitOf (now (fit .entry)) (now (pairs .entry))) es (now (rows .entry)) (now (rows .exit)) (now (bases .entry)) (now (bases .exit)) (now (entries .entry)) (now (entries .exit)) (now (values .entry)) (now (values .exit))) ⌝ }
 {
     let mut ends = [0u32; 1024];
     let mut past = [0u32; 2];
