@@ -16,8 +16,8 @@ use Rattle.rules.specs.Item.{noItem}
 use Rattle.rules.specs.Dispatch.{Key, baseKeys}
 use Rattle.rules.specs.declared.Item.{Item}
 use Rattle.info.specs.Sound.{SoundFit, Nth}
+use Rattle.info.proofs.Elements.{objects-length}
 use Rattle.rows.proofs.Sounds.{bases-inside}
-use Rattle.entries.proofs.RowOf.{objects-long}
 
 abbrev keysOf : Fit → Item → List Key
 keysOf f o = map (λ r. record { object = o .number; id = r .«attribute_id» }) (basesOf f o)
@@ -32,12 +32,12 @@ module _ (b : List ℕ) (pairs : List (List ℕ)) (S : SoundFit b pairs) where
       let f = fitOf b pairs in
       let own : length (basesOf f o) ≡ o .attributes = span-length (o .«first_attribute») (o .attributes) (f .bases) (bases-inside b pairs S i h o e (o .«first_attribute») (o .attributes) refl refl) in
       let long : length (keysOf f o) ≡ m = length-map (basesOf f o) (λ r. record { object = o .number; id = r .«attribute_id» }) ∙ own ∙ sym a in
-      let next : keysTo f (i + 1) ≡ keysTo f i ++ keysOf f o = flat-next (keysOf f) (f .objects) i noItem (rw (objects-long b pairs) h) ∙ ap (λ (x : Item). keysTo f i ++ keysOf f x) (sym (e noItem)) in
+      let next : keysTo f (i + 1) ≡ keysTo f i ++ keysOf f o = flat-next (keysOf f) (f .objects) i noItem (rw (objects-length b pairs) h) ∙ ap (λ (x : Item). keysTo f i ++ keysOf f x) (sym (e noItem)) in
       omega (arith, s, long, ap length next, length-append (keysTo f i) (keysOf f o))
 
   pub base-all : (i : ℕ) → countOf pairs 6 ≤ i → (t : ℕ) → t ≡ length (keysTo (fitOf b pairs) i) → t ≡ length (baseKeys (fitOf b pairs))
   unfolding baseKeys
-  base-all i h t s = s ∙ ap (λ (l : List Item). length (flat (keysOf (fitOf b pairs)) l)) (take-all i (fitOf b pairs .objects) (rw (objects-long b pairs) h))
+  base-all i h t s = s ∙ ap (λ (l : List Item). length (flat (keysOf (fitOf b pairs)) l)) (take-all i (fitOf b pairs .objects) (rw (objects-length b pairs) h))
 
 -- ---- a scan
 

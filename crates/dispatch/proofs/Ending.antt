@@ -17,6 +17,7 @@ use Rattle.rules.specs.Dispatch.{Row, baseKeys, rows}
 use Rattle.rules.specs.Columns.{entryNumbers}
 use Rattle.rules.specs.declared.Pass2Effect.{Pass2Effect}
 use Rattle.info.specs.Sound.{SoundFit}
+use Rattle.info.proofs.Elements.{objects-length}
 use Rattle.hits.proofs.Sheets.{numbered}
 use Rattle.segments.specs.Strikes.{Strike, arrivals, Segmented}
 use Rattle.segments.proofs.Cutting.{parts-length}
@@ -25,7 +26,7 @@ use Rattle.rows.specs.declared.rows.Laid.the-variants.{Rows, Full}
 use Rattle.entries.specs.Effects.{Listing}
 use Rattle.entries.specs.Laying.{entriesOf}
 use Rattle.entries.specs.Parts.{hitsTo, Parts, Parting, rowsTo, ListsLaid, AllLaid}
-use Rattle.entries.proofs.RowOf.{objects-long, bases-ascend}
+use Rattle.entries.proofs.RowOf.{bases-ascend}
 use Rattle.dispatch.specs.Keyed.{isRow}
 use Rattle.dispatch.specs.Whole.{Collection, Collecting, full}
 use Rattle.dispatch.proofs.Parted.{bases-narrow, as-effects, partOf, parts-of, parting-of, rows-are, full-rows, full-not, full-list}
@@ -43,7 +44,7 @@ module _ (k : Book) (fit : List ℕ) (pairs : List (List ℕ)) (S : SoundFit fit
   objects = countOf pairs 6
 
   abbrev pub parts : ℕ → List ℕ
-  parts = partOf k (fitOf fit pairs) objects (objects-long fit pairs) (numbered fit pairs) (bases-ascend fit pairs S) es room3
+  parts = partOf k (fitOf fit pairs) objects (objects-length fit pairs) (numbered fit pairs) (bases-ascend fit pairs S) es room3
 
   abbrev hs : List Strike
   hs = arrivals k (fitOf fit pairs) 0 es
@@ -53,10 +54,10 @@ module _ (k : Book) (fit : List ℕ) (pairs : List (List ℕ)) (S : SoundFit fit
 
   module _ {entries₀ entries : List (List ℕ)} {ends past : List ℕ} {used : ℕ} (G : Segmented es hs room3 objects entries₀ entries ends past used) where
     pub ending-parts : Parts parts objects entries ends
-    ending-parts = parts-of k (fitOf fit pairs) objects (objects-long fit pairs) (numbered fit pairs) (bases-ascend fit pairs S) es room3 G few
+    ending-parts = parts-of k (fitOf fit pairs) objects (objects-length fit pairs) (numbered fit pairs) (bases-ascend fit pairs S) es room3 G few
 
     pub ending-parting : {n : ℕ} {c : List (List ℕ)} {v values : List Float} → Collection es n c v objects → room3 ≤ length entries → room3 ≤ length values → room3 < 2 ^ 32 → Parting objects entries values ends (take n c)
-    ending-parting C p q r = parting-of k (fitOf fit pairs) objects (objects-long fit pairs) (numbered fit pairs) (bases-ascend fit pairs S) es room3 G few C p q r
+    ending-parting C p q r = parting-of k (fitOf fit pairs) objects (objects-length fit pairs) (numbered fit pairs) (bases-ascend fit pairs S) es room3 G few C p q r
 
     abbrev all : List Row
     all = rowsTo k (fitOf fit pairs) es parts objects
@@ -67,7 +68,7 @@ module _ (k : Book) (fit : List ℕ) (pairs : List (List ℕ)) (S : SoundFit fit
       answer q e = subst (λ (x : Laid). AllLaid x room (hitsTo parts objects) all rows₀ rows′ bases₀ bases′ entries entries′ values₀ values′) e A
 
       pub ending-full : r ≡ Full → full room room3 k (fitOf fit pairs) es ≡ some 2
-      ending-full e = full-rows k (fitOf fit pairs) objects (objects-long fit pairs) (numbered fit pairs) (bases-ascend fit pairs S) es room3 room based (answer Full e)
+      ending-full e = full-rows k (fitOf fit pairs) objects (objects-length fit pairs) (numbered fit pairs) (bases-ascend fit pairs S) es room3 room based (answer Full e)
 
       module _ {m : ℕ} (e : r ≡ Rows m) where
         pub ending-inside : room ≤ length rows₀ → length rows′ ≡ length rows₀ → m ≤ length rows′
@@ -80,19 +81,19 @@ module _ (k : Book) (fit : List ℕ) (pairs : List (List ℕ)) (S : SoundFit fit
         ending-past C h l q =
             let X = answer (Rows m) e in
             let over : room3 < length hs = rw (G .count) at h in
-            full-list k (fitOf fit pairs) objects (objects-long fit pairs) (numbered fit pairs) (bases-ascend fit pairs S) es room3 (bases-narrow fit pairs) (C .held .narrow) room based over m l (X .0) (X .1) (X .3 .rows) (G .left over) q
+            full-list k (fitOf fit pairs) objects (objects-length fit pairs) (numbered fit pairs) (bases-ascend fit pairs S) es room3 (bases-narrow fit pairs) (C .held .narrow) room based over m l (X .0) (X .1) (X .3 .rows) (G .left over) q
 
         pub ending-done : length entries ≡ length entries₀ → used ≤ room3 → (full room room3 k (fitOf fit pairs) es ≡ none) × (m ≡ length (rows k (fitOf fit pairs) es)) × (used ≡ length (entriesOf (rows k (fitOf fit pairs) es)))
             × ListsLaid (rows k (fitOf fit pairs) es) rows₀ rows′ bases₀ bases′ entries₀ entries′ values₀ values′
         ending-done z h =
             let X = answer (Rows m) e in
             let l : length hs ≤ room3 = rw (G .count) at h in
-            let same : all ≡ rows k (fitOf fit pairs) es = rows-are k (fitOf fit pairs) objects (objects-long fit pairs) (numbered fit pairs) (bases-ascend fit pairs S) es room3 l in
-            let count : length (entriesOf all) ≡ length (take room3 hs) = X .2 ∙ parts-length k (fitOf fit pairs) (numbered fit pairs) es objects room3 (objects-long fit pairs) in
-            let hits : hitsTo parts objects ≡ used = parts-length k (fitOf fit pairs) (numbered fit pairs) es objects room3 (objects-long fit pairs) ∙ ap length (take-all room3 hs l) ∙ sym (G .count) in
+            let same : all ≡ rows k (fitOf fit pairs) es = rows-are k (fitOf fit pairs) objects (objects-length fit pairs) (numbered fit pairs) (bases-ascend fit pairs S) es room3 l in
+            let count : length (entriesOf all) ≡ length (take room3 hs) = X .2 ∙ parts-length k (fitOf fit pairs) (numbered fit pairs) es objects room3 (objects-length fit pairs) in
+            let hits : hitsTo parts objects ≡ used = parts-length k (fitOf fit pairs) (numbered fit pairs) es objects room3 (objects-length fit pairs) ∙ ap length (take-all room3 hs l) ∙ sym (G .count) in
             let ends-kept : drop (length (entriesOf all)) entries ≡ drop (length (entriesOf all)) entries₀ =
             ap (λ (x : ℕ). drop x entries) count ∙ G .kept ∙ sym (ap (λ (x : ℕ). drop x entries₀) count) in (
-              full-not k (fitOf fit pairs) objects (objects-long fit pairs) (numbered fit pairs) (bases-ascend fit pairs S) es room3 room based (X .1) l,
+              full-not k (fitOf fit pairs) objects (objects-length fit pairs) (numbered fit pairs) (bases-ascend fit pairs S) es room3 room based (X .1) l,
               X .0 ∙ ap length same,
               sym (ap (λ (x : List Row). length (entriesOf x)) (sym same) ∙ X .2 ∙ hits),
               subst (λ (x : List Row). ListsLaid x rows₀ rows′ bases₀ bases′ entries₀ entries′ values₀ values′) same

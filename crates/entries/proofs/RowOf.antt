@@ -6,7 +6,7 @@ use mathlib.Core.Bool.{Bool, true, false, not, _&&_, _||_, cond}
 use mathlib.Core.List.{List, map}
 use lib.Dec.{eqb}
 use lib.IntN.{ℤ, pos}
-use lib.ListN.{length, getD}
+use lib.ListN.{getD}
 use mir.Syntax.{w32}
 use mir.Val.{SFits, ofZ, toZ}
 use mir.Facts.{toZ-ofZ}
@@ -14,7 +14,7 @@ use Rattle.laws.specs.Lists.{eqZ, some?, ascends}
 use Rattle.laws.proofs.Bools.{or-none-right, and-false-right, and-true-right}
 use Rattle.rules.specs.Bytes.{countOf}
 use Rattle.rules.specs.Constants.{exemptCategories}
-use Rattle.rules.specs.Sheet.{Book, Fit, fitOf, objectFrom, basesOf}
+use Rattle.rules.specs.Sheet.{Book, Fit, fitOf, basesOf}
 use Rattle.rules.specs.Info.{getDogmaAttribute, stackable}
 use Rattle.rules.specs.Item.{object}
 use Rattle.rules.specs.Dispatch.{sourceCategory, isSource, entry}
@@ -25,7 +25,7 @@ use Rattle.rules.specs.declared.Pass2Effect.{Pass2Effect}
 use Rattle.rules.specs.declared.Origin.{Origin}
 use Rattle.rules.specs.declared.Origin.the-variants as origin
 use Rattle.info.specs.Sound.{SoundFit}
-use Rattle.rules.proofs.Tables.{table-length}
+use Rattle.info.proofs.Elements.{objects-length}
 use Rattle.hits.proofs.Sheets.{numbered, sized}
 use Rattle.hits.proofs.Rows.{origin-at, source-at}
 use Rattle.rows.specs.Entries.{exemptBits, entryRow}
@@ -111,16 +111,12 @@ quantity-entry k f o t n q e h = h ∙ ap (λ (m : ℕ). cond (isSource (t .orig
 
 -- an object's number is its place
 module _ (b : List ℕ) (pairs : List (List ℕ)) where
-  pub objects-long : length (fitOf b pairs .objects) ≡ countOf pairs 6
-  unfolding fitOf
-  objects-long = table-length objectFrom 6 b pairs
-
   pub object-number : (i : ℕ) → i < countOf pairs 6 → object (fitOf b pairs) i .number ≡ i
-  object-number i h = numbered b pairs i (rw objects-long h)
+  object-number i h = numbered b pairs i (rw (objects-length b pairs) h)
 
   -- its base attributes ascend
   pub bases-ascend : SoundFit b pairs → (i : ℕ) → i < countOf pairs 6 → ascends (map (λ r. r .«attribute_id») (basesOf (fitOf b pairs) (object (fitOf b pairs) i))) ≡ true
-  bases-ascend S i h = sized b pairs (S .good) .bases i (rw objects-long h)
+  bases-ascend S i h = sized b pairs (S .good) .bases i (rw (objects-length b pairs) h)
 
 -- the whole row, whose penalty is a number
 pub entry-written : (k : Book) (f : Fit) (o : Item) (t : Pass2Effect) (c : List ℕ) (p : Bool) (x q : ℕ) → c ≡ collectedNumbers t → x ≡ yes1 p → p ≡ entry k f o t .penalty → q ≡ entry k f o t .quantity → entryRow c x q ≡ entryNumbers (entry k f o t)
