@@ -1,0 +1,31 @@
+-- How the memory may change: a row that is started keeps its value and its source rows, but for the row that is calculated. Definitions only.
+use Prim.Native.Nat.{ℕ}
+use mathlib.Core.Path.{_≡_}
+use mathlib.Core.List.{List}
+use mathlib.Core.Option.{Option, none, some}
+use lib.Ieee.{Float}
+use lib.IntN.{ℤ}
+use lib.ListN.{length, getD}
+use Rattle.rules.specs.Answer.{Res, ok}
+use Rattle.rules.specs.Value.{Mem, Read, Reader, ownSources}
+
+abbrev pub valueAt : Mem → ℕ → Option Float
+valueAt m j = getD (m .values) j none
+
+-- what is started stays as it is
+pub record Grows (m m′ : Mem) : Type 0 where
+  pub values : length (m′ .values) ≡ length (m .values)
+  pub sources : length (m′ .sources) ≡ length (m .sources)
+  pub value : (j : ℕ) (v : Float) → valueAt m j ≡ some v → valueAt m′ j ≡ some v
+  pub own : (j : ℕ) (v : Float) → valueAt m j ≡ some v → ownSources j m′ ≡ ownSources j m
+
+-- the same, but for the source rows of row i
+pub record GrowsBut (i : ℕ) (m m′ : Mem) : Type 0 where
+  pub values : length (m′ .values) ≡ length (m .values)
+  pub sources : length (m′ .sources) ≡ length (m .sources)
+  pub value : (j : ℕ) (v : Float) → valueAt m j ≡ some v → valueAt m′ j ≡ some v
+  pub own : (j : ℕ) (v : Float) → (j ≡ i → ⊥) → valueAt m j ≡ some v → ownSources j m′ ≡ ownSources j m
+
+-- a reader under which the memory grows
+abbrev pub Growing : Reader → Type 0
+Growing read = (o : ℕ) (a : ℤ) (m : Mem) (q : Read) → read o a m ≡ ok q → Grows m (q .mem)

@@ -1,0 +1,5 @@
+pub mod Results
+pub mod Showing
+pub mod Noting
+pub mod Copying
+pub mod Written

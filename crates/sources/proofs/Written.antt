@@ -1,0 +1,41 @@
+-- The numbers of a source row.
+use Prim.Native.Nat.{ℕ, _<_, _^_}
+use mathlib.Core.Path.{_≡_, refl, ap, _∙_}
+use mathlib.Core.List.{List, [], _∷_, _++_}
+use lib.IntN.{ℤ}
+use lib.ListN.{getD}
+use lib.Signed.{mag}
+use mir.Syntax.{w32}
+use mir.Val.{toZ, ofZ}
+use mir.ValLaws.{toZ-ofZ}
+use Rattle.rules.specs.Columns.{yes1, fromNumbers, optionalNumbers, sourceNumbers}
+use Rattle.rules.specs.Codes.{operatorCode}
+use Rattle.rules.specs.declared.Source.{Source}
+use Rattle.rules.specs.declared.SourceRef.{SourceRef}
+use Rattle.rules.specs.declared.SourceRef.the-variants.{Object, Buff}
+use Rattle.rules.specs.declared.OptionalId.{OptionalId}
+use Rattle.rules.specs.declared.OptionalId.the-variants.{Absent, Given}
+
+-- a signed number as a variable holds it
+pub stored : (x : ℤ) → mag x < 2 ^ 31 → ofZ w32 (toZ w32 (ofZ w32 x)) ≡ ofZ w32 x
+stored x h = ap (ofZ w32) (toZ-ofZ w32 x (record { sfits = h }))
+
+abbrev pair : List ℕ → List ℕ
+pair l = getD l 0 0 ∷ getD l 1 0 ∷ []
+
+from-pair : (s : SourceRef) → pair (fromNumbers s) ≡ fromNumbers s
+from-pair (Object o) = refl
+from-pair (Buff b) = refl
+
+optional-pair : (o : OptionalId) → pair (optionalNumbers o) ≡ optionalNumbers o
+optional-pair Absent = refl
+optional-pair (Given a) = refl
+
+pub row : (s : Source) {a b c : List ℕ} {k p q : ℕ} → a ≡ fromNumbers (s .«from») → b ≡ optionalNumbers (s .«effect_id») → c ≡ optionalNumbers (s .«source_attribute_id»)
+    → k ≡ operatorCode (s .operator) → p ≡ yes1 (s .penalised) → q ≡ yes1 (s .applied)
+    → pair a ++ pair b ++ pair c ++ (k ∷ s .quantity ∷ p ∷ q ∷ []) ≡ sourceNumbers s
+row s e f g h i j =
+    let rest : List ℕ = operatorCode (s .operator) ∷ s .quantity ∷ yes1 (s .penalised) ∷ yes1 (s .applied) ∷ [] in
+    rw (e, f, g, h, i, j) (ap (λ (l : List ℕ). l ++ pair (optionalNumbers (s .«effect_id»)) ++ pair (optionalNumbers (s .«source_attribute_id»)) ++ rest) (from-pair (s .«from»))
+    ∙ ap (λ (l : List ℕ). fromNumbers (s .«from») ++ l ++ pair (optionalNumbers (s .«source_attribute_id»)) ++ rest) (optional-pair (s .«effect_id»))
+    ∙ ap (λ (l : List ℕ). fromNumbers (s .«from») ++ optionalNumbers (s .«effect_id») ++ l ++ rest) (optional-pair (s .«source_attribute_id»)))

@@ -1,0 +1,162 @@
+// A source row by value, and its numbers.
+use super::Run;
+use item::codes::operator_code;
+use numbers::bits;
+use rules::Effect;
+use rules::OptionalId;
+use rules::Origin;
+use rules::Source;
+use rules::SourceRef;
+ghost use mathlib.Core.Path.{_≡_};
+ghost use mathlib.Core.List.{[], _∷_};
+ghost use Prim.Native.Nat.{_≤_};
+ghost use lib.ListN.{length};
+ghost use Rattle.rules.specs.Columns.{yes1, fromNumbers, optionalNumbers, sourceNumbers, sourceFloats};
+ghost use Rattle.rules.specs.Value.{fromOf, effectIdOf, sourceAttributeIdOf, toSource};
+ghost use Rattle.sources.specs.Shown.{placed};
+
+fn flag(b: bool) -> u32
+    ensures { λ r. ⌜ r ≡ yes1 b ⌝ }
+{
+    if b {
+        return 1;
+    }
+    0
+}
+
+fn from_numbers(s: SourceRef) -> [u32; 2]
+    ensures { λ r. ⌜ r ≡ fromNumbers s ⌝ }
+{
+    match s {
+        SourceRef::Object { number } => [0, number],
+        SourceRef::Buff { id } => [1, bits(id)],
+    }
+}
+
+fn optional_numbers(o: OptionalId) -> [u32; 2]
+    ensures { λ r. ⌜ r ≡ optionalNumbers o ⌝ }
+{
+    match o {
+        OptionalId::Absent => [0, 0],
+        OptionalId::Given(id) => [1, bits(id)],
+    }
+}
+
+fn source_numbers(s: Source) -> [u32; 10]
+    ensures { λ r. ⌜ r ≡ sourceNumbers s ⌝ }
+{
+    let from = s.from;
+    let effect = s.effect_id;
+    let attribute = s.source_attribute_id;
+    let operator = s.operator;
+    let a = from_numbers(from);
+    let b = optional_numbers(effect);
+    let c = optional_numbers(attribute);
+    let code = operator_code(operator);
+    let penalised = flag(s.penalised);
+    let applied = flag(s.applied);
+    [
+        a[0],
+        a[1],
+        b[0],
+        b[1],
+        c[0],
+        c[1],
+        code,
+        s.quantity,
+        penalised,
+        applied,
+    ]
+}
+
+fn from_of(o: Origin) -> SourceRef
+    ensures { λ r. ⌜ r ≡ fromOf o ⌝ }
+{
+    match o {
+        Origin::Effect {
+            effect_id: _,
+            source,
+            source_category: _,
+            attribute_id: _,
+        } => SourceRef::Object { number: source },
+        Origin::Buff { buff_id, value: _ } => SourceRef::Buff { id: buff_id },
+    }
+}
+
+fn effect_id_of(o: Origin) -> OptionalId
+    ensures { λ r. ⌜ r ≡ effectIdOf o ⌝ }
+{
+    match o {
+        Origin::Effect {
+            effect_id,
+            source: _,
+            source_category: _,
+            attribute_id: _,
+        } => OptionalId::Given(effect_id),
+        Origin::Buff {
+            buff_id: _,
+            value: _,
+        } => OptionalId::Absent,
+    }
+}
+
+fn source_attribute_id_of(o: Origin) -> OptionalId
+    ensures { λ r. ⌜ r ≡ sourceAttributeIdOf o ⌝ }
+{
+    match o {
+        Origin::Effect {
+            effect_id: _,
+            source: _,
+            source_category: _,
+            attribute_id,
+        } => OptionalId::Given(attribute_id),
+        Origin::Buff {
+            buff_id: _,
+            value: _,
+        } => OptionalId::Absent,
+    }
+}
+
+// v is the strength after resistance and before it is simplified.
+pub fn to_source(e: Effect, v: f64, applied: bool, quantity: u32, penalised: bool) -> Source
+    ensures { λ r. ⌜ r ≡ toSource e v applied quantity penalised ⌝ }
+{
+    let origin = e.origin;
+    let operator = e.operator;
+    let from = from_of(origin);
+    let effect_id = effect_id_of(origin);
+    let source_attribute_id = source_attribute_id_of(origin);
+    Source {
+        from,
+        effect_id,
+        source_attribute_id,
+        operator,
+        value: v,
+        quantity,
+        penalised,
+        penalty: 0.0,
+        applied,
+    }
+}
+
+// A source row goes to its place; what lies past the room is not written.
+pub fn put_source(
+    sources: &mut [[u32; 10]],
+    floats: &mut [[f64; 2]],
+    run: Run,
+    place: usize,
+    s: Source,
+)
+    requires { ⌜ run .room ≤ length (now sources) ⌝ }
+    requires { ⌜ run .room ≤ length (now floats) ⌝ }
+    ensures { λ _. ⌜ now (sources .exit) ≡ placed (run .room) place (sourceNumbers s) (now (sources .entry)) ⌝ }
+    ensures { λ _. ⌜ now (floats .exit) ≡ placed (run .room) place (sourceFloats s) (now (floats .entry)) ⌝ }
+{
+    let room = run.room as usize;
+    if place < room {
+        let row = source_numbers(s);
+        let pair = [s.value, s.penalty];
+        sources[place] = row;
+        floats[place] = pair;
+    }
+}
