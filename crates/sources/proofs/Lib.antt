@@ -3,3 +3,6 @@ pub mod Showing
 pub mod Noting
 pub mod Copying
 pub mod Written
+pub mod Marking
+pub mod Changing
+pub mod Planning

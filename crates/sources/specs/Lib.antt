@@ -1,2 +1,4 @@
 pub mod Shown
 pub mod Keeping
+pub mod Marks
+pub mod Planned

@@ -13,5 +13,6 @@ pub enum Noted {
     Refused(Refusal),
 }
 
+pub mod marks;
 pub mod notes;
 pub mod rows;

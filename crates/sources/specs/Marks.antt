@@ -1,0 +1,32 @@
+-- Source rows that wait for their penalties, and where a penalty goes. Definitions only.
+use Prim.Native.Nat.{ℕ, _<_}
+use mathlib.Core.Path.{_≡_}
+use mathlib.Core.Bool.{true, cond}
+use mathlib.Core.List.{List, [], _∷_}
+use lib.Ieee.{Float, nan}
+use lib.ListN.{length, getD}
+use Rattle.laws.specs.Floats.{zeroF}
+use Rattle.rules.specs.Operate.{Copy}
+use Rattle.rules.specs.Value.{noSource}
+use Rattle.rules.specs.declared.Source.{Source}
+use Rattle.sources.specs.declared.Run.{Run}
+use Rattle.sources.specs.Shown.{placed}
+
+-- a penalised source row whose penalty is not set yet
+pub record Waits (r : Source) : Type 0 where
+  pub penalised : r .penalised ≡ true
+  pub penalty : r .penalty ≡ zeroF
+
+-- k is the source of none of the copies
+pub data Away : ℕ → List Copy → Type 0 where
+  nowhere : {k : ℕ} → Away k []
+  away : {k : ℕ} {x : Copy} {l : List Copy} → (x .source ≡ k → ⊥) → Away k l → Away k (x ∷ l)
+
+-- each copy has a source row among own, which waits, and no two copies have the same
+pub data Fresh : List Source → List Copy → Type 0 where
+  empty : {own : List Source} → Fresh own []
+  fresh : {own : List Source} {x : Copy} {l : List Copy} → x .source < length own → Waits (getD own (x .source) noSource) → Away (x .source) l → Fresh own l → Fresh own (x ∷ l)
+
+-- a penalty at place p, if that is in the room and source rows are recorded; the value beside it stays
+abbrev pub penaltyAt : Run → ℕ → Float → List (List Float) → List (List Float)
+penaltyAt run p x f = cond (run .recording) (placed (run .room) p (getD (getD f p []) 0 nan ∷ x ∷ []) f) f
