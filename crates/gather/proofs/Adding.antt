@@ -44,16 +44,16 @@ module _ (w : World) (i : ℕ) (row : Row) (e : Effect) (v x : Float) (g : Gathe
       ∙ by (notes w i row (min (e .quantity) 8) (toSource e v true 1 true) (g .mem))
     where
       rest : Gathered → Res Gathered
-      rest f = elim (e .quantity - 8) [ | zero ↦ ok f | suc n ↦ (note w i row (toSource e v true (suc n) true) (f .mem) >>= λ m. ok (record { mem = m; values = f .values })) ]
+      rest f = elim (e .quantity - 8) [ zero ↦ ok f | suc n ↦ (note w i row (toSource e v true (suc n) true) (f .mem) >>= λ m. ok (record { mem = m; values = f .values })) ]
 
       one : (k : ℕ) (m : Mem)
-          → (elim k [ | zero ↦ ok (record { mem = m; values = copied }) | suc n ↦ (note w i row (toSource e v true (suc n) true) m >>= λ m′. ok (record { mem = m′; values = copied })) ])
-          ≡ _>>=_ {A = Mem} {B = Gathered} (elim k [ | zero ↦ ok m | suc n ↦ note w i row (toSource e v true (suc n) true) m ]) (λ m′. ok (record { mem = m′; values = copied }))
+          → (elim k [ zero ↦ ok (record { mem = m; values = copied }) | suc n ↦ (note w i row (toSource e v true (suc n) true) m >>= λ m′. ok (record { mem = m′; values = copied })) ])
+          ≡ _>>=_ {A = Mem} {B = Gathered} (elim k [ zero ↦ ok m | suc n ↦ note w i row (toSource e v true (suc n) true) m ]) (λ m′. ok (record { mem = m′; values = copied }))
       one zero m = refl
       one (suc n) m = refl
 
       by : (y : Res Mem) → ((y >>= λ m. ok (record { mem = m; values = copied })) >>= rest)
-          ≡ ((y >>= λ m. elim (e .quantity - 8) [ | zero ↦ ok m | suc n ↦ note w i row (toSource e v true (suc n) true) m ]) >>= λ m. ok (record { mem = m; values = copied }))
+          ≡ ((y >>= λ m. elim (e .quantity - 8) [ zero ↦ ok m | suc n ↦ note w i row (toSource e v true (suc n) true) m ]) >>= λ m. ok (record { mem = m; values = copied }))
       by (refused z) = refl
       by (ok m) = one (e .quantity - 8) m
 
@@ -80,12 +80,15 @@ module _ (w : World) (counts : List ℕ) (s₀ : List (List ℕ)) (f₀ : List (
         → PiledAs counts (w .room) s₀ f₀ i high op found (penalised w i row e v x g) r s′ f′
     penalised-goes own used r q n a b c d m o₁ u₁ t₁ r₁ p₁ n₁ =
         let t = went counts (w .room) s₀ f₀ i s′ f′ (penalisedNotes w i row e v (g .mem)) n in
-        rw (penalised-split w i row e v x g inside, t .is) (t₁ ∙ b ∙ a, record {
-          keeping = rw (o₁, u₁) (t .keeping);
-          running = rw (r₁, c, same-plain (lt x zeroF) (copiesFrom x (length (ownSources i (g .mem))) (yes1 (w .recording)) (min (e .quantity) 8)) (g .values)) (k .running);
-          positive = rw (p₁, sym (k .keeping .mine)) d;
-          negative = rw (n₁, sym (k .keeping .mine)) m;
-        })
+        rw (penalised-split w i row e v x g inside, t .is) (
+          t₁ ∙ b ∙ a,
+          record {
+            keeping = rw (o₁, u₁) (t .keeping);
+            running = rw (r₁, c, same-plain (lt x zeroF) (copiesFrom x (length (ownSources i (g .mem))) (yes1 (w .recording)) (min (e .quantity) 8)) (g .values)) (k .running);
+            positive = rw (p₁, sym (k .keeping .mine)) d;
+            negative = rw (n₁, sym (k .keeping .mine)) m;
+          },
+        )
 
   -- a source row, and values that the pile then holds
   module _ (r : Source) (vs : Values) where

@@ -80,7 +80,7 @@ module _ (i : ℕ) where
         after : Mem
         after = record { values = m .values; sources = set (m .sources) i (ownSources i m ++ (r ∷ [])); used = suc (m .used) }
 
-        by : (t u : Bool) → (elim t [ | false ↦ ok m | true ↦ elim u [ | false ↦ refused (Room 5) | true ↦ ok after ] ]) ≡ ok m′ → GrowsBut i m m′
+        by : (t u : Bool) → (elim t [ false ↦ ok m | true ↦ elim u [ false ↦ refused (Room 5) | true ↦ ok after ] ]) ≡ ok m′ → GrowsBut i m m′
         by false u e = subst (GrowsBut i m) (got e) (but-same m)
         by true true e = subst (GrowsBut i m) (got e) (own-but m (ownSources i m ++ (r ∷ [])) (suc (m .used)))
         by true false e = absurd (apart e)
@@ -99,7 +99,7 @@ module _ (i : ℕ) where
         but-on (copies-grows (min (e .quantity) 8) (toSource e v true 1 true) x g (t .given) (t .first)) (by (e .quantity - 8) (t .given) (t .rest))
       where
         by : (n : ℕ) (f : Gathered)
-            → (elim n [ | zero ↦ ok f | suc k ↦ (note w i row (toSource e v true (suc k) true) (f .mem) >>= λ m. ok (record { mem = m; values = f .values })) ]) ≡ ok h → GrowsBut i (f .mem) (h .mem)
+            → (elim n [ zero ↦ ok f | suc k ↦ (note w i row (toSource e v true (suc k) true) (f .mem) >>= λ m. ok (record { mem = m; values = f .values })) ]) ≡ ok h → GrowsBut i (f .mem) (h .mem)
         by zero f q = subst (λ (y : Gathered). GrowsBut i (f .mem) (y .mem)) (got q) (but-same (f .mem))
         by (suc k) f q =
             let t = then (note w i row (toSource e v true (suc k) true) (f .mem)) _ h q in
@@ -115,7 +115,7 @@ module _ (i : ℕ) where
     unfolding contribute
     contribute-grows e v g h p = let t = then (numberAt (row .object) (simplified (e .operator) v)) _ h p in by (e .penalty && hasPenalty (e .operator)) (t .given) (t .rest)
       where
-        by : (b : Bool) (x : Float) → (elim b [ | true ↦ penalised w i row e v x g | false ↦ unpenalised w i row e v x g ]) ≡ ok h → GrowsBut i (g .mem) (h .mem)
+        by : (b : Bool) (x : Float) → (elim b [ true ↦ penalised w i row e v x g | false ↦ unpenalised w i row e v x g ]) ≡ ok h → GrowsBut i (g .mem) (h .mem)
         by true x q = penalised-grows e v x g h q
         by false x q = unpenalised-grows e v x g h q
 
@@ -166,7 +166,7 @@ module _ (i : ℕ) where
       gather-grows op [] g h p = subst (λ (y : Gathered). GrowsBut i (g .mem) (y .mem)) (got p) (but-same (g .mem))
       gather-grows op (e ∷ r) g h p = by (λ f q. gather-grows op r f h q) (sameOperator (e .operator) op) p
         where
-          by : ((f : Gathered) → gather w i row read op r f ≡ ok h → GrowsBut i (f .mem) (h .mem)) → (t : Bool) → (elim t [ | false ↦ gather w i row read op r g | true ↦ (gatherFrom w i row read e (e .origin) g >>= λ f. gather w i row read op r f) ]) ≡ ok h → GrowsBut i (g .mem) (h .mem)
+          by : ((f : Gathered) → gather w i row read op r f ≡ ok h → GrowsBut i (f .mem) (h .mem)) → (t : Bool) → (elim t [ false ↦ gather w i row read op r g | true ↦ (gatherFrom w i row read e (e .origin) g >>= λ f. gather w i row read op r f) ]) ≡ ok h → GrowsBut i (g .mem) (h .mem)
           by rest false q = rest g q
           by rest true q =
               let t = then (gatherFrom w i row read e (e .origin) g) _ h q in
@@ -185,7 +185,7 @@ module _ (i : ℕ) where
       unfolding clamped
       clamped-grows o clamp a r q = by (eqZ a (pos 0))
         where
-          by : (t : Bool) → (elim t [ | true ↦ ok r | false ↦ (read o a (r .mem) >>= λ x. ok (record { value = clamp (r .value) (x .value); mem = x .mem })) ]) ≡ ok q → Grows (r .mem) (q .mem)
+          by : (t : Bool) → (elim t [ true ↦ ok r | false ↦ (read o a (r .mem) >>= λ x. ok (record { value = clamp (r .value) (x .value); mem = x .mem })) ]) ≡ ok q → Grows (r .mem) (q .mem)
           by true e = subst (λ (y : Read). Grows (r .mem) (y .mem)) (got e) (grows-same (r .mem))
           by false e =
               let t = then (read o a (r .mem)) _ q e in
@@ -219,7 +219,7 @@ module _ (i : ℕ) (w : World) (row : Row) (read : Reader) (growing : Growing re
       let x = then (clamped (row .object) read atMost (getDogmaAttribute (w .book) (row .id) .«max_attribute_id») (u .given)) _ q (u .rest) in
       let g = operate-grows i w row read growing operators (record { value = b; mem = setValue i b m }) (t .given) (t .first) in
       let h = grows-on (clamped-grows i w row read growing (row .object) atLeast (getDogmaAttribute (w .book) (row .id) .«min_attribute_id») (t .given) (u .given) (u .first))
-        (clamped-grows i w row read growing (row .object) atMost (getDogmaAttribute (w .book) (row .id) .«max_attribute_id») (u .given) (x .given) (x .first)) in
+      (clamped-grows i w row read growing (row .object) atMost (getDogmaAttribute (w .book) (row .id) .«max_attribute_id») (u .given) (x .given) (x .first)) in
       subst (λ (y : Read). Grows m (y .mem)) (got (x .rest)) (whole b (x .given .value) (but-on i g (but-of i h)))
     where
       whole : (b v : Float) {m′ : Mem} → GrowsBut i (setValue i b m) m′ → Grows m (setValue i v m′)
@@ -237,14 +237,14 @@ pub read-grows : (w : World) (start : ℕ → Row → Mem → Res Read) → ((i 
 unfolding calculatedValue
 read-grows w start h o a m q = by (findRow o a 0 (w .rows))
   where
-    known : (f : Found) (v : Option Float) → valueAt m (f .index) ≡ v → (elim v [ | some x ↦ ok (record { value = x; mem = m }) | none ↦ start (f .index) (f .row) m ]) ≡ ok q → Grows m (q .mem)
+    known : (f : Found) (v : Option Float) → valueAt m (f .index) ≡ v → (elim v [ some x ↦ ok (record { value = x; mem = m }) | none ↦ start (f .index) (f .row) m ]) ≡ ok q → Grows m (q .mem)
     known f (some x) p e = subst (λ (y : Read). Grows m (y .mem)) (got e) (grows-same m)
     known f none p e = h (f .index) (f .row) m q p e
 
     by : (f : Option Found)
         → (elim f [
           | none ↦ ok (record { value = getDogmaAttribute (w .book) a .«default_value»; mem = m })
-          | some x ↦ elim (getD (m .values) (x .index) none) [ | some v ↦ ok (record { value = v; mem = m }) | none ↦ start (x .index) (x .row) m ]
+          | some x ↦ elim (getD (m .values) (x .index) none) [ some v ↦ ok (record { value = v; mem = m }) | none ↦ start (x .index) (x .row) m ]
         ]) ≡ ok q → Grows m (q .mem)
     by none e = subst (λ (y : Read). Grows m (y .mem)) (got e) (grows-same m)
     by (some f) e = known f (valueAt m (f .index)) refl e

@@ -1,8 +1,19 @@
-// The crate's definitions are in specs/, its laws in proofs/. A crate has a function.
+// Values: an attribute's value from its base and its entries, with the memory of those already valued (pass_3.rs).
 ghost use mathlib.Core.Path.{_≡_};
+ghost use mathlib.Core.List.{_++_};
+ghost use Prim.Native.Nat.{_≤_};
+ghost use lib.Ieee.{nan};
+ghost use lib.ListN.{length, replicate, drop};
 
-pub fn nothing() -> u32
-    ensures { λ r. ⌜ r ≡ 0 ⌝ }
+// No value is there yet: the first n are NaN.
+pub fn unstarted(values: &mut [f64], n: usize)
+    requires { ⌜ n ≤ length (now values) ⌝ }
+    ensures { λ _. ⌜ now (values .exit) ≡ replicate n nan ++ drop n (now (values .entry)) ⌝ }
 {
-    0
+    let none = 0.0 / 0.0;
+    let mut k: usize = 0;
+    while k < n {
+        values[k] = none;
+        k += 1;
+    }
 }
