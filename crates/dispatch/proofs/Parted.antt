@@ -19,8 +19,8 @@ use Rattle.laws.specs.Columns.{laid, Col}
 use Rattle.laws.specs.Floats.{zeroF}
 use Rattle.laws.proofs.Bools.{and-left, and-right}
 use Rattle.laws.proofs.Maps.{map-same, map-map, map-take, map-at, map-itself}
-use Rattle.laws.proofs.Keep.{keep-map}
-use Rattle.laws.proofs.Every.{every-at, every-by, every-map, every-weaker, some-map, some-flat}
+use Rattle.laws.proofs.Keep.{keep-map, every-kept}
+use Rattle.laws.proofs.Every.{every-at, every-by, every-map, every-weaker, every-take, every-drop, some-map, some-flat}
 use Rattle.laws.proofs.Flat.{total, flat-map, flat-length}
 use Rattle.laws.proofs.From.{table-of, table-same}
 use Rattle.laws.proofs.Order.{eqZ-sym}
@@ -44,8 +44,7 @@ use Rattle.rows.proofs.Defined.{rows-defined}
 use Rattle.rows.proofs.Bounds.{narrow-fits, fits-narrow}
 use Rattle.entries.specs.Effects.{Effects}
 use Rattle.entries.specs.Parts.{hitsTo, Parts, Parting, partRows, rowsTo}
-use Rattle.entries.proofs.Owned.{every-kept, numbers-length}
-use Rattle.entries.proofs.Together.{every-take, every-drop}
+use Rattle.entries.proofs.Owned.{numbers-length}
 use Rattle.dispatch.specs.Keyed.{isRow}
 use Rattle.dispatch.specs.Whole.{Collection, Collecting, full}
 use Rattle.dispatch.proofs.Rooms.{after, atPast, verdict-rows, verdict-none, verdict-past, full-verdict}
@@ -226,7 +225,7 @@ module _ (k : Book) (f : Fit) (objects : ℕ) (long : length (f .objects) ≡ ob
         every-map narrow? (λ t. t .«target_attribute_id») (map (effectAt es) (partOf i)) ∙ every-map (λ t. narrow? (t .«target_attribute_id»)) (effectAt es) (partOf i)
         ∙ every-weaker (λ j. ltb j (length es)) (λ j. narrow? (effectAt es j .«target_attribute_id»)) (λ j p. fits-narrow (effectAt es j .«target_attribute_id») (held j (ltb-true j (length es) p))) (partOf i)
         (every-map (λ j. ltb j (length es)) (λ h. h .effect) (keep (λ h. eqb (h .object) i) got)
-        ∙ every-kept (λ h. eqb (h .object) i) (λ h. ltb (h .effect) (length es)) got (every-take (λ h. ltb (h .effect) (length es)) room3 hs listed))
+        ∙ every-kept (λ h. ltb (h .effect) (length es)) (λ h. eqb (h .object) i) got (every-take (λ h. ltb (h .effect) (length es)) room3 hs listed))
       where
         listed : every? (λ h. ltb (h .effect) (length es)) hs ≡ true
         listed = arrivals-listed k f (length es) 0 es (omega arith)

@@ -2,7 +2,7 @@
 use Prim.Native.Nat.{ℕ, suc, _+_, _≤_, _<_, _^_}
 use native.Mathlib.Omega.{arith}
 use mathlib.Core.Path.{_≡_, refl, sym, ap, subst, _∙_}
-use mathlib.Core.Bool.{Bool, true, false}
+use mathlib.Core.Bool.{Bool, true}
 use mathlib.Core.List.{List, [], _∷_, _++_, map}
 use lib.Dec.{ltb}
 use lib.IntN.{ℤ}
@@ -10,11 +10,12 @@ use lib.Ieee.{Float}
 use lib.ListN.{length, getD, take, drop, length-map}
 use lib.Seq.{take-at, length-take-le}
 use borrow.Author.Tests.{ltb-true, lt-ltb}
-use Rattle.laws.specs.Lists.{eqZ, keep, put, flat, every?, ascends, insertAll}
+use Rattle.laws.specs.Lists.{eqZ, keep, flat, every?, ascends, insertAll}
 use Rattle.laws.specs.Columns.{laid, Col}
-use Rattle.laws.proofs.Bools.{and-left, and-right, and-both}
+use Rattle.laws.proofs.Bools.{and-both}
 use Rattle.laws.proofs.Maps.{map-same, map-map, map-at, map-itself}
 use Rattle.laws.proofs.Every.{every-at, every-by, every-map, every-flat}
+use Rattle.laws.proofs.Keep.{every-kept}
 use Rattle.laws.proofs.Flat.{total, flat-same, flat-map, map-flat}
 use Rattle.laws.proofs.Laid.{laid-length, drop-laid}
 use Rattle.rules.specs.Bytes.{bits}
@@ -33,15 +34,6 @@ use Rattle.rows.proofs.Begins.{tallied-counted, spreading, begun-keys}
 use Rattle.rows.proofs.Tallied.{tallied-is}
 use Rattle.entries.specs.Effects.{Effects, Taken, entryOf, valueOf}
 use Rattle.entries.specs.Laying.{Tallied, entriesOf, EntriesLaid, RowsLaid}
-
--- what holds of all holds of those that are kept
-pub every-kept : {A : Type 0} (p q : A → Bool) (xs : List A) → every? q xs ≡ true → every? q (keep p xs) ≡ true
-every-kept p q [] h = refl
-every-kept {A} p q (x ∷ xs) h = one (p x) (every-kept p q xs (and-right (q x) (every? q xs) h))
-  where
-    one : (t : Bool) → every? q (keep p xs) ≡ true → every? q (put t x (keep p xs)) ≡ true
-    one true i = and-both (and-left (q x) (every? q xs) h) i
-    one false i = i
 
 pub numbers-length : (e : ℕ) (rs : List Row) → length (rowsNumbers e 0 rs []) ≡ length rs
 numbers-length e [] = refl
@@ -89,7 +81,7 @@ module _ (k : Book) (f : Fit) (o : Item) (i : ℕ) (segment c : List (List ℕ))
     hits-below = every-by (λ x. below (hitNumber x)) segment [] (λ j h. lt-ltb (hitNumber (getD segment j [])) (length c) (N j h))
 
     row-below : (a : ℤ) → every? below (map hitNumber (hitsAt c segment a)) ≡ true
-    row-below a = every-map below hitNumber (hitsAt c segment a) ∙ every-kept (λ x. eqZ (hitId c x) a) (λ x. below (hitNumber x)) segment hits-below
+    row-below a = every-map below hitNumber (hitsAt c segment a) ∙ every-kept (λ x. below (hitNumber x)) (λ x. eqZ (hitId c x) a) segment hits-below
 
     all-below : (xs : List ℤ) → every? below (spreadOver c segment xs) ≡ true
     all-below xs = every-flat below (λ a. map hitNumber (hitsAt c segment a)) xs ∙ every xs

@@ -12,9 +12,8 @@ use lib.Seq.{length-take-le, length-front, drop-append-le, drop-length, take-tak
 use borrow.Author.Tests.{ltb-true}
 use Rattle.laws.specs.Lists.{every?, flat, span, from}
 use Rattle.laws.specs.Columns.{laid, Col}
-use Rattle.laws.proofs.Bools.{and-left, and-right, and-both}
 use Rattle.laws.proofs.Maps.{map-map, map-at, map-take}
-use Rattle.laws.proofs.Every.{every-at}
+use Rattle.laws.proofs.Every.{every-at, every-take, every-drop}
 use Rattle.laws.proofs.Flat.{flat-append}
 use Rattle.laws.proofs.From.{from-length, from-append, from-at, from-take, flat-from-next}
 use Rattle.laws.proofs.Spans.{span-length, span-at, span-map}
@@ -92,16 +91,6 @@ take-drop-front (suc e) (suc n) (x ∷ xs) h = take-drop-front e n xs (le-of-suc
   where
     less : n - e ≡ suc n - suc e
     less = omega arith
-
-pub every-take : {A : Type 0} (p : A → Bool) (n : ℕ) (xs : List A) → every? p xs ≡ true → every? p (take n xs) ≡ true
-every-take p zero xs h = refl
-every-take p (suc n) [] h = refl
-every-take p (suc n) (x ∷ xs) h = and-both (and-left (p x) (every? p xs) h) (every-take p n xs (and-right (p x) (every? p xs) h))
-
-pub every-drop : {A : Type 0} (p : A → Bool) (n : ℕ) (xs : List A) → every? p xs ≡ true → every? p (drop n xs) ≡ true
-every-drop p zero xs h = h
-every-drop p (suc n) [] h = refl
-every-drop p (suc n) (x ∷ xs) h = every-drop p n xs (and-right (p x) (every? p xs) h)
 
 -- a span of a front
 span-front : {A : Type 0} (e m n : ℕ) (xs : List A) → e + m ≤ n → span e m (take n xs) ≡ span e m xs

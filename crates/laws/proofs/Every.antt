@@ -5,7 +5,7 @@ use Prim.Native.Nat.{suc-le-suc, zero-le}
 use mathlib.Core.Path.{_≡_, refl, sym, ap, _∙_}
 use mathlib.Core.Bool.{Bool, true, false, not, _&&_, _||_}
 use mathlib.Core.List.{List, [], _∷_, _++_, map}
-use lib.ListN.{length, take, getD}
+use lib.ListN.{length, take, drop, getD}
 use Rattle.laws.specs.Lists.{some?, every?, flat}
 use Rattle.laws.proofs.Bools.{and-left, and-right, and-both, and-assoc, and-true-right, or-false-left, or-false-right, or-assoc, or-none-right, or-true-right, both-ways, not-passed}
 use Rattle.laws.proofs.Maps.{take-next}
@@ -77,6 +77,17 @@ module _ {A : Type 0} (p : A → Bool) where
   pub some-place : (xs : List A) (d : A) → some? p xs ≡ true → Place xs d
   some-place [] d e = both-ways {t = false} e refl
   some-place (x ∷ xs) d e = some-or (p x) x xs d refl (some-place xs d) e
+
+  -- a part of a list
+  pub every-take : (n : ℕ) (xs : List A) → every? p xs ≡ true → every? p (take n xs) ≡ true
+  every-take zero xs e = refl
+  every-take (suc n) [] e = refl
+  every-take (suc n) (x ∷ xs) e = and-both (and-left (p x) (every? p xs) e) (every-take n xs (and-right (p x) (every? p xs) e))
+
+  pub every-drop : (n : ℕ) (xs : List A) → every? p xs ≡ true → every? p (drop n xs) ≡ true
+  every-drop zero xs e = e
+  every-drop (suc n) [] e = refl
+  every-drop (suc n) (x ∷ xs) e = every-drop n xs (and-right (p x) (every? p xs) e)
 
   not-or : (s t : Bool) → not s && not t ≡ not (s || t)
   not-or true t = refl

@@ -61,6 +61,15 @@ module _ {A : Type 0} where
     every-keep [] = refl
     every-keep (x ∷ xs) = put-every (p x) x (keep p xs) refl (every-keep xs)
 
+  -- what holds of all holds of those that are kept
+  put-holds : (p : A → Bool) (t : Bool) (x : A) (xs : List A) → p x ≡ true → every? p xs ≡ true → every? p (put t x xs) ≡ true
+  put-holds p true x xs e h = rw (e, h)
+  put-holds p false x xs e h = h
+
+  pub every-kept : (p q : A → Bool) (xs : List A) → every? p xs ≡ true → every? p (keep q xs) ≡ true
+  every-kept p q [] h = refl
+  every-kept p q (x ∷ xs) h = put-holds p (q x) x (keep q xs) (and-left (p x) (every? p xs) h) (every-kept p q xs (and-right (p x) (every? p xs) h))
+
   -- tests that agree keep the same
   pub keep-same : (p q : A → Bool) → ((x : A) → p x ≡ q x) → (xs : List A) → keep p xs ≡ keep q xs
   keep-same p q e [] = refl
