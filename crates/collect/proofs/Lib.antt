@@ -4,4 +4,3 @@ pub mod Turns
 pub mod Own
 pub mod Phases
 pub mod Whole
-pub mod Bounds

@@ -7,6 +7,3 @@ pub mod Loops
 pub mod Gives
 pub mod Inside
 pub mod Resists
-pub mod Taking
-pub mod Comes
-pub mod Pointed

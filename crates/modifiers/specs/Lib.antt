@@ -1,3 +1,2 @@
 pub mod Ran
 pub mod Causes
-pub mod Takes

@@ -36,11 +36,11 @@ use Rattle.hits.proofs.Sheets.{numbered, char-inside}
 use Rattle.modifiers.specs.declared.Cause.{Cause}
 use Rattle.modifiers.specs.declared.Cause.the-variants as cause
 use Rattle.modifiers.specs.Causes.{resistanceOf}
-use Rattle.modifiers.specs.Takes.{Each, Goes, Member, Caused, Collects, originOf, metBy}
-use Rattle.modifiers.proofs.Taking.{each-weaker, each-at, func-goes, func-of}
-use Rattle.modifiers.proofs.Pointed.{target-in, source-in}
-use Rattle.modifiers.proofs.Comes.{each-collects, effect-read, modifier-read, buff-read}
-use Rattle.collect.specs.Bounded.{NarrowOrigin, NarrowOptional, Bounded}
+use Rattle.collected.specs.Takes.{Each, Goes, Member, Caused, Collects, originOf, metBy}
+use Rattle.collected.proofs.Taking.{each-weaker, each-at, func-goes, func-of}
+use Rattle.collected.proofs.Pointed.{target-in, source-in}
+use Rattle.collected.proofs.Comes.{each-collects, effect-read, modifier-read, buff-read}
+use Rattle.collected.specs.Bounded.{NarrowOrigin, NarrowOptional, Bounded}
 
 -- ---- ids
 

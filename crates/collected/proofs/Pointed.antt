@@ -15,10 +15,10 @@ use Rattle.rules.specs.declared.DogmaModifier.{DogmaModifier}
 use Rattle.rules.specs.declared.Item.{Item}
 use Rattle.rules.specs.declared.Pass2Effect.{Pass2Effect}
 use Rattle.rules.specs.declared.Refusal.the-variants.{Domain, Other}
 use Rattle.modifiers.specs.declared.Cause.{Cause}
 use Rattle.modifiers.specs.declared.Cause.the-variants as cause
-use Rattle.modifiers.specs.Takes.{Goes, Of, Member, Caused, Collects, originOf}
-use Rattle.modifiers.proofs.Taking.{goes-if, goes-cond}
+use Rattle.collected.specs.Takes.{Goes, Of, Member, Caused, Collects, originOf}
+use Rattle.collected.proofs.Taking.{goes-if, goes-cond}
 
 -- past the last object there is no charge
 charge-there : (xs : List Item) (i : ℕ) → isCharge (getD xs i noItem) ≡ true → i < length xs

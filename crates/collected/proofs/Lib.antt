@@ -1,0 +1,4 @@
+pub mod Taking
+pub mod Comes
+pub mod Pointed
+pub mod Bounds
