@@ -5,8 +5,8 @@ use native.Mathlib.Numerals.{add-one}
 use native.Mathlib.Omega.{arith}
 use mathlib.Core.Path.{_≡_, refl, sym, ap, _∙_}
 use mathlib.Core.List.{List, [], _∷_, _++_}
-use lib.ListN.{length, set, take, length-set}
-use lib.Seq.{sets, sets-eq, take-append-seam}
+use lib.ListN.{length, set, take, length-append}
+use lib.Seq.{sets, sets-eq, length-sets, take-append-seam}
 use Rattle.listing.specs.Put.{Put, put, puts}
 
 pub puts-append : (xs ys : List ℕ) (s : Put) → puts (xs ++ ys) s ≡ puts ys (puts xs s)
@@ -17,6 +17,13 @@ puts-append (x ∷ xs) ys (put at out) = puts-append xs ys (put (at + 1) (set ou
 -- the second text from where the first ended
 pub after : (xs ys : List ℕ) (s : Put) {t u : Put} → t ≡ puts xs s → u ≡ puts ys t → u ≡ puts (xs ++ ys) s
 after xs ys s e f = f ∙ ap (puts ys) e ∙ sym (puts-append xs ys s)
+
+-- another name of the text
+pub renamed : {xs ys : List ℕ} (s : Put) {t : Put} → xs ≡ ys → t ≡ puts xs s → t ≡ puts ys s
+renamed s e f = f ∙ ap (λ (l : List ℕ). puts l s) e
+
+pub room-renamed : {xs ys : List ℕ} (at n : ℕ) → xs ≡ ys → at + length ys ≤ n → at + length xs ≤ n
+room-renamed at n e h = rw e h
 
 abbrev pub placeOf : Put → ℕ
 placeOf (put at out) = at
@@ -39,6 +46,20 @@ module _ (xs : List ℕ) (at : ℕ) (out : List ℕ) {r : ℕ} {now : List ℕ} 
 
   pub becomes : now ≡ sets out at xs
   becomes = ap textOf (e ∙ puts-sets xs at out)
+
+-- room for a text and the next is room for the next, once the first stands
+module _ (xs ys : List ℕ) (at : ℕ) (out : List ℕ) (h : at + length (xs ++ ys) ≤ length out) where
+  pub room : at + length xs ≤ length out
+  room = let e = length-append xs ys in omega (arith, e, h)
+
+  pub room-after : {r : ℕ} {now : List ℕ} → put r now ≡ puts xs (put at out) → r + length ys ≤ length now
+  room-after e =
+      let k = length-append xs ys in
+      let l = ap length (becomes xs at out e) ∙ length-sets out at xs in
+      omega (arith, ends xs at out e, k, l, h)
+
+pub room-byte : (x : ℕ) (ys : List ℕ) (at n : ℕ) → at + length (x ∷ ys) ≤ n → at < n
+room-byte x ys at n h = omega (arith, h)
 
 -- a text put from the front stands there
 pub stands : (xs out : List ℕ) {r : ℕ} {now : List ℕ} → length xs ≤ length out → put r now ≡ puts xs (put 0 out) → take r now ≡ xs
