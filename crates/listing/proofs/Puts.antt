@@ -5,8 +5,9 @@ use native.Mathlib.Numerals.{add-one}
 use native.Mathlib.Omega.{arith}
 use mathlib.Core.Path.{_≡_, refl, sym, ap, _∙_}
 use mathlib.Core.List.{List, [], _∷_, _++_}
-use lib.ListN.{length, set, take, length-append}
-use lib.Seq.{sets, sets-eq, length-sets, take-append-seam}
+use lib.ListN.{length, set, take, getD, length-append}
+use lib.Seq.{sets, sets-eq, length-sets, take-append-seam, take-all}
+use Rattle.laws.proofs.Maps.{take-next}
 use Rattle.listing.specs.Put.{Put, put, puts}
 
 pub puts-append : (xs ys : List ℕ) (s : Put) → puts (xs ++ ys) s ≡ puts ys (puts xs s)
@@ -47,6 +48,9 @@ module _ (xs : List ℕ) (at : ℕ) (out : List ℕ) {r : ℕ} {now : List ℕ} 
   pub becomes : now ≡ sets out at xs
   becomes = ap textOf (e ∙ puts-sets xs at out)
 
+  pub as-long : length now ≡ length out
+  as-long = ap length becomes ∙ length-sets out at xs
+
 -- room for a text and the next is room for the next, once the first stands
 module _ (xs ys : List ℕ) (at : ℕ) (out : List ℕ) (h : at + length (xs ++ ys) ≤ length out) where
   pub room : at + length xs ≤ length out
@@ -55,11 +59,28 @@ module _ (xs ys : List ℕ) (at : ℕ) (out : List ℕ) (h : at + length (xs ++ 
   pub room-after : {r : ℕ} {now : List ℕ} → put r now ≡ puts xs (put at out) → r + length ys ≤ length now
   room-after e =
       let k = length-append xs ys in
-      let l = ap length (becomes xs at out e) ∙ length-sets out at xs in
-      omega (arith, ends xs at out e, k, l, h)
+      omega (arith, ends xs at out e, as-long xs at out e, k, h)
 
 pub room-byte : (x : ℕ) (ys : List ℕ) (at n : ℕ) → at + length (x ∷ ys) ≤ n → at < n
 room-byte x ys at n h = omega (arith, h)
+
+-- a text byte by byte: one more
+module _ (text : List ℕ) (at : ℕ) (out : List ℕ) where
+  byte-put : (i : ℕ) (now : List ℕ) (x : ℕ) → put (at + (i + 1)) (set now (at + i) x) ≡ puts (x ∷ []) (put (at + i) now)
+  unfolding puts
+  byte-put i now x = ap (λ (k : ℕ). put k (set now (at + i) x)) (omega arith)
+
+  pub put-next : (i d : ℕ) (now : List ℕ) → i < length text → put (at + i) now ≡ puts (take i text) (put at out)
+      → put (at + (i + 1)) (set now (at + i) (getD text i d)) ≡ puts (take (i + 1) text) (put at out)
+  put-next i d now h e =
+      renamed (put at out) (sym (take-next text i d h)) (after (take i text) (getD text i d ∷ []) (put at out) e (byte-put i now (getD text i d)))
+
+  pub put-all : (i : ℕ) (now : List ℕ) → length text ≤ i → put (at + i) now ≡ puts (take i text) (put at out) → put (at + i) now ≡ puts text (put at out)
+  put-all i now h e = renamed (put at out) (take-all i text h) e
+
+  pub put-none : put (at + 0) out ≡ puts (take 0 text) (put at out)
+  unfolding puts
+  put-none = ap (λ (k : ℕ). put k out) (add-zero at)
 
 -- a text put from the front stands there
 pub stands : (xs out : List ℕ) {r : ℕ} {now : List ℕ} → length xs ≤ length out → put r now ≡ puts xs (put 0 out) → take r now ≡ xs

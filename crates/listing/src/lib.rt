@@ -1,11 +1,14 @@
 // The text of a result, in pieces: each function writes at a place of a lent text and gives the place after it.
 ghost use mathlib.Core.Path.{_≡_};
+ghost use mathlib.Core.Bool.{false};
 ghost use mathlib.Core.List.{[], _∷_};
 ghost use Prim.Native.Nat.{_+_, _≤_, _<_};
 ghost use lib.ListN.{length};
-ghost use Rattle.rules.specs.Listing.{natural, integer};
+ghost use Rattle.rules.specs.Listing.{natural, integer, minusIf, decimals};
 ghost use Rattle.listing.specs.Put.{put, puts};
+ghost use Rattle.rules.specs.declared.Hundredths.the-variants.{Cut};
 use numbers::bits;
+use rules::Hundredths;
 
 // One byte.
 fn put_byte(out: &mut [u8], at: usize, x: u8) -> usize
@@ -40,4 +43,54 @@ fn put_integer(out: &mut [u8], at: usize, x: i32) -> usize
     }
     let next = put_byte(out, at, b'-');
     put_natural(out, next, 0x1_0000_0000 - pattern)
+}
+
+// A minus, where there is one.
+fn put_minus(out: &mut [u8], at: usize, minus: bool) -> usize
+    requires { ⌜ at + length (minusIf minus) ≤ length (now out) ⌝ }
+    ensures { λ r. ⌜ put r (now (out .exit)) ≡ puts (minusIf minus) (put at (now (out .entry))) ⌝ }
+{
+    if minus {
+        return put_byte(out, at, b'-');
+    }
+    at
+}
+
+// Hundredths with no minus: the whole part, and two digits behind the point.
+fn put_cut(out: &mut [u8], at: usize, count: u64) -> usize
+    requires { ⌜ at + length (decimals (Cut false count)) ≤ length (now out) ⌝ }
+    ensures { λ r. ⌜ put r (now (out .exit)) ≡ puts (decimals (Cut false count)) (put at (now (out .entry))) ⌝ }
+{
+    let point = put_natural(out, at, count / 100);
+    let tenths = put_byte(out, point, b'.');
+    let last = put_byte(out, tenths, 48 + (count / 10 % 10) as u8);
+    put_byte(out, last, 48 + (count % 10) as u8)
+}
+
+// A value's hundredths, or a star.
+fn put_hundredths(out: &mut [u8], at: usize, value: Hundredths) -> usize
+    requires { ⌜ at + length (decimals value) ≤ length (now out) ⌝ }
+    ensures { λ r. ⌜ put r (now (out .exit)) ≡ puts (decimals value) (put at (now (out .entry))) ⌝ }
+{
+    match value {
+        Hundredths::Star => put_byte(out, at, b'*'),
+        Hundredths::Cut { minus, count } => {
+            let next = put_minus(out, at, minus);
+            put_cut(out, next, count)
+        }
+    }
+}
+
+// Bytes as they are.
+fn put_text(out: &mut [u8], at: usize, text: &[u8]) -> usize
+    requires { ⌜ at + length (now text) ≤ length (now out) ⌝ }
+    ensures { λ r. ⌜ put r (now (out .exit)) ≡ puts (now (text .entry)) (put at (now (out .entry))) ⌝ }
+{
+    let mut i = 0;
+    while i < text.len() {
+        let x = text[i];
+        out[at + i] = x;
+        i += 1;
+    }
+    at + i
 }
