@@ -65,3 +65,18 @@ most (suc k) n r = go (n / 10) refl (most k (n / 10) (last n ∷ r))
 pub natural-most : (n : ℕ) → length (natural n) ≤ 20
 unfolding natural
 natural-most n = omega (arith, most 20 n [])
+
+-- a number below 10 ^ (k + 1) has k + 1 digits at most
+shorter : (j k n : ℕ) (r : List ℕ) → n < 10 ^ suc k → length (digits j n r) ≤ suc k + length r
+shorter zero k n r h = unfold digits in omega arith
+shorter (suc j) k n r h = go (n / 10) refl k h (λ i l. shorter j i (n / 10) (last n ∷ r) l)
+  where
+    go : (m : ℕ) → n / 10 ≡ m → (k : ℕ) → n < 10 ^ suc k
+        → ((i : ℕ) → n / 10 < 10 ^ suc i → length (digits j (n / 10) (last n ∷ r)) ≤ suc i + suc (length r)) → length (digits (suc j) n r) ≤ suc k + length r
+    go zero e k h ih = rw (ended j n r e) (omega arith)
+    go (suc m) e zero h ih = absurd (omega arith)
+    go (suc m) e (suc i) h ih = rw (goes-on j n m r e) (omega (arith, ih i (tenth (suc i) n h)))
+
+pub natural-short : (k n : ℕ) → n < 10 ^ suc k → length (natural n) ≤ suc k
+unfolding natural
+natural-short k n h = omega (arith, shorter 20 k n [] h)

@@ -2,3 +2,6 @@ pub mod Puts
 pub mod Digits
 pub mod Integers
 pub mod Decimals
+pub mod Texts
+pub mod Lengths
+pub mod Wholes

@@ -4,10 +4,18 @@ ghost use mathlib.Core.Bool.{false};
 ghost use mathlib.Core.List.{[], _∷_};
 ghost use Prim.Native.Nat.{_+_, _≤_, _<_};
 ghost use lib.ListN.{length};
-ghost use Rattle.rules.specs.Listing.{natural, integer, minusIf, decimals};
+ghost use Rattle.rules.specs.Listing as L;
+ghost use Rattle.rules.specs.Listing.{natural, integer, minusIf, decimals, listing};
+ghost use Rattle.rules.specs.Answer as answer;
+ghost use Rattle.rules.specs.Answer.{refused};
+ghost use Rattle.rules.specs.Dispatch.{Row};
 ghost use Rattle.listing.specs.Put.{put, puts};
 ghost use Rattle.rules.specs.declared.Hundredths.the-variants.{Cut};
+ghost use Rattle.rules.specs.declared.Refusal.{Refusal};
+ghost use Rattle.rules.specs.declared.Answer.the-variants.{Refused};
+ghost use Rattle.listing.specs.Pieces.{longest, headOf};
 use numbers::bits;
+use numbers::in_hundredths;
 use rules::Hundredths;
 
 // One byte.
@@ -93,4 +101,40 @@ fn put_text(out: &mut [u8], at: usize, text: &[u8]) -> usize
         i += 1;
     }
     at + i
+}
+
+// The first line of a listing of so many rows.
+pub fn head(out: &mut [u8], at: usize, rows: u32) -> usize
+    requires { ⌜ at + longest ≤ length (now out) ⌝ }
+    ensures { λ r. ⌜ put r (now (out .exit)) ≡ puts (headOf rows) (put at (now (out .entry))) ⌝ }
+{
+    let count = put_text(out, at, b"rows ");
+    let end = put_natural(out, count, rows as u64);
+    put_byte(out, end, b'\n')
+}
+
+// A row's line.
+pub fn line(out: &mut [u8], at: usize, object: u32, id: i32, value: f64) -> usize
+    requires { ⌜ at + longest ≤ length (now out) ⌝ }
+    ensures { λ r. ⌜ ((row : Row) → row .object ≡ object → row .id ≡ id → put r (now (out .exit)) ≡ puts (L.line row value) (put at (now (out .entry)))) ⌝ }
+{
+    let decimals = in_hundredths(value);
+    let space = put_natural(out, at, object as u64);
+    let attribute = put_byte(out, space, b' ');
+    let space = put_integer(out, attribute, id);
+    let number = put_byte(out, space, b' ');
+    let line_end = put_hundredths(out, number, decimals);
+    put_byte(out, line_end, b'\n')
+}
+
+// The one line of a refusal.
+pub fn refusal(out: &mut [u8], at: usize, number: u32, place: u32) -> usize
+    requires { ⌜ at + longest ≤ length (now out) ⌝ }
+    ensures { λ r. ⌜ ((x : Refusal) → answer.number (Refused x) ≡ number → answer.place (Refused x) ≡ place → put r (now (out .exit)) ≡ puts (listing (refused x)) (put at (now (out .entry)))) ⌝ }
+{
+    let first = put_text(out, at, b"refused ");
+    let space = put_natural(out, first, number as u64);
+    let second = put_byte(out, space, b' ');
+    let end = put_natural(out, second, place as u64);
+    put_byte(out, end, b'\n')
 }
