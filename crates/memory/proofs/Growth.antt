@@ -31,7 +31,7 @@ use Rattle.rules.specs.declared.Origin.the-variants as origin
 use Rattle.rules.specs.declared.Refusal.{Refusal}
 use Rattle.rules.specs.declared.Refusal.the-variants.{Room, Depth}
 use Rattle.sources.proofs.Results.{apart, got, then}
-use Rattle.pass_3.specs.Memory.{valueAt, Grows, GrowsBut, Growing}
+use Rattle.memory.specs.Memory.{valueAt, Grows, GrowsBut, Growing}
 
 -- growing is kept by going on
 pub grows-same : (m : Mem) → Grows m m
