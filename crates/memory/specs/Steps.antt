@@ -1,14 +1,19 @@
 -- The steps of a calculation, each by a name of its own. Definitions only.
 use Prim.Native.Nat.{ℕ}
+use mathlib.Core.Bool.{false}
 use mathlib.Core.List.{List}
+use lib.IntN.{pos}
 use lib.Ieee.{Float}
 use lib.ListN.{getD}
+use Rattle.laws.specs.Floats.{zeroF}
 use Rattle.rules.specs.Answer.{Res, ok, _>>=_}
 use Rattle.rules.specs.Codes.{operators}
 use Rattle.rules.specs.Dispatch.{Row}
 use Rattle.rules.specs.Info.{getDogmaAttribute}
 use Rattle.rules.specs.Value.{World, Mem, Read, Reader, resisted, operate, clamped, atLeast, atMost}
 use Rattle.rules.specs.declared.Effect.{Effect}
+use Rattle.rules.specs.declared.EffectOperator.the-variants.{PreAssign}
+use Rattle.rules.specs.declared.OptionalId.the-variants.{Absent}
 use Rattle.rules.specs.declared.Origin.{Origin}
 use Rattle.rules.specs.declared.Origin.the-variants as origin
 use Rattle.reading.specs.Held.{noRow}
@@ -16,6 +21,13 @@ use Rattle.reading.specs.Held.{noRow}
 -- row i
 abbrev pub rowAt : World → ℕ → Row
 rowAt w i = getD (w .rows) i noRow
+
+-- its entry k
+abbrev pub noEntry : Effect
+noEntry = record { origin = origin.Buff (pos 0) zeroF; operator = PreAssign; penalty = false; quantity = 0; resistance = Absent }
+
+abbrev pub entryAt : World → ℕ → ℕ → Effect
+entryAt w i k = getD (rowAt w i .entries) k noEntry
 
 module _ (w : World) (read : Reader) (i : ℕ) (row : Row) where
   -- an entry's strength: it stands in the buff, or is read off its source and held against the ship's resistance

@@ -1,9 +1,49 @@
 // Values: an attribute's value from its base and its entries, with the memory of those already valued (pass_3.rs).
+// `calculate_value` and `calculated_value` call each other; each calculation that starts leaves one row fewer that is not started.
+use apply::Got;
+use apply::Part;
+use apply::apply;
+use apply::held_to;
+use gather::Pile;
+use gather::Stop;
+use gather::add_entry;
+use gather::counted;
+use gather::empty;
+use gather::stopped;
+use info::look_ups::get_dogma_attribute;
+use item::codes::operator_code;
+use numbers::product;
+use numbers::signed;
+use reading::entries::entry_at;
+use reading::entries::has_operator;
+use reading::entries::is_running;
+use reading::entries::operator_of;
+use reading::rows::Found;
+use rules::Effect;
+use rules::EffectOperator;
+use rules::OptionalId;
+use rules::Origin;
+use rules::Refusal;
+use rules::Step;
+use sources::Run;
+use stretches::find;
+use stretches::is_limited;
 ghost use mathlib.Core.Path.{_≡_};
-ghost use mathlib.Core.List.{_++_};
-ghost use Prim.Native.Nat.{_≤_};
-ghost use lib.Ieee.{nan};
+ghost use mathlib.Core.Bool.{Bool, cond};
+ghost use mathlib.Core.List.{List, [], _∷_, _++_};
+ghost use Prim.Native.Nat.{ℕ, _≤_, _<_};
+ghost use lib.Dec.{T};
+ghost use lib.Ieee.{Float, nan};
 ghost use lib.ListN.{length, replicate, drop};
+ghost use Rattle.laws.specs.Floats.{finite};
+ghost use Rattle.rules.specs.Codes.{operators};
+ghost use Rattle.rules.specs.Dispatch.{Row};
+ghost use Rattle.rules.specs.Info.{getDogmaAttribute, highIsGood};
+ghost use Rattle.rules.specs.Value.{valueOf, operate, gather, clamped};
+ghost use Rattle.rules.specs.Value as values;
+ghost use Rattle.memory.specs.Steps.{rowAt, entryAt, strengthOf, evaluation};
+ghost use Rattle.memory.specs.Holding.{tables, Good, Ready, Busy, Piling, PileMeets};
+ghost use Rattle.apply.specs.Answers.{Meets, PartMeets, heldBy};
 
 // No value is there yet: the first n are NaN.
 pub fn unstarted(values: &mut [f64], n: usize)
@@ -15,5 +55,612 @@ pub fn unstarted(values: &mut [f64], n: usize)
     while k < n {
         values[k] = none;
         k += 1;
+    }
+}
+
+// The value of an attribute of an object: its row's, or the default where it has none.
+pub fn calculated_value(
+    values: &mut [f64],
+    sources: &mut [[u32; 10]],
+    floats: &mut [[f64; 2]],
+    book: &[u8],
+    pairs: &[[u32; 2]; 10],
+    states: &[[u32; 2]; 1024],
+    stretches: &[[u32; 2]; 1024],
+    limits: &[u32; 1024],
+    rows: &[[u32; 6]],
+    bases: &[f64],
+    entries: &[[u32; 11]],
+    entry_values: &[f64],
+    run: Run,
+    object: u32,
+    attribute: i32,
+    left: u32,
+    used: u32,
+) -> Got
+    requires { ⌜ Ready (tables (now book) (now pairs) (now states) (now stretches) (now limits) (now rows) (now bases) (now entries) (now «entry_values»)) run (now values) (now sources) (now floats) used ⌝ }
+    requires { ⌜ object < 1024 ⌝ }
+    ensures { λ r. ⌜ ((h : Ready (tables (now (book .entry)) (now (pairs .entry)) (now (states .entry)) (now (stretches .entry)) (now (limits .entry)) (now (rows .entry)) (now (bases .entry)) (now (entries .entry)) (now («entry_values» .entry))) run (now (values .entry)) (now (sources .entry)) (now (floats .entry)) used) → Meets (h .world) (h .sources₀) (h .floats₀) (valueOf (h .world) left object attribute (h .mem)) r (now (values .exit)) (now (sources .exit)) (now (floats .exit))) ⌝ }
+{
+    let found = find(rows, stretches, object, attribute);
+    match found {
+        Found::At(row) => calculate_value(
+            values,
+            sources,
+            floats,
+            book,
+            pairs,
+            states,
+            stretches,
+            limits,
+            rows,
+            bases,
+            entries,
+            entry_values,
+            run,
+            row,
+            left,
+            used,
+        ),
+        Found::Nothing => {
+            let record = get_dogma_attribute(book, pairs, attribute);
+            Got::Value(record.default_value, used)
+        }
+    }
+}
+
+// The value of a row: the one in the column where the row is started or done.
+pub fn calculate_value(
+    values: &mut [f64],
+    sources: &mut [[u32; 10]],
+    floats: &mut [[f64; 2]],
+    book: &[u8],
+    pairs: &[[u32; 2]; 10],
+    states: &[[u32; 2]; 1024],
+    stretches: &[[u32; 2]; 1024],
+    limits: &[u32; 1024],
+    rows: &[[u32; 6]],
+    bases: &[f64],
+    entries: &[[u32; 11]],
+    entry_values: &[f64],
+    run: Run,
+    row: usize,
+    left: u32,
+    used: u32,
+) -> Got
+    requires { ⌜ Ready (tables (now book) (now pairs) (now states) (now stretches) (now limits) (now rows) (now bases) (now entries) (now «entry_values»)) run (now values) (now sources) (now floats) used ⌝ }
+    requires { ⌜ row < length (now rows) ⌝ }
+    ensures { λ r. ⌜ ((h : Ready (tables (now (book .entry)) (now (pairs .entry)) (now (states .entry)) (now (stretches .entry)) (now (limits .entry)) (now (rows .entry)) (now (bases .entry)) (now (entries .entry)) (now («entry_values» .entry))) run (now (values .entry)) (now (sources .entry)) (now (floats .entry)) used) → Meets (h .world) (h .sources₀) (h .floats₀) (valueOf (h .world) left (rowAt (h .world) row .object) (rowAt (h .world) row .id) (h .mem)) r (now (values .exit)) (now (sources .exit)) (now (floats .exit))) ⌝ }
+{
+    let v = values[row];
+    if v == v {
+        return Got::Value(v, used);
+    }
+    if left == 0 {
+        let object = rows[row][0];
+        return Got::Refused(Refusal::Depth(object));
+    }
+    let base = bases[row];
+    values[row] = base;
+    let got = evaluated(
+        values,
+        sources,
+        floats,
+        book,
+        pairs,
+        states,
+        stretches,
+        limits,
+        rows,
+        bases,
+        entries,
+        entry_values,
+        run,
+        row,
+        left - 1,
+        used,
+    );
+    match got {
+        Got::Value(w, u) => {
+            values[row] = w;
+            Got::Value(w, u)
+        }
+        Got::Refused(y) => Got::Refused(y),
+    }
+}
+
+// The value of a row under calculation: its operators, then min, then max.
+fn evaluated(
+    values: &mut [f64],
+    sources: &mut [[u32; 10]],
+    floats: &mut [[f64; 2]],
+    book: &[u8],
+    pairs: &[[u32; 2]; 10],
+    states: &[[u32; 2]; 1024],
+    stretches: &[[u32; 2]; 1024],
+    limits: &[u32; 1024],
+    rows: &[[u32; 6]],
+    bases: &[f64],
+    entries: &[[u32; 11]],
+    entry_values: &[f64],
+    run: Run,
+    row: usize,
+    left: u32,
+    used: u32,
+) -> Got
+    requires { ⌜ Busy (tables (now book) (now pairs) (now states) (now stretches) (now limits) (now rows) (now bases) (now entries) (now «entry_values»)) run (now values) (now sources) (now floats) used row 0 operators ⌝ }
+    ensures { λ r. ⌜ ((h : Busy (tables (now (book .entry)) (now (pairs .entry)) (now (states .entry)) (now (stretches .entry)) (now (limits .entry)) (now (rows .entry)) (now (bases .entry)) (now (entries .entry)) (now («entry_values» .entry))) run (now (values .entry)) (now (sources .entry)) (now (floats .entry)) used row 0 operators) → Meets (h .ready .world) (h .ready .sources₀) (h .ready .floats₀) (evaluation (h .ready .world) (valueOf (h .ready .world) left) row (rowAt (h .ready .world) row) (h .ready .mem)) r (now (values .exit)) (now (sources .exit)) (now (floats .exit))) ⌝ }
+{
+    let id = signed(rows[row][1]);
+    let count = rows[row][3];
+    if count == 0 {
+        let limited = is_limited(limits, id);
+        if !limited {
+            let base = bases[row];
+            return Got::Value(base, used);
+        }
+    }
+    let record = get_dogma_attribute(book, pairs, id);
+    let high = record.flags / 2 == 1;
+    let min = record.min_attribute_id;
+    let max = record.max_attribute_id;
+    let object = rows[row][0];
+    let got = operated(
+        values,
+        sources,
+        floats,
+        book,
+        pairs,
+        states,
+        stretches,
+        limits,
+        rows,
+        bases,
+        entries,
+        entry_values,
+        run,
+        row,
+        high,
+        left,
+        used,
+    );
+    let Got::Value(v, u) = got else {
+        return got;
+    };
+    let low = limited(
+        values,
+        sources,
+        floats,
+        book,
+        pairs,
+        states,
+        stretches,
+        limits,
+        rows,
+        bases,
+        entries,
+        entry_values,
+        run,
+        object,
+        min,
+        true,
+        v,
+        left,
+        u,
+    );
+    let Got::Value(w, t) = low else {
+        return low;
+    };
+    limited(
+        values,
+        sources,
+        floats,
+        book,
+        pairs,
+        states,
+        stretches,
+        limits,
+        rows,
+        bases,
+        entries,
+        entry_values,
+        run,
+        object,
+        max,
+        false,
+        w,
+        left,
+        t,
+    )
+}
+
+// A value held to a limit that is read off the same object; 0 means none.
+fn limited(
+    values: &mut [f64],
+    sources: &mut [[u32; 10]],
+    floats: &mut [[f64; 2]],
+    book: &[u8],
+    pairs: &[[u32; 2]; 10],
+    states: &[[u32; 2]; 1024],
+    stretches: &[[u32; 2]; 1024],
+    limits: &[u32; 1024],
+    rows: &[[u32; 6]],
+    bases: &[f64],
+    entries: &[[u32; 11]],
+    entry_values: &[f64],
+    run: Run,
+    object: u32,
+    limit: i32,
+    least: bool,
+    v: f64,
+    left: u32,
+    used: u32,
+) -> Got
+    requires { ⌜ Ready (tables (now book) (now pairs) (now states) (now stretches) (now limits) (now rows) (now bases) (now entries) (now «entry_values»)) run (now values) (now sources) (now floats) used ⌝ }
+    requires { ⌜ (object < 1024) × T (finite v) ⌝ }
+    ensures { λ r. ⌜ ((h : Ready (tables (now (book .entry)) (now (pairs .entry)) (now (states .entry)) (now (stretches .entry)) (now (limits .entry)) (now (rows .entry)) (now (bases .entry)) (now (entries .entry)) (now («entry_values» .entry))) run (now (values .entry)) (now (sources .entry)) (now (floats .entry)) used) → Meets (h .world) (h .sources₀) (h .floats₀) (clamped object (valueOf (h .world) left) (heldBy least) limit (record { value = v; mem = h .mem })) r (now (values .exit)) (now (sources .exit)) (now (floats .exit))) ⌝ }
+{
+    if limit == 0 {
+        return Got::Value(v, used);
+    }
+    let got = calculated_value(
+        values,
+        sources,
+        floats,
+        book,
+        pairs,
+        states,
+        stretches,
+        limits,
+        rows,
+        bases,
+        entries,
+        entry_values,
+        run,
+        object,
+        limit,
+        left,
+        used,
+    );
+    let Got::Value(w, u) = got else {
+        return got;
+    };
+    Got::Value(held_to(v, w, least), u)
+}
+
+// The base value of a row with its operators applied in their order; one that no entry has is passed over.
+fn operated(
+    values: &mut [f64],
+    sources: &mut [[u32; 10]],
+    floats: &mut [[f64; 2]],
+    book: &[u8],
+    pairs: &[[u32; 2]; 10],
+    states: &[[u32; 2]; 1024],
+    stretches: &[[u32; 2]; 1024],
+    limits: &[u32; 1024],
+    rows: &[[u32; 6]],
+    bases: &[f64],
+    entries: &[[u32; 11]],
+    entry_values: &[f64],
+    run: Run,
+    row: usize,
+    high: bool,
+    left: u32,
+    used: u32,
+) -> Got
+    requires { ⌜ Busy (tables (now book) (now pairs) (now states) (now stretches) (now limits) (now rows) (now bases) (now entries) (now «entry_values»)) run (now values) (now sources) (now floats) used row 0 operators ⌝ }
+    ensures { λ r. ⌜ ((h : Busy (tables (now (book .entry)) (now (pairs .entry)) (now (states .entry)) (now (stretches .entry)) (now (limits .entry)) (now (rows .entry)) (now (bases .entry)) (now (entries .entry)) (now («entry_values» .entry))) run (now (values .entry)) (now (sources .entry)) (now (floats .entry)) used row 0 operators) → high ≡ highIsGood (getDogmaAttribute (h .ready .world .book) (rowAt (h .ready .world) row .id)) → Meets (h .ready .world) (h .ready .sources₀) (h .ready .floats₀) (operate (h .ready .world) row (rowAt (h .ready .world) row) (valueOf (h .ready .world) left) operators (record { value = rowAt (h .ready .world) row .base; mem = h .ready .mem })) r (now (values .exit)) (now (sources .exit)) (now (floats .exit))) ⌝ }
+{
+    let first = rows[row][2] as usize;
+    let end = first + rows[row][3] as usize;
+    let mut value = bases[row];
+    let mut own: u32 = 0;
+    let mut u = used;
+    let mut code: u32 = 0;
+    while code < 9 {
+        let operator = operator_of(code);
+        code += 1;
+        if has_operator(entries, first, end, operator) {
+            let part = gathered(
+                values,
+                sources,
+                floats,
+                book,
+                pairs,
+                states,
+                stretches,
+                limits,
+                rows,
+                bases,
+                entries,
+                entry_values,
+                run,
+                row,
+                operator,
+                high,
+                left,
+                value,
+                own,
+                u,
+            );
+            match part {
+                Part::At(v, o, t) => {
+                    value = v;
+                    own = o;
+                    u = t;
+                }
+                Part::Refused(y) => return Got::Refused(y),
+            }
+        }
+    }
+    Got::Value(value, u)
+}
+
+// One operator: all its entries are gathered, then they are applied.
+fn gathered(
+    values: &mut [f64],
+    sources: &mut [[u32; 10]],
+    floats: &mut [[f64; 2]],
+    book: &[u8],
+    pairs: &[[u32; 2]; 10],
+    states: &[[u32; 2]; 1024],
+    stretches: &[[u32; 2]; 1024],
+    limits: &[u32; 1024],
+    rows: &[[u32; 6]],
+    bases: &[f64],
+    entries: &[[u32; 11]],
+    entry_values: &[f64],
+    run: Run,
+    row: usize,
+    operator: EffectOperator,
+    high: bool,
+    left: u32,
+    found: f64,
+    own: u32,
+    used: u32,
+) -> Part
+    requires { ⌜ Busy (tables (now book) (now pairs) (now states) (now stretches) (now limits) (now rows) (now bases) (now entries) (now «entry_values»)) run (now values) (now sources) (now floats) used row own (operator ∷ []) ⌝ }
+    requires { ⌜ T (finite found) ⌝ }
+    ensures { λ r. ⌜ ((h : Busy (tables (now (book .entry)) (now (pairs .entry)) (now (states .entry)) (now (stretches .entry)) (now (limits .entry)) (now (rows .entry)) (now (bases .entry)) (now (entries .entry)) (now («entry_values» .entry))) run (now (values .entry)) (now (sources .entry)) (now (floats .entry)) used row own (operator ∷ [])) → high ≡ highIsGood (getDogmaAttribute (h .ready .world .book) (rowAt (h .ready .world) row .id)) → PartMeets (h .ready .world) (h .ready .sources₀) (h .ready .floats₀) row (operate (h .ready .world) row (rowAt (h .ready .world) row) (valueOf (h .ready .world) left) (operator ∷ []) (record { value = found; mem = h .ready .mem })) r (now (values .exit)) (now (sources .exit)) (now (floats .exit))) ⌝ }
+{
+    let count = rows[row][3] as usize;
+    let mut p = empty(found, own, used);
+    let mut k: usize = 0;
+    while k < count {
+        p = with_entry(
+            values,
+            sources,
+            floats,
+            book,
+            pairs,
+            states,
+            stretches,
+            limits,
+            rows,
+            bases,
+            entries,
+            entry_values,
+            run,
+            row,
+            k,
+            operator,
+            high,
+            left,
+            p,
+        );
+        k += 1;
+        let stop = p.stop;
+        match stop {
+            Stop::No => {}
+            Stop::Because(y) => return Part::Refused(y),
+        }
+    }
+    let object = rows[row][0];
+    let first = rows[row][4];
+    apply(floats, run, first, object, p)
+}
+
+// Entry k of a row goes to the pile, if it is of the operator and runs or is recorded.
+fn with_entry(
+    values: &mut [f64],
+    sources: &mut [[u32; 10]],
+    floats: &mut [[f64; 2]],
+    book: &[u8],
+    pairs: &[[u32; 2]; 10],
+    states: &[[u32; 2]; 1024],
+    stretches: &[[u32; 2]; 1024],
+    limits: &[u32; 1024],
+    rows: &[[u32; 6]],
+    bases: &[f64],
+    entries: &[[u32; 11]],
+    entry_values: &[f64],
+    run: Run,
+    row: usize,
+    k: usize,
+    operator: EffectOperator,
+    high: bool,
+    left: u32,
+    p: Pile,
+) -> Pile
+    requires { ⌜ Piling (tables (now book) (now pairs) (now states) (now stretches) (now limits) (now rows) (now bases) (now entries) (now «entry_values»)) run (now values) (now sources) (now floats) row k high operator p ⌝ }
+    ensures { λ r. ⌜ ((h : Piling (tables (now (book .entry)) (now (pairs .entry)) (now (states .entry)) (now (stretches .entry)) (now (limits .entry)) (now (rows .entry)) (now (bases .entry)) (now (entries .entry)) (now («entry_values» .entry))) run (now (values .entry)) (now (sources .entry)) (now (floats .entry)) row k high operator p) → PileMeets (h .ready .world) (h .ready .sources₀) (h .ready .floats₀) row high operator (h .found) (gather (h .ready .world) row (rowAt (h .ready .world) row) (valueOf (h .ready .world) left) operator (entryAt (h .ready .world) row k ∷ []) (record { mem = h .ready .mem; values = h .values })) r (now (values .exit)) (now (sources .exit)) (now (floats .exit))) ⌝ }
+{
+    let at = rows[row][2] as usize + k;
+    let code = entries[at][6];
+    if code != operator_code(operator) {
+        return p;
+    }
+    let e = entry_at(entries, entry_values, at);
+    let origin = e.origin;
+    let runs = is_running(states, origin);
+    if !(runs | run.recording) {
+        return p;
+    }
+    let object = rows[row][0];
+    let first = rows[row][4];
+    let got = strength(
+        values,
+        sources,
+        floats,
+        book,
+        pairs,
+        states,
+        stretches,
+        limits,
+        rows,
+        bases,
+        entries,
+        entry_values,
+        run,
+        object,
+        e,
+        left,
+        p.used,
+    );
+    match got {
+        Got::Value(v, used) => {
+            let q = counted(p, p.own, used);
+            add_entry(sources, floats, run, first, object, high, runs, e, v, q)
+        }
+        Got::Refused(y) => stopped(p, y),
+    }
+}
+
+// The strength of an entry: a buff's own, or an attribute of its source, held against the ship's resistance.
+fn strength(
+    values: &mut [f64],
+    sources: &mut [[u32; 10]],
+    floats: &mut [[f64; 2]],
+    book: &[u8],
+    pairs: &[[u32; 2]; 10],
+    states: &[[u32; 2]; 1024],
+    stretches: &[[u32; 2]; 1024],
+    limits: &[u32; 1024],
+    rows: &[[u32; 6]],
+    bases: &[f64],
+    entries: &[[u32; 11]],
+    entry_values: &[f64],
+    run: Run,
+    object: u32,
+    e: Effect,
+    left: u32,
+    used: u32,
+) -> Got
+    requires { ⌜ Ready (tables (now book) (now pairs) (now states) (now stretches) (now limits) (now rows) (now bases) (now entries) (now «entry_values»)) run (now values) (now sources) (now floats) used ⌝ }
+    requires { ⌜ Good e ⌝ }
+    ensures { λ r. ⌜ ((h : Ready (tables (now (book .entry)) (now (pairs .entry)) (now (states .entry)) (now (stretches .entry)) (now (limits .entry)) (now (rows .entry)) (now (bases .entry)) (now (entries .entry)) (now («entry_values» .entry))) run (now (values .entry)) (now (sources .entry)) (now (floats .entry)) used) (i : ℕ) (row : Row) → row .object ≡ object → Meets (h .world) (h .sources₀) (h .floats₀) (strengthOf (h .world) (valueOf (h .world) left) i row e (e .origin) (h .mem)) r (now (values .exit)) (now (sources .exit)) (now (floats .exit))) ⌝ }
+{
+    let origin = e.origin;
+    let resistance = e.resistance;
+    match origin {
+        Origin::Buff { buff_id: _, value } => Got::Value(value, used),
+        Origin::Effect {
+            effect_id: _,
+            source,
+            source_category: _,
+            attribute_id,
+        } => {
+            let got = calculated_value(
+                values,
+                sources,
+                floats,
+                book,
+                pairs,
+                states,
+                stretches,
+                limits,
+                rows,
+                bases,
+                entries,
+                entry_values,
+                run,
+                source,
+                attribute_id,
+                left,
+                used,
+            );
+            let Got::Value(v, u) = got else {
+                return got;
+            };
+            resisted(
+                values,
+                sources,
+                floats,
+                book,
+                pairs,
+                states,
+                stretches,
+                limits,
+                rows,
+                bases,
+                entries,
+                entry_values,
+                run,
+                object,
+                resistance,
+                v,
+                left,
+                u,
+            )
+        }
+    }
+}
+
+// A strength times the ship's resistance, where one is named.
+fn resisted(
+    values: &mut [f64],
+    sources: &mut [[u32; 10]],
+    floats: &mut [[f64; 2]],
+    book: &[u8],
+    pairs: &[[u32; 2]; 10],
+    states: &[[u32; 2]; 1024],
+    stretches: &[[u32; 2]; 1024],
+    limits: &[u32; 1024],
+    rows: &[[u32; 6]],
+    bases: &[f64],
+    entries: &[[u32; 11]],
+    entry_values: &[f64],
+    run: Run,
+    object: u32,
+    resistance: OptionalId,
+    v: f64,
+    left: u32,
+    used: u32,
+) -> Got
+    requires { ⌜ Ready (tables (now book) (now pairs) (now states) (now stretches) (now limits) (now rows) (now bases) (now entries) (now «entry_values»)) run (now values) (now sources) (now floats) used ⌝ }
+    requires { ⌜ T (finite v) ⌝ }
+    ensures { λ r. ⌜ ((h : Ready (tables (now (book .entry)) (now (pairs .entry)) (now (states .entry)) (now (stretches .entry)) (now (limits .entry)) (now (rows .entry)) (now (bases .entry)) (now (entries .entry)) (now («entry_values» .entry))) run (now (values .entry)) (now (sources .entry)) (now (floats .entry)) used) (i : ℕ) (row : Row) → row .object ≡ object → Meets (h .world) (h .sources₀) (h .floats₀) (values.resisted (h .world) i row (valueOf (h .world) left) resistance (record { value = v; mem = h .mem })) r (now (values .exit)) (now (sources .exit)) (now (floats .exit))) ⌝ }
+{
+    match resistance {
+        OptionalId::Absent => Got::Value(v, used),
+        OptionalId::Given(attribute) => {
+            let got = calculated_value(
+                values,
+                sources,
+                floats,
+                book,
+                pairs,
+                states,
+                stretches,
+                limits,
+                rows,
+                bases,
+                entries,
+                entry_values,
+                run,
+                0,
+                attribute,
+                left,
+                used,
+            );
+            let Got::Value(w, u) = got else {
+                return got;
+            };
+            let step = product(v, w);
+            match step {
+                Step::Finite(x) => Got::Value(x, u),
+                Step::NotFinite => Got::Refused(Refusal::Number(object)),
+            }
+        }
     }
 }

@@ -34,7 +34,7 @@ fn category_of(code: u32) -> EffectCategory
     }
 }
 
-fn operator_of(code: u32) -> EffectOperator
+pub fn operator_of(code: u32) -> EffectOperator
     ensures { λ r. ⌜ ((o : EffectOperator) → code ≡ operatorCode o → r ≡ o) ⌝ }
 {
     let found = operator_at(code);
