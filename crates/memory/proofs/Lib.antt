@@ -1,2 +1,4 @@
 pub mod Growth
 pub mod Gathers
+pub mod Kept
+pub mod Entering
