@@ -379,10 +379,17 @@ module _ (w : World) (i : ℕ) (row : Row) where
     pub entry-gives : (e : Effect) (o : Origin) (g h : Gathered) → gatherFrom w i row read e o g ≡ ok h → Started i (g .mem) → Grown i (g .mem) (h .mem) (cond (w .recording) (plannedIf (runsIn w o) e) 0)
     entry-gives = entry-grown w i row i gained gained-add gained-off note-gained own-gained value-gained read leaves
 
+    -- the entries of one operator
+    pub gather-gives : (op : EffectOperator) (es : List Effect) (g h : Gathered) → gather w i row read op es g ≡ ok h → Started i (g .mem) → Grown i (g .mem) (h .mem) (cond (w .recording) (plannedFor w op es) 0)
+    gather-gives = gather-grown w i row i gained gained-add gained-off note-gained own-gained value-gained read leaves
+
+    -- some operators in turn
+    pub operate-gives : (ops : List EffectOperator) (a z : Read) → operate w i row read ops a ≡ ok z → Started i (a .mem) → Grown i (a .mem) (z .mem) (cond (w .recording) (plannedBy w ops (row .entries)) 0)
+    operate-gives = operate-grown w i row i gained gained-add gained-off note-gained own-gained value-gained read leaves
+
     -- all operators
     pub operators-give : (a z : Read) → operate w i row read operators a ≡ ok z → Started i (a .mem) → Grown i (a .mem) (z .mem) (cond (w .recording) (total (map (plannedOf w) (row .entries))) 0)
-    operators-give a z q s =
-        subst (λ (n : ℕ). Grown i (a .mem) (z .mem) (gained n)) (planned-all w (row .entries)) (operate-grown w i row i gained gained-add gained-off note-gained own-gained value-gained read leaves operators a z q s)
+    operators-give a z q s = subst (λ (n : ℕ). Grown i (a .mem) (z .mem) (gained n)) (planned-all w (row .entries)) (operate-gives operators a z q s)
 
   -- the whole calculation
   pub calculation-gives : (d : ℕ) (m : Mem) (z : Read) → calculate w (valueOf w d) i row m ≡ ok z → i < length (m .values) → i < length (m .sources)
