@@ -1,6 +1,6 @@
--- Gathering by parts: over two lists of entries, one entry, and an entry by its strength; operators in two parts.
+-- Gathering and operating by parts, and an entry by its strength.
 use Prim.Native.Nat.{ℕ}
-use mathlib.Core.Path.{_≡_, refl, _∙_}
+use mathlib.Core.Path.{_≡_, refl, subst, _∙_}
 use mathlib.Core.Bool.{Bool, true, false, _||_, true≢false}
 use mathlib.Core.List.{List, [], _∷_, _++_}
 use lib.Ieee.{Float}
@@ -11,15 +11,17 @@ use Rattle.rules.specs.Info.{getDogmaAttribute, highIsGood}
 use Rattle.rules.specs.Item.{runsAt}
 use Rattle.rules.specs.Number.{numberAt}
 use Rattle.rules.specs.Operate.{applied}
-use Rattle.rules.specs.Value.{World, Read, Reader, Gathered, nothing, stateOf, toSource, note, contribute, resisted, gatherFrom, gather, markedBy, operate}
+use Rattle.rules.specs.Value.{World, Mem, Read, Reader, Gathered, nothing, stateOf, toSource, note, contribute, resisted, gatherFrom, gather, markedBy, operate}
 use Rattle.rules.specs.declared.Effect.{Effect}
 use Rattle.rules.specs.declared.EffectOperator.{EffectOperator}
 use Rattle.rules.specs.declared.Origin.{Origin}
 use Rattle.rules.specs.declared.Origin.the-variants as origin
 use Rattle.sources.specs.Planned.{runsIn}
-use Rattle.sources.proofs.Results.{bind-same}
+use Rattle.sources.proofs.Results.{got, then, bind-same}
 use Rattle.gather.specs.Piles.{entered}
+use Rattle.memory.specs.Memory.{Grows, Growing}
 use Rattle.memory.specs.Steps.{strengthOf}
+use Rattle.memory.proofs.Growth.{grows-same, grows-on, resisted-grows}
 
 -- steps in a row, either way round
 bind-bind : {A B C : Type 0} (x : Res A) (f : A → Res B) (g : B → Res C) → (x >>= λ a. f a >>= g) ≡ (x >>= f >>= g)
@@ -113,3 +115,11 @@ module _ (w : World) (i : ℕ) (row : Row) (read : Reader) where
 
         each : (r : Read) → (strong r >>= λ s. ends (runsAt c (stateOf w source)) s) ≡ (strong r >>= enter)
         each r = bind-same (strong r) (λ s. ends (runsAt c (stateOf w source)) s) enter (by (runsAt c (stateOf w source)))
+
+  -- what reads a strength lets the memory grow
+  pub strength-grows : Growing read → (e : Effect) (o : Origin) (m : Mem) (s : Read) → strengthOf w read i row e o m ≡ ok s → Grows m (s .mem)
+  unfolding strengthOf
+  strength-grows growing e (origin.Buff b v) m s p = subst (λ (y : Read). Grows m (y .mem)) (got p) (grows-same m)
+  strength-grows growing e (origin.Effect f source c a) m s p =
+      let t = then (read source a m) _ s p in
+      grows-on (growing source a m (t .given) (t .first)) (resisted-grows i w row read growing (e .resistance) (t .given) s (t .rest))
