@@ -2,3 +2,4 @@ pub mod Growth
 pub mod Gathers
 pub mod Kept
 pub mod Entering
+pub mod Counting
