@@ -1,0 +1,1 @@
+-- First and count in list 5, row by row.
