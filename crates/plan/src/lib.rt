@@ -1,14 +1,17 @@
 // How many source rows each row of list 2 gets when they are recorded (pass_3.rs).
+use info::bytes::index;
 use reading::entries::entry_at;
 use reading::entries::has_penalty;
 use reading::entries::is_running;
 use rules::Effect;
 ghost use mathlib.Core.Path.{_≡_};
-ghost use mathlib.Core.List.{List};
+ghost use mathlib.Core.List.{List, _++_};
 ghost use Prim.Native.Nat.{_+_, _*_, _≤_};
-ghost use lib.ListN.{length};
+ghost use lib.ListN.{length, drop};
+ghost use Rattle.rules.specs.Dispatch.{Row};
 ghost use Rattle.sources.specs.Planned.{plannedIf};
 ghost use Rattle.plan.specs.Ranged.{EntriesHeld, Ranged, plannedIn};
+ghost use Rattle.plan.specs.Rows.{held as held32, countsBy, plannedNumbers, Dispatched, Planning};
 
 // How many source rows an entry gets.
 fn sources_of(e: Effect, running: bool) -> u32
@@ -50,4 +53,37 @@ fn sources_of_row(
         i += 1;
     }
     total
+}
+
+// A number in 32 bits: past them it is the greatest.
+fn held(x: usize) -> u32
+    ensures { λ r. ⌜ r ≡ held32 x ⌝ }
+{
+    if x < 4294967295 {
+        return x as u32;
+    }
+    4294967295
+}
+
+// First and count in list 5 of the first n rows, whose entries are in list 3.
+pub fn set_sources(
+    rows: &mut [[u32; 6]],
+    entries: &[[u32; 11]],
+    values: &[f64],
+    states: &[[u32; 2]; 1024],
+    n: usize,
+)
+    requires { ⌜ Planning n (now rows) (now entries) (now values) ⌝ }
+    ensures { λ _. ⌜ ((rs : List Row) → Dispatched rs n (now (rows .entry)) (now (entries .entry)) (now (values .entry)) → now (rows .exit) ≡ plannedNumbers 0 0 rs (countsBy (now (states .entry)) rs) ++ drop n (now (rows .entry))) ⌝ }
+{
+    let mut first: u32 = 0;
+    let mut k: usize = 0;
+    while k < n {
+        let r = rows[k];
+        let sources = sources_of_row(entries, values, states, index(r[2]), index(r[3]));
+        let count = held(sources);
+        rows[k] = [r[0], r[1], r[2], r[3], first, count];
+        first = held(index(first) + index(count));
+        k += 1;
+    }
 }
