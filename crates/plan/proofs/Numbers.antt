@@ -81,6 +81,9 @@ planned-whole rs qs ns e h = ap (plannedNumbers 0 0 rs) (sym e) ∙ planned-told
 pub unplanned-numbers : (rs : List Row) (e : ℕ) → plannedNumbers e 0 rs [] ≡ rowsNumbers e 0 rs []
 unplanned-numbers rs e = planned-told rs [] e 0 (omega arith)
 
+pub dispatched-long : (rs : List Row) → length (rowsNumbers 0 0 rs []) ≡ length rs
+dispatched-long rs = sym (ap length (unplanned-numbers rs 0)) ∙ planned-long rs [] 0 0
+
 -- where nothing is recorded, no row has a source row
 pub unplanned : (rs : List Row) (e s : ℕ) → rowsNumbers e s rs [] ≡ rowsNumbers e s rs (map (λ r. []) rs)
 unplanned [] e s = refl

@@ -17,7 +17,7 @@ use Rattle.rules.specs.declared.Effect.{Effect}
 use Rattle.reading.specs.Held.{noRow}
 use Rattle.plan.specs.Ranged.{EntriesHeld, Ranged, plannedBy, plannedIn}
 use Rattle.plan.specs.Rows.{held, countBy, countsBy, plannedNumbers, entriesOf, Dispatched}
-use Rattle.plan.proofs.Numbers.{lengths, rowNumbers, planned-long, planned-at, unplanned-numbers}
+use Rattle.plan.proofs.Numbers.{lengths, rowNumbers, planned-long, planned-at, unplanned-numbers, dispatched-long}
 
 -- a sum of what is held is held as the sum
 pub held-sum : (a b : ℕ) → held (held a + held b) ≡ held (a + b)
@@ -29,7 +29,7 @@ counted r s n = getD r 0 0 ∷ getD r 1 0 ∷ getD r 2 0 ∷ getD r 3 0 ∷ s �
 
 -- the rows are in the column
 pub inside : (rs : List Row) (n : ℕ) (r₀ c : List (List ℕ)) (v : List Float) → Dispatched rs n r₀ c v → n ≤ length r₀
-inside rs n r₀ c v D = omega (arith, ap length (D .numbers) ∙ sym (ap length (unplanned-numbers rs 0)) ∙ planned-long rs [] 0 0, length-take n r₀, D .count)
+inside rs n r₀ c v D = omega (arith, ap length (D .numbers) ∙ dispatched-long rs, length-take n r₀, D .count)
 
 module _ (states : List (List ℕ)) (rs : List Row) (n : ℕ) (r₀ c : List (List ℕ)) (v : List Float) where
   abbrev counts : List ℕ

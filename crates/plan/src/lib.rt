@@ -1,4 +1,4 @@
-// How many source rows each row of list 2 gets when they are recorded (pass_3.rs).
+// First and count in list 5 of each row of list 2, planned before any value is calculated: how many source rows it gets when they are recorded (pass_3.rs).
 use info::bytes::index;
 use reading::entries::entry_at;
 use reading::entries::has_penalty;
@@ -82,8 +82,9 @@ pub fn set_sources(
         let r = rows[k];
         let sources = sources_of_row(entries, values, states, index(r[2]), index(r[3]));
         let count = held(sources);
+        let end = held(index(first) + index(count));
         rows[k] = [r[0], r[1], r[2], r[3], first, count];
-        first = held(index(first) + index(count));
+        first = end;
         k += 1;
     }
 }
