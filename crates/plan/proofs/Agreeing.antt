@@ -1,5 +1,5 @@
 -- Where the states column agrees with the world, the counts are those of the calculation; and what dispatch leaves in the columns is what is asked.
-use Prim.Native.Nat.{ℕ, zero, suc, _+_, _≤_, _<_}
+use Prim.Native.Nat.{ℕ, _+_, _≤_, _<_}
 use native.Mathlib.Omega.{arith}
 use mathlib.Core.Path.{_≡_, refl, sym, ap, subst, _∙_}
 use mathlib.Core.Bool.{Bool, true, false, cond}
@@ -7,8 +7,7 @@ use mathlib.Core.List.{List, [], _∷_, _++_, map}
 use lib.Ieee.{Float, nan}
 use lib.ListN.{length, getD, take, drop, length-map, length-append, List·getD-append}
 use lib.Seq.{getD-append-add, take-at}
-use Rattle.laws.specs.Lists.{flat}
-use Rattle.laws.specs.Columns.{Col, laid}
+use Rattle.laws.specs.Columns.{Col}
 use Rattle.laws.proofs.Flat.{total}
 use Rattle.laws.proofs.Laid.{col-row}
 use Rattle.laws.proofs.Maps.{map-itself}
@@ -20,10 +19,10 @@ use Rattle.rules.specs.declared.Effect.{Effect}
 use Rattle.rules.specs.declared.Origin.{Origin}
 use Rattle.rules.specs.declared.Origin.the-variants as origin
 use Rattle.rules.specs.declared.Source.{Source}
-use Rattle.reading.specs.Held.{EntryHeld, NarrowOrigin, NarrowId, Sourced, isRunning}
+use Rattle.reading.specs.Held.{NarrowOrigin, NarrowId, Sourced, isRunning}
 use Rattle.sources.specs.Planned.{runsIn, plannedIf, plannedOf, countsOf}
 use Rattle.plan.specs.Ranged.{EntriesHeld, plannedBy}
-use Rattle.plan.specs.Rows.{countBy, countsBy, plannedNumbers, entriesOf, Dispatched}
+use Rattle.plan.specs.Rows.{countsBy, plannedNumbers, entriesOf, Dispatched}
 use Rattle.plan.proofs.Numbers.{planned-long, planned-whole, unplanned, dispatched-long}
 
 -- each of the entries has its source among 1,024 objects

@@ -1,21 +1,20 @@
 -- One entry more: what it is, and what it adds to the source rows planned.
-use Prim.Native.Nat.{ℕ, zero, suc, _+_, _-_, _≤_, _<_, min}
+use Prim.Native.Nat.{ℕ, _+_, _≤_, _<_, min}
 use native.Mathlib.Omega.{arith}
-use mathlib.Core.Path.{_≡_, refl, sym, ap, subst, _∙_}
+use mathlib.Core.Path.{_≡_, sym, ap, subst, _∙_}
 use mathlib.Core.Bool.{Bool, true, false, _&&_, cond}
-use mathlib.Core.List.{List, [], _∷_, _++_, map}
+use mathlib.Core.List.{List, [], map}
 use lib.Ieee.{Float, nan}
-use lib.ListN.{length, getD, take, drop, length-drop}
-use lib.Seq.{getD-drop}
+use lib.ListN.{length, getD}
 use Rattle.laws.specs.Lists.{span}
 use Rattle.laws.proofs.Flat.{total}
-use Rattle.laws.proofs.Maps.{take-next, map-snoc}
+use Rattle.laws.proofs.Spans.{map-span-next}
 use Rattle.laws.proofs.Sums.{total-snoc}
 use Rattle.rules.specs.Operate.{hasPenalty}
 use Rattle.rules.specs.declared.Effect.{Effect}
 use Rattle.reading.specs.Held.{EntryHeld, Sourced, isRunning}
 use Rattle.sources.specs.Planned.{plannedIf}
-use Rattle.plan.specs.Ranged.{EntriesHeld, Ranged, plannedBy, plannedIn}
+use Rattle.plan.specs.Ranged.{EntriesHeld, plannedBy, plannedIn}
 
 module _ {es : List Effect} {c : List (List ℕ)} {v : List Float} (h : EntriesHeld es c v) (k : ℕ) (t : k < length es) (e : Effect) (read : (x : Effect) → EntryHeld x (getD c k []) (getD v k nan) → e ≡ x) where
   pub is-entry : e ≡ getD es k e
@@ -26,13 +25,11 @@ module _ {es : List Effect} {c : List (List ℕ)} {v : List Float} (h : EntriesH
 
 pub counted : (states : List (List ℕ)) (es : List Effect) (first i : ℕ) (e : Effect) {run : Bool} {tot more : ℕ} → first + i < length es → e ≡ getD es (first + i) e → tot ≡ plannedIn states es first i
     → run ≡ isRunning states (e .origin) → more ≡ plannedIf run e → tot + more ≡ plannedIn states es first (i + 1)
-counted states es first i e {run} {tot} {more} t q a b d =
-    let inside : i < length (drop first es) = omega (arith, t, length-drop first es) in
-    let next : span first (i + 1) es ≡ span first i es ++ (e ∷ []) = take-next (drop first es) i e inside
-    ∙ ap (λ (x : Effect). span first i es ++ (x ∷ [])) (getD-drop first es i e ∙ sym q) in
-    let added : more ≡ plannedBy states e = d ∙ ap (λ (r : Bool). plannedIf r e) b in
-    let sum : plannedIn states es first (i + 1) ≡ plannedIn states es first i + plannedBy states e = ap (λ (l : List Effect). total (map (plannedBy states) l)) next
-    ∙ ap total (map-snoc (plannedBy states) (span first i es) e) ∙ total-snoc (map (plannedBy states) (span first i es)) (plannedBy states e) in
+counted states es first i e {more = more} t q a b d =
+    let entry : Effect = getD es (first + i) e in
+    let added : more ≡ plannedBy states entry = d ∙ ap (λ (r : Bool). plannedIf r e) b ∙ ap (plannedBy states) q in
+    let sum : plannedIn states es first (i + 1) ≡ plannedIn states es first i + plannedBy states entry = ap total (map-span-next first i es e t (plannedBy states))
+    ∙ total-snoc (map (plannedBy states) (span first i es)) (plannedBy states entry) in
     omega (arith, a, added, sum)
 
 -- the branches of one entry's count

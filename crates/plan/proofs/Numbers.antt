@@ -1,5 +1,5 @@
 -- The numbers of planned rows: each row's, and what they are where all is told or nothing is recorded.
-use Prim.Native.Nat.{ℕ, zero, suc, _+_, _≤_, _<_, min}
+use Prim.Native.Nat.{ℕ, zero, suc, _+_, _≤_, _<_}
 use native.Mathlib.Nat.{not-suc-le-zero, le-of-suc-le-suc, add-zero, zero-add, add-assoc}
 use native.Mathlib.Omega.{arith}
 use mathlib.Core.Path.{_≡_, refl, sym, ap, _∙_}
@@ -59,20 +59,17 @@ pub planned-entries : (rs : List Row) (ns : List ℕ) (i : ℕ) → i < length r
 planned-entries rs ns i h =
     (ap (λ (r : List ℕ). getD r 2 0) (planned-at rs ns 0 0 i h) ∙ zero-add (total (take i (lengths rs))), ap (λ (r : List ℕ). getD r 3 0) (planned-at rs ns 0 0 i h))
 
+inside : (x : ℕ) → x ≤ 4294967295 → held x ≡ x
+inside x l = omega (arith, l)
+
 -- where the counts are those of the source rows, and 32 bits hold them, these are the definition's numbers
 pub planned-told : (rs : List Row) (qs : List (List Source)) (e s : ℕ) → s + total (map length qs) ≤ 4294967295 → plannedNumbers e s rs (map length qs) ≡ rowsNumbers e s rs qs
 planned-told [] qs e s h = refl
 planned-told (r ∷ rs) [] e s h =
     ap (λ (x : ℕ). (r .object ∷ bits (r .id) ∷ e ∷ length (r .entries) ∷ x ∷ 0 ∷ []) ∷ plannedNumbers (e + length (r .entries)) s rs []) (inside s (omega (arith, h)))
     ∙ ap (λ (l : List (List ℕ)). (r .object ∷ bits (r .id) ∷ e ∷ length (r .entries) ∷ s ∷ 0 ∷ []) ∷ l) (planned-told rs [] (e + length (r .entries)) s h)
-  where
-    inside : (x : ℕ) → x ≤ 4294967295 → held x ≡ x
-    inside x l = omega (arith, l)
 planned-told (r ∷ rs) (q ∷ qs) e s h =
     rw (inside s (omega (arith, h)), inside (length q) (omega (arith, h)), planned-told rs qs (e + length (r .entries)) (s + length q) (omega (arith, h))) refl
-  where
-    inside : (x : ℕ) → x ≤ 4294967295 → held x ≡ x
-    inside x l = omega (arith, l)
 
 pub planned-whole : (rs : List Row) (qs : List (List Source)) (ns : List ℕ) → map length qs ≡ ns → total ns ≤ 4294967295 → plannedNumbers 0 0 rs ns ≡ rowsNumbers 0 0 rs qs
 planned-whole rs qs ns e h = ap (plannedNumbers 0 0 rs) (sym e) ∙ planned-told rs qs 0 0 (rw e (omega (arith, h)))

@@ -1,5 +1,5 @@
 -- First and count in list 5, set row by row.
-use Prim.Native.Nat.{ℕ, zero, suc, _+_, _≤_, _<_, min}
+use Prim.Native.Nat.{ℕ, _+_, _≤_, _<_}
 use native.Mathlib.Nat.{zero-add}
 use native.Mathlib.Omega.{arith}
 use mathlib.Core.Path.{_≡_, refl, sym, ap, _∙_}
@@ -19,13 +19,9 @@ use Rattle.plan.specs.Ranged.{EntriesHeld, Ranged, plannedBy, plannedIn}
 use Rattle.plan.specs.Rows.{held, countBy, countsBy, plannedNumbers, entriesOf, Dispatched}
 use Rattle.plan.proofs.Numbers.{lengths, rowNumbers, planned-long, planned-at, unplanned-numbers, dispatched-long}
 
--- a sum of what is held is held as the sum
-pub held-sum : (a b : ℕ) → held (held a + held b) ≡ held (a + b)
-held-sum a b = omega arith
-
 -- row r with first s and count n in 5
-abbrev pub counted : List ℕ → ℕ → ℕ → List ℕ
-counted r s n = getD r 0 0 ∷ getD r 1 0 ∷ getD r 2 0 ∷ getD r 3 0 ∷ s ∷ n ∷ []
+abbrev pub withSources : List ℕ → ℕ → ℕ → List ℕ
+withSources r s n = getD r 0 0 ∷ getD r 1 0 ∷ getD r 2 0 ∷ getD r 3 0 ∷ s ∷ n ∷ []
 
 -- the rows are in the column
 pub inside : (rs : List Row) (n : ℕ) (r₀ c : List (List ℕ)) (v : List Float) → Dispatched rs n r₀ c v → n ≤ length r₀
@@ -98,7 +94,7 @@ module _ (states : List (List ℕ)) (rs : List Row) (n : ℕ) (r₀ c : List (Li
           -- one row more
           pub upto-next : {sources count first′ : ℕ} {rows′ : List (List ℕ)}
               → ((es : List Effect) → EntriesHeld es c v → a + b ≤ length es → sources ≡ plannedIn states es a b) → count ≡ held sources → first′ ≡ held (first + count)
-              → rows′ ≡ set rows k (counted (getD rows k []) first count) → Upto (k + 1) rows′ first′
+              → rows′ ≡ set rows k (withSources (getD rows k []) first count) → Upto (k + 1) rows′ first′
           upto-next {sources} {count} {first′} {rows′} given e f g =
               record {
                 is =
@@ -106,7 +102,7 @@ module _ (states : List (List ℕ)) (rs : List Row) (n : ℕ) (r₀ c : List (Li
                     ∙ set-at (take k planned) (getD r₀ k []) (drop (k + 1) r₀) (getD planned k []) k front-long
                     ∙ sym (append-snoc (take k planned) (getD planned k []) (drop (k + 1) r₀))
                     ∙ ap (λ (l : List (List ℕ)). l ++ drop (k + 1) r₀) (sym (take-next planned k [] (rw (planned-long rs counts 0 0) in-rows)));
-                long = ap length g ∙ length-set rows k (counted (getD rows k []) first count) ∙ U .long;
+                long = ap length g ∙ length-set rows k (withSources (getD rows k []) first count) ∙ U .long;
                 sum = f ∙ omega (arith, U .sum, count-is, total-next counts k 0 (rw (length-map rs (countBy states)) in-rows));
               }
             where
@@ -116,7 +112,7 @@ module _ (states : List (List ℕ)) (rs : List Row) (n : ℕ) (r₀ c : List (Li
               count-is : count ≡ held (getD counts k 0)
               count-is = e ∙ ap held sources-are
 
-              row : counted (getD rows k []) first count ≡ getD planned k []
+              row : withSources (getD rows k []) first count ≡ getD planned k []
               row = rw (upto-read, U .sum, count-is, planned-at rs counts 0 0 k in-rows, zero-add (total (take k counts))) refl
 
     pub upto-all : {k : ℕ} {rows : List (List ℕ)} {first : ℕ} → Upto k rows first → k ≤ n → n ≤ k → rows ≡ planned ++ drop n r₀
