@@ -3,3 +3,4 @@ pub mod Gathers
 pub mod Kept
 pub mod Entering
 pub mod Counting
+pub mod Readings
