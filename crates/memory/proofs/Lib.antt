@@ -4,3 +4,4 @@ pub mod Kept
 pub mod Entering
 pub mod Counting
 pub mod Readings
+pub mod Nanned

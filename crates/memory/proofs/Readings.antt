@@ -99,6 +99,15 @@ module _ (rs : List Row) (o : ℕ) (a : ℤ) where
           subst (λ (n : ℕ). (n < length rs) × (o ≡ getD rs n noRow .object) × (a ≡ getD rs n noRow .id)) h
           (g .within, sym (g .object) ∙ ap (λ (r : Row). r .object) (g .row noRow), sym (g .id) ∙ ap (λ (r : Row). r .id) (g .row noRow))
 
+  pub found-at : {i : ℕ} → some i ≡ indexOf (findRow o a 0 rs) → findRow o a 0 rs ≡ some (record { index = i; row = getD rs i noRow })
+  found-at {i} = by (findRow o a 0 rs) refl
+    where
+      by : (f : Option Found) → findRow o a 0 rs ≡ f → some i ≡ indexOf f → f ≡ some (record { index = i; row = getD rs i noRow })
+      by none p e = let z : _≡_ {A = ℕ} 0 1 = cc in absurd (omega arith)
+      by (some f) p e =
+          let h : f .index ≡ i = cc in
+          ap (λ (r : Row). some (found (f .index) r)) (found-in o a rs f p .row noRow) ∙ ap (λ (n : ℕ). some (found n (getD rs n noRow))) h
+
   pub nowhere : none ≡ indexOf (findRow o a 0 rs) → findRow o a 0 rs ≡ none
   nowhere = by (findRow o a 0 rs)
     where
