@@ -5,3 +5,4 @@ pub mod Entering
 pub mod Counting
 pub mod Readings
 pub mod Nanned
+pub mod Codes
