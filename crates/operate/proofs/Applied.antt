@@ -27,6 +27,12 @@ weighed-good p (x ∷ r) v f w e =
     (λ z. bind-step-good (mul binary64 v z) (λ u. weighed (suc p) r u) (λ g. weighed-good (suc p) r (mul binary64 v z) g)))
     w e
 
+-- a step that goes on from a finite value
+next-good : (s : Step) (k : Float → Step) → ((y : Float) → s ≡ Finite y → T (finite y)) → ((y : Float) → T (finite y) → (w : Float) → k y ≡ Finite w → T (finite w)) → (w : Float) → (s >>= k) ≡ Finite w → T (finite w)
+unfolding _>>=_
+next-good (Finite y) k h n w e = n y (h y refl) w e
+next-good NotFinite k h n w e = h w e
+
 -- the copies after a value
 abbrev copied : Values → Float → Step
 copied g v = weighed 0 (sorted (g .positive)) v >>= λ w. weighed 0 (sorted (g .negative)) w
@@ -74,6 +80,13 @@ module _ {high : Bool} {op : EffectOperator} {v : Float} {g : Values} {r : Runni
     whole {w} n next =
         let q = sym (weighs (R .good x e)) ∙ n in
         next (weighed-good 0 (sorted (g .positive)) x (R .good x e) w q) ∙ sym (begun ∙ bound _ e ∙ bound _ q)
+
+  -- a value that comes of it is finite
+  pub applied-good : {x : Float} → applied high op v g ≡ Finite x → T (finite x)
+  applied-good {x} e =
+      next-good (r .step) (copied g) (R .good)
+      (λ y f. next-good (weighed 0 (sorted (g .positive)) y) (weighed 0 (sorted (g .negative))) (weighed-good 0 (sorted (g .positive)) y f) (weighed-good 0 (sorted (g .negative))))
+      x (sym begun ∙ e)
 
 -- an operator without entries is passed over
 pub applied-nothing : (high : Bool) (op : EffectOperator) (v : Float) → applied high op v nothing ≡ Finite v
