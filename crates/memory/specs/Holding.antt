@@ -27,7 +27,7 @@ use Rattle.sources.specs.Keeping.{RunOf, Keeping}
 use Rattle.gather.specs.declared.Pile.{Pile}
 use Rattle.gather.specs.declared.Stop.the-variants.{No, Because}
 use Rattle.gather.specs.Piles.{PileOf}
-use Rattle.memory.specs.Memory.{valueAt}
+use Rattle.memory.specs.Memory.{valueAt, valueColumn, AllFinite}
 use Rattle.memory.specs.Steps.{rowAt, entryAt}
 
 -- the columns that a calculation only reads
@@ -79,15 +79,11 @@ pub record Told (w : World) (s₀ : List (List ℕ)) (f₀ : List (List Float)) 
   pub row : (i : ℕ) → i < length (w .rows) → RowTold w t i
   pub running : (o : ℕ) → o < 1024 → getD (getD (t .states) o []) 0 0 ≡ stateOf w o
 
--- the values in their column: NaN where none is
-abbrev pub valueColumn : List (Option Float) → List Float
-valueColumn vs = map (λ (o : Option Float). Option·getD o nan) vs
-
 -- what is written holds the memory: v the values, s and f list 5 with so many source rows
 pub record Holds (w : World) (s₀ : List (List ℕ)) (f₀ : List (List Float)) (m : Mem) (v : List Float) (s : List (List ℕ)) (f : List (List Float)) (used : ℕ) : Type 0 where
   pub values : v ≡ valueColumn (m .values)
   pub long : length (m .values) ≡ length (w .rows)
-  pub numbers : (i : ℕ) (x : Float) → valueAt m i ≡ some x → T (finite x)
+  pub numbers : AllFinite (m .values)
   pub sources : (i : ℕ) → Keeping (countsOf w) (w .room) s₀ f₀ i m s f (length (ownSources i m)) used
   pub clean : (i : ℕ) → valueAt m i ≡ none → ownSources i m ≡ []
 
