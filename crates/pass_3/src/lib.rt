@@ -40,7 +40,7 @@ ghost use Rattle.rules.specs.Codes.{operators};
 ghost use Rattle.rules.specs.Dispatch.{Row};
 ghost use Rattle.rules.specs.Info.{getDogmaAttribute, highIsGood};
 ghost use Rattle.rules.specs.Value.{valueOf, operate, gather, clamped};
-ghost use Rattle.rules.specs.Value as values;
+ghost use Rattle.rules.specs.Value as defined;
 ghost use Rattle.memory.specs.Steps.{rowAt, entryAt, strengthOf, evaluation};
 ghost use Rattle.memory.specs.Holding.{tables, Good, Ready, Busy, Piling, PileMeets};
 ghost use Rattle.apply.specs.Answers.{Meets, PartMeets, heldBy};
@@ -629,7 +629,7 @@ fn resisted(
 ) -> Got
     requires { ⌜ Ready (tables (now book) (now pairs) (now states) (now stretches) (now limits) (now rows) (now bases) (now entries) (now «entry_values»)) run (now values) (now sources) (now floats) used ⌝ }
     requires { ⌜ T (finite v) ⌝ }
-    ensures { λ r. ⌜ ((h : Ready (tables (now (book .entry)) (now (pairs .entry)) (now (states .entry)) (now (stretches .entry)) (now (limits .entry)) (now (rows .entry)) (now (bases .entry)) (now (entries .entry)) (now («entry_values» .entry))) run (now (values .entry)) (now (sources .entry)) (now (floats .entry)) used) (i : ℕ) (row : Row) → row .object ≡ object → Meets (h .world) (h .sources₀) (h .floats₀) (values.resisted (h .world) i row (valueOf (h .world) left) resistance (record { value = v; mem = h .mem })) r (now (values .exit)) (now (sources .exit)) (now (floats .exit))) ⌝ }
+    ensures { λ r. ⌜ ((h : Ready (tables (now (book .entry)) (now (pairs .entry)) (now (states .entry)) (now (stretches .entry)) (now (limits .entry)) (now (rows .entry)) (now (bases .entry)) (now (entries .entry)) (now («entry_values» .entry))) run (now (values .entry)) (now (sources .entry)) (now (floats .entry)) used) (i : ℕ) (row : Row) → row .object ≡ object → Meets (h .world) (h .sources₀) (h .floats₀) (defined.resisted (h .world) i row (valueOf (h .world) left) resistance (record { value = v; mem = h .mem })) r (now (values .exit)) (now (sources .exit)) (now (floats .exit))) ⌝ }
 {
     match resistance {
         OptionalId::Absent => Got::Value(v, used),

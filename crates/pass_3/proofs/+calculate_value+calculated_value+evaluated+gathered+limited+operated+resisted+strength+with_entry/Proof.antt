@@ -1,0 +1,2777 @@
+-- Made by `answers` from Proof.answers: edit that file.
+-- `pass_3::calculate_value` meets its contract. Assumes nothing.
+use Prim.Native.Nat.{ℕ, _<_}
+use borrow.Fn.Kinds.{In}
+use borrow.Fn.PlainCycle.{Measures, is, falls, and}
+use Rattle.pass_3.proofs.calculate_value.Reads as calculate-value
+use Rattle.pass_3.proofs.calculate_value.Kinds as calculate-value-kinds
+use Rattle.pass_3.proofs.+calculate_value+calculated_value+evaluated+gathered+limited+operated+resisted+strength+with_entry.Lts-calculate_value as calculate-value-lts
+use Rattle.pass_3.proofs.calculated_value.Reads as calculated-value
+use Rattle.pass_3.proofs.calculated_value.Kinds as calculated-value-kinds
+use Rattle.pass_3.proofs.+calculate_value+calculated_value+evaluated+gathered+limited+operated+resisted+strength+with_entry.Lts-calculated_value as calculated-value-lts
+use Rattle.pass_3.proofs.evaluated.Reads as evaluated
+use Rattle.pass_3.proofs.evaluated.Kinds as evaluated-kinds
+use Rattle.pass_3.proofs.+calculate_value+calculated_value+evaluated+gathered+limited+operated+resisted+strength+with_entry.Lts-evaluated as evaluated-lts
+use Rattle.pass_3.proofs.gathered.Reads as gathered
+use Rattle.pass_3.proofs.gathered.Kinds as gathered-kinds
+use Rattle.pass_3.proofs.+calculate_value+calculated_value+evaluated+gathered+limited+operated+resisted+strength+with_entry.Lts-gathered as gathered-lts
+use Rattle.pass_3.proofs.limited.Reads as limited
+use Rattle.pass_3.proofs.limited.Kinds as limited-kinds
+use Rattle.pass_3.proofs.+calculate_value+calculated_value+evaluated+gathered+limited+operated+resisted+strength+with_entry.Lts-limited as limited-lts
+use Rattle.pass_3.proofs.operated.Reads as operated
+use Rattle.pass_3.proofs.operated.Kinds as operated-kinds
+use Rattle.pass_3.proofs.+calculate_value+calculated_value+evaluated+gathered+limited+operated+resisted+strength+with_entry.Lts-operated as operated-lts
+use Rattle.pass_3.proofs.resisted.Reads as resisted
+use Rattle.pass_3.proofs.resisted.Kinds as resisted-kinds
+use Rattle.pass_3.proofs.+calculate_value+calculated_value+evaluated+gathered+limited+operated+resisted+strength+with_entry.Lts-resisted as resisted-lts
+use Rattle.pass_3.proofs.strength.Reads as strength
+use Rattle.pass_3.proofs.strength.Kinds as strength-kinds
+use Rattle.pass_3.proofs.+calculate_value+calculated_value+evaluated+gathered+limited+operated+resisted+strength+with_entry.Lts-strength as strength-lts
+use Rattle.pass_3.proofs.with_entry.Reads as with-entry
+use Rattle.pass_3.proofs.with_entry.Kinds as with-entry-kinds
+use Rattle.pass_3.proofs.+calculate_value+calculated_value+evaluated+gathered+limited+operated+resisted+strength+with_entry.Lts-with_entry as with-entry-lts
+use Rattle.apply.proofs.apply.Reads as apply-reads
+use Rattle.apply.proofs.held_to.Reads as held-to-reads
+use Rattle.gather.proofs.add_entry.Reads as add-entry-reads
+use Rattle.gather.proofs.counted.Reads as counted-reads
+use Rattle.gather.proofs.empty.Reads as empty-reads
+use Rattle.gather.proofs.stopped.Reads as stopped-reads
+use Rattle.info.proofs.look_ups.get_dogma_attribute.Reads as get-dogma-attribute-reads
+use Rattle.item.proofs.codes.operator_code.Reads as operator-code-reads
+use Rattle.numbers.proofs.product.Reads as product-reads
+use Rattle.numbers.proofs.signed.Reads as signed-reads
+use Rattle.reading.proofs.entries.entry_at.Reads as entry-at-reads
+use Rattle.reading.proofs.entries.has_operator.Reads as has-operator-reads
+use Rattle.reading.proofs.entries.is_running.Reads as is-running-reads
+use Rattle.reading.proofs.entries.operator_of.Reads as operator-of-reads
+use Rattle.stretches.proofs.find.Reads as find-reads
+use Rattle.stretches.proofs.is_limited.Reads as is-limited-reads
+use Rattle.pass_3.proofs.+calculate_value+calculated_value+evaluated+gathered+limited+operated+resisted+strength+with_entry.{
+use borrow.Author.Needs.{needs}
+use native.Mathlib.Omega.{arith}
+
+  statement,
+}
+use Rattle.pass_3.proofs.+calculate_value+calculated_value+evaluated+gathered+limited+operated+resisted+strength+with_entry.Tie.{
+  close,
+}
+
+abbrev μ-calculate-value : Measures 12 calculate-value-kinds.ps ℕ
+μ-calculate-value κs a = ?
+
+abbrev μ-calculated-value : Measures 12 calculated-value-kinds.ps ℕ
+μ-calculated-value κs a = ?
+
+abbrev μ-evaluated : Measures 12 evaluated-kinds.ps ℕ
+μ-evaluated κs a = ?
+
+abbrev μ-gathered : Measures 12 gathered-kinds.ps ℕ
+μ-gathered κs a = ?
+
+abbrev μ-limited : Measures 12 limited-kinds.ps ℕ
+μ-limited κs a = ?
+
+abbrev μ-operated : Measures 12 operated-kinds.ps ℕ
+μ-operated κs a = ?
+
+abbrev μ-resisted : Measures 12 resisted-kinds.ps ℕ
+μ-resisted κs a = ?
+
+abbrev μ-strength : Measures 12 strength-kinds.ps ℕ
+μ-strength κs a = ?
+
+abbrev μ-with-entry : Measures 12 with-entry-kinds.ps ℕ
+μ-with-entry κs a = ?
+
+abbrev calculate-value-at : ℕ → In 12 calculate-value-kinds.ps
+calculate-value-at t =
+    and
+    12
+    calculate-value-kinds.ps
+    (is 12 calculate-value-kinds.ps μ-calculate-value t)
+    calculate-value.Pre
+
+abbrev calculate-value-below : ℕ → In 12 calculate-value-kinds.ps
+calculate-value-below t =
+    and
+    12
+    calculate-value-kinds.ps
+    (falls 12 calculate-value-kinds.ps _<_ μ-calculate-value t)
+    calculate-value.Pre
+
+abbrev calculated-value-at : ℕ → In 12 calculated-value-kinds.ps
+calculated-value-at t =
+    and
+    12
+    calculated-value-kinds.ps
+    (is 12 calculated-value-kinds.ps μ-calculated-value t)
+    calculated-value.Pre
+
+abbrev calculated-value-below : ℕ → In 12 calculated-value-kinds.ps
+calculated-value-below t =
+    and
+    12
+    calculated-value-kinds.ps
+    (falls 12 calculated-value-kinds.ps _<_ μ-calculated-value t)
+    calculated-value.Pre
+
+abbrev evaluated-at : ℕ → In 12 evaluated-kinds.ps
+evaluated-at t = and 12 evaluated-kinds.ps (is 12 evaluated-kinds.ps μ-evaluated t) evaluated.Pre
+
+abbrev evaluated-below : ℕ → In 12 evaluated-kinds.ps
+evaluated-below t =
+    and 12 evaluated-kinds.ps (falls 12 evaluated-kinds.ps _<_ μ-evaluated t) evaluated.Pre
+
+abbrev gathered-at : ℕ → In 12 gathered-kinds.ps
+gathered-at t = and 12 gathered-kinds.ps (is 12 gathered-kinds.ps μ-gathered t) gathered.Pre
+
+abbrev gathered-below : ℕ → In 12 gathered-kinds.ps
+gathered-below t =
+    and 12 gathered-kinds.ps (falls 12 gathered-kinds.ps _<_ μ-gathered t) gathered.Pre
+
+abbrev limited-at : ℕ → In 12 limited-kinds.ps
+limited-at t = and 12 limited-kinds.ps (is 12 limited-kinds.ps μ-limited t) limited.Pre
+
+abbrev limited-below : ℕ → In 12 limited-kinds.ps
+limited-below t = and 12 limited-kinds.ps (falls 12 limited-kinds.ps _<_ μ-limited t) limited.Pre
+
+abbrev operated-at : ℕ → In 12 operated-kinds.ps
+operated-at t = and 12 operated-kinds.ps (is 12 operated-kinds.ps μ-operated t) operated.Pre
+
+abbrev operated-below : ℕ → In 12 operated-kinds.ps
+operated-below t =
+    and 12 operated-kinds.ps (falls 12 operated-kinds.ps _<_ μ-operated t) operated.Pre
+
+abbrev resisted-at : ℕ → In 12 resisted-kinds.ps
+resisted-at t = and 12 resisted-kinds.ps (is 12 resisted-kinds.ps μ-resisted t) resisted.Pre
+
+abbrev resisted-below : ℕ → In 12 resisted-kinds.ps
+resisted-below t =
+    and 12 resisted-kinds.ps (falls 12 resisted-kinds.ps _<_ μ-resisted t) resisted.Pre
+
+abbrev strength-at : ℕ → In 12 strength-kinds.ps
+strength-at t = and 12 strength-kinds.ps (is 12 strength-kinds.ps μ-strength t) strength.Pre
+
+abbrev strength-below : ℕ → In 12 strength-kinds.ps
+strength-below t =
+    and 12 strength-kinds.ps (falls 12 strength-kinds.ps _<_ μ-strength t) strength.Pre
+
+abbrev with-entry-at : ℕ → In 12 with-entry-kinds.ps
+with-entry-at t =
+    and 12 with-entry-kinds.ps (is 12 with-entry-kinds.ps μ-with-entry t) with-entry.Pre
+
+abbrev with-entry-below : ℕ → In 12 with-entry-kinds.ps
+with-entry-below t =
+    and 12 with-entry-kinds.ps (falls 12 with-entry-kinds.ps _<_ μ-with-entry t) with-entry.Pre
+
+calculate-value-mul-v : (t : ℕ) → calculate-value-lts.Need-mul-v (
+  evaluated-below t,
+  evaluated.Post,
+) (calculate-value-at t) calculate-value.Post
+calculate-value-mul-v t c = search needs
+
+calculate-value-slice-read-v : (t : ℕ) → calculate-value-lts.Need-slice-read-v (
+  evaluated-below t,
+  evaluated.Post,
+) (calculate-value-at t) calculate-value.Post
+calculate-value-slice-read-v t c = search needs
+
+calculate-value-returns : (t : ℕ) → calculate-value-lts.Need-returns (
+  evaluated-below t,
+  evaluated.Post,
+) (calculate-value-at t) calculate-value.Post
+calculate-value-returns t c = search needs
+
+calculate-value-mul-object : (t : ℕ) → calculate-value-lts.Need-mul-object (
+  evaluated-below t,
+  evaluated.Post,
+) (calculate-value-at t) calculate-value.Post
+calculate-value-mul-object t c = search needs
+
+calculate-value-index-1-object : (t : ℕ) → calculate-value-lts.Need-index-1-object (
+  evaluated-below t,
+  evaluated.Post,
+) (calculate-value-at t) calculate-value.Post
+calculate-value-index-1-object t c = search needs
+
+calculate-value-index-2-object : (t : ℕ) → calculate-value-lts.Need-index-2-object (
+  evaluated-below t,
+  evaluated.Post,
+) (calculate-value-at t) calculate-value.Post
+calculate-value-index-2-object t c = search needs
+
+calculate-value-returns-2 : (t : ℕ) → calculate-value-lts.Need-returns-2 (
+  evaluated-below t,
+  evaluated.Post,
+) (calculate-value-at t) calculate-value.Post
+calculate-value-returns-2 t c = search needs
+
+calculate-value-mul-base : (t : ℕ) → calculate-value-lts.Need-mul-base (
+  evaluated-below t,
+  evaluated.Post,
+) (calculate-value-at t) calculate-value.Post
+calculate-value-mul-base t c = search needs
+
+calculate-value-shared-slice-read-base : (t : ℕ) → calculate-value-lts.Need-shared-slice-read-base (
+  evaluated-below t,
+  evaluated.Post,
+) (calculate-value-at t) calculate-value.Post
+calculate-value-shared-slice-read-base t c = search needs
+
+calculate-value-mul-values : (t : ℕ) → calculate-value-lts.Need-mul-values (
+  evaluated-below t,
+  evaluated.Post,
+) (calculate-value-at t) calculate-value.Post
+calculate-value-mul-values t c = search needs
+
+calculate-value-slice-write-values : (t : ℕ) → calculate-value-lts.Need-slice-write-values (
+  evaluated-below t,
+  evaluated.Post,
+) (calculate-value-at t) calculate-value.Post
+calculate-value-slice-write-values t c = search needs
+
+calculate-value-sub-evaluated : (t : ℕ) → calculate-value-lts.Need-sub-evaluated (
+  evaluated-below t,
+  evaluated.Post,
+) (calculate-value-at t) calculate-value.Post
+calculate-value-sub-evaluated t c = search needs
+
+calculate-value-evaluated-requires : (t : ℕ) → calculate-value-lts.Need-evaluated-requires (
+  evaluated-below t,
+  evaluated.Post,
+) (calculate-value-at t) calculate-value.Post
+calculate-value-evaluated-requires t c κs = search needs
+
+calculate-value-enum-known-got : (t : ℕ) → calculate-value-lts.Need-enum-known-got (
+  evaluated-below t,
+  evaluated.Post,
+) (calculate-value-at t) calculate-value.Post
+calculate-value-enum-known-got t c = search needs
+
+calculate-value-mul-values-2 : (t : ℕ) → calculate-value-lts.Need-mul-values-2 (
+  evaluated-below t,
+  evaluated.Post,
+) (calculate-value-at t) calculate-value.Post
+calculate-value-mul-values-2 t c = search needs
+
+calculate-value-slice-write-values-2 : (t : ℕ) → calculate-value-lts.Need-slice-write-values-2 (
+  evaluated-below t,
+  evaluated.Post,
+) (calculate-value-at t) calculate-value.Post
+calculate-value-slice-write-values-2 t c = search needs
+
+calculate-value-enum-known-got-2 : (t : ℕ) → calculate-value-lts.Need-enum-known-got-2 (
+  evaluated-below t,
+  evaluated.Post,
+) (calculate-value-at t) calculate-value.Post
+calculate-value-enum-known-got-2 t c = search needs
+
+calculate-value-same-length : (t : ℕ) → calculate-value-lts.Need-same-length (
+  evaluated-below t,
+  evaluated.Post,
+) (calculate-value-at t) calculate-value.Post
+calculate-value-same-length t c = search needs
+
+calculate-value-same-length-2 : (t : ℕ) → calculate-value-lts.Need-same-length-2 (
+  evaluated-below t,
+  evaluated.Post,
+) (calculate-value-at t) calculate-value.Post
+calculate-value-same-length-2 t c = search needs
+
+calculate-value-same-length-3 : (t : ℕ) → calculate-value-lts.Need-same-length-3 (
+  evaluated-below t,
+  evaluated.Post,
+) (calculate-value-at t) calculate-value.Post
+calculate-value-same-length-3 t c = search needs
+
+calculate-value-returns-3 : (t : ℕ) → calculate-value-lts.Need-returns-3 (
+  evaluated-below t,
+  evaluated.Post,
+) (calculate-value-at t) calculate-value.Post
+calculate-value-returns-3 t c = search needs
+
+calculate-value-same-length-4 : (t : ℕ) → calculate-value-lts.Need-same-length-4 (
+  evaluated-below t,
+  evaluated.Post,
+) (calculate-value-at t) calculate-value.Post
+calculate-value-same-length-4 t c = search needs
+
+calculate-value-same-length-5 : (t : ℕ) → calculate-value-lts.Need-same-length-5 (
+  evaluated-below t,
+  evaluated.Post,
+) (calculate-value-at t) calculate-value.Post
+calculate-value-same-length-5 t c = search needs
+
+calculate-value-same-length-6 : (t : ℕ) → calculate-value-lts.Need-same-length-6 (
+  evaluated-below t,
+  evaluated.Post,
+) (calculate-value-at t) calculate-value.Post
+calculate-value-same-length-6 t c = search needs
+
+calculate-value-returns-4 : (t : ℕ) → calculate-value-lts.Need-returns-4 (
+  evaluated-below t,
+  evaluated.Post,
+) (calculate-value-at t) calculate-value.Post
+calculate-value-returns-4 t c = search needs
+
+calculated-value-find-requires : (t : ℕ) → calculated-value-lts.Need-find-requires (
+  find-reads.Asked,
+  find-reads.Learnt,
+  calculate-value-below t,
+  calculate-value.Post,
+  get-dogma-attribute-reads.Asked,
+  get-dogma-attribute-reads.Learnt,
+) (calculated-value-at t) calculated-value.Post
+calculated-value-find-requires t c κs = search needs
+
+calculated-value-enum-known-found : (t : ℕ) → calculated-value-lts.Need-enum-known-found (
+  find-reads.Asked,
+  find-reads.Learnt,
+  calculate-value-below t,
+  calculate-value.Post,
+  get-dogma-attribute-reads.Asked,
+  get-dogma-attribute-reads.Learnt,
+) (calculated-value-at t) calculated-value.Post
+calculated-value-enum-known-found t c = search needs
+
+calculated-value-calculate-value-requires :
+    (t : ℕ) → calculated-value-lts.Need-calculate-value-requires (
+      find-reads.Asked,
+      find-reads.Learnt,
+      calculate-value-below t,
+      calculate-value.Post,
+      get-dogma-attribute-reads.Asked,
+      get-dogma-attribute-reads.Learnt,
+    ) (calculated-value-at t) calculated-value.Post
+calculated-value-calculate-value-requires t c κs = search needs
+
+calculated-value-enum-told : (t : ℕ) → calculated-value-lts.Need-enum-told (
+  find-reads.Asked,
+  find-reads.Learnt,
+  calculate-value-below t,
+  calculate-value.Post,
+  get-dogma-attribute-reads.Asked,
+  get-dogma-attribute-reads.Learnt,
+) (calculated-value-at t) calculated-value.Post
+calculated-value-enum-told t c = search needs
+
+calculated-value-get-dogma-attribute-requires :
+    (t : ℕ) → calculated-value-lts.Need-get-dogma-attribute-requires (
+      find-reads.Asked,
+      find-reads.Learnt,
+      calculate-value-below t,
+      calculate-value.Post,
+      get-dogma-attribute-reads.Asked,
+      get-dogma-attribute-reads.Learnt,
+    ) (calculated-value-at t) calculated-value.Post
+calculated-value-get-dogma-attribute-requires t c κs = search needs
+
+calculated-value-same-length : (t : ℕ) → calculated-value-lts.Need-same-length (
+  find-reads.Asked,
+  find-reads.Learnt,
+  calculate-value-below t,
+  calculate-value.Post,
+  get-dogma-attribute-reads.Asked,
+  get-dogma-attribute-reads.Learnt,
+) (calculated-value-at t) calculated-value.Post
+calculated-value-same-length t c = search needs
+
+calculated-value-same-length-2 : (t : ℕ) → calculated-value-lts.Need-same-length-2 (
+  find-reads.Asked,
+  find-reads.Learnt,
+  calculate-value-below t,
+  calculate-value.Post,
+  get-dogma-attribute-reads.Asked,
+  get-dogma-attribute-reads.Learnt,
+) (calculated-value-at t) calculated-value.Post
+calculated-value-same-length-2 t c = search needs
+
+calculated-value-same-length-3 : (t : ℕ) → calculated-value-lts.Need-same-length-3 (
+  find-reads.Asked,
+  find-reads.Learnt,
+  calculate-value-below t,
+  calculate-value.Post,
+  get-dogma-attribute-reads.Asked,
+  get-dogma-attribute-reads.Learnt,
+) (calculated-value-at t) calculated-value.Post
+calculated-value-same-length-3 t c = search needs
+
+calculated-value-returns : (t : ℕ) → calculated-value-lts.Need-returns (
+  find-reads.Asked,
+  find-reads.Learnt,
+  calculate-value-below t,
+  calculate-value.Post,
+  get-dogma-attribute-reads.Asked,
+  get-dogma-attribute-reads.Learnt,
+) (calculated-value-at t) calculated-value.Post
+calculated-value-returns t c = search needs
+
+calculated-value-returns-2 : (t : ℕ) → calculated-value-lts.Need-returns-2 (
+  find-reads.Asked,
+  find-reads.Learnt,
+  calculate-value-below t,
+  calculate-value.Post,
+  get-dogma-attribute-reads.Asked,
+  get-dogma-attribute-reads.Learnt,
+) (calculated-value-at t) calculated-value.Post
+calculated-value-returns-2 t c = search needs
+
+evaluated-mul-signed : (t : ℕ) → evaluated-lts.Need-mul-signed (
+  signed-reads.Asked,
+  signed-reads.Learnt,
+  is-limited-reads.Asked,
+  is-limited-reads.Learnt,
+  get-dogma-attribute-reads.Asked,
+  get-dogma-attribute-reads.Learnt,
+  operated-below t,
+  operated.Post,
+  limited-below t,
+  limited.Post,
+) (evaluated-at t) evaluated.Post
+evaluated-mul-signed t c = search needs
+
+evaluated-index-1-signed : (t : ℕ) → evaluated-lts.Need-index-1-signed (
+  signed-reads.Asked,
+  signed-reads.Learnt,
+  is-limited-reads.Asked,
+  is-limited-reads.Learnt,
+  get-dogma-attribute-reads.Asked,
+  get-dogma-attribute-reads.Learnt,
+  operated-below t,
+  operated.Post,
+  limited-below t,
+  limited.Post,
+) (evaluated-at t) evaluated.Post
+evaluated-index-1-signed t c = search needs
+
+evaluated-index-2-signed : (t : ℕ) → evaluated-lts.Need-index-2-signed (
+  signed-reads.Asked,
+  signed-reads.Learnt,
+  is-limited-reads.Asked,
+  is-limited-reads.Learnt,
+  get-dogma-attribute-reads.Asked,
+  get-dogma-attribute-reads.Learnt,
+  operated-below t,
+  operated.Post,
+  limited-below t,
+  limited.Post,
+) (evaluated-at t) evaluated.Post
+evaluated-index-2-signed t c = search needs
+
+evaluated-signed-requires : (t : ℕ) → evaluated-lts.Need-signed-requires (
+  signed-reads.Asked,
+  signed-reads.Learnt,
+  is-limited-reads.Asked,
+  is-limited-reads.Learnt,
+  get-dogma-attribute-reads.Asked,
+  get-dogma-attribute-reads.Learnt,
+  operated-below t,
+  operated.Post,
+  limited-below t,
+  limited.Post,
+) (evaluated-at t) evaluated.Post
+evaluated-signed-requires t c κs = search needs
+
+evaluated-mul-count : (t : ℕ) → evaluated-lts.Need-mul-count (
+  signed-reads.Asked,
+  signed-reads.Learnt,
+  is-limited-reads.Asked,
+  is-limited-reads.Learnt,
+  get-dogma-attribute-reads.Asked,
+  get-dogma-attribute-reads.Learnt,
+  operated-below t,
+  operated.Post,
+  limited-below t,
+  limited.Post,
+) (evaluated-at t) evaluated.Post
+evaluated-mul-count t c = search needs
+
+evaluated-index-1-count : (t : ℕ) → evaluated-lts.Need-index-1-count (
+  signed-reads.Asked,
+  signed-reads.Learnt,
+  is-limited-reads.Asked,
+  is-limited-reads.Learnt,
+  get-dogma-attribute-reads.Asked,
+  get-dogma-attribute-reads.Learnt,
+  operated-below t,
+  operated.Post,
+  limited-below t,
+  limited.Post,
+) (evaluated-at t) evaluated.Post
+evaluated-index-1-count t c = search needs
+
+evaluated-index-2-count : (t : ℕ) → evaluated-lts.Need-index-2-count (
+  signed-reads.Asked,
+  signed-reads.Learnt,
+  is-limited-reads.Asked,
+  is-limited-reads.Learnt,
+  get-dogma-attribute-reads.Asked,
+  get-dogma-attribute-reads.Learnt,
+  operated-below t,
+  operated.Post,
+  limited-below t,
+  limited.Post,
+) (evaluated-at t) evaluated.Post
+evaluated-index-2-count t c = search needs
+
+evaluated-is-limited-requires : (t : ℕ) → evaluated-lts.Need-is-limited-requires (
+  signed-reads.Asked,
+  signed-reads.Learnt,
+  is-limited-reads.Asked,
+  is-limited-reads.Learnt,
+  get-dogma-attribute-reads.Asked,
+  get-dogma-attribute-reads.Learnt,
+  operated-below t,
+  operated.Post,
+  limited-below t,
+  limited.Post,
+) (evaluated-at t) evaluated.Post
+evaluated-is-limited-requires t c κs = search needs
+
+evaluated-mul-base : (t : ℕ) → evaluated-lts.Need-mul-base (
+  signed-reads.Asked,
+  signed-reads.Learnt,
+  is-limited-reads.Asked,
+  is-limited-reads.Learnt,
+  get-dogma-attribute-reads.Asked,
+  get-dogma-attribute-reads.Learnt,
+  operated-below t,
+  operated.Post,
+  limited-below t,
+  limited.Post,
+) (evaluated-at t) evaluated.Post
+evaluated-mul-base t c = search needs
+
+evaluated-shared-slice-read-base : (t : ℕ) → evaluated-lts.Need-shared-slice-read-base (
+  signed-reads.Asked,
+  signed-reads.Learnt,
+  is-limited-reads.Asked,
+  is-limited-reads.Learnt,
+  get-dogma-attribute-reads.Asked,
+  get-dogma-attribute-reads.Learnt,
+  operated-below t,
+  operated.Post,
+  limited-below t,
+  limited.Post,
+) (evaluated-at t) evaluated.Post
+evaluated-shared-slice-read-base t c = search needs
+
+evaluated-returns : (t : ℕ) → evaluated-lts.Need-returns (
+  signed-reads.Asked,
+  signed-reads.Learnt,
+  is-limited-reads.Asked,
+  is-limited-reads.Learnt,
+  get-dogma-attribute-reads.Asked,
+  get-dogma-attribute-reads.Learnt,
+  operated-below t,
+  operated.Post,
+  limited-below t,
+  limited.Post,
+) (evaluated-at t) evaluated.Post
+evaluated-returns t c = search needs
+
+evaluated-get-dogma-attribute-requires : (t : ℕ) → evaluated-lts.Need-get-dogma-attribute-requires (
+  signed-reads.Asked,
+  signed-reads.Learnt,
+  is-limited-reads.Asked,
+  is-limited-reads.Learnt,
+  get-dogma-attribute-reads.Asked,
+  get-dogma-attribute-reads.Learnt,
+  operated-below t,
+  operated.Post,
+  limited-below t,
+  limited.Post,
+) (evaluated-at t) evaluated.Post
+evaluated-get-dogma-attribute-requires t c κs = search needs
+
+evaluated-mul-object : (t : ℕ) → evaluated-lts.Need-mul-object (
+  signed-reads.Asked,
+  signed-reads.Learnt,
+  is-limited-reads.Asked,
+  is-limited-reads.Learnt,
+  get-dogma-attribute-reads.Asked,
+  get-dogma-attribute-reads.Learnt,
+  operated-below t,
+  operated.Post,
+  limited-below t,
+  limited.Post,
+) (evaluated-at t) evaluated.Post
+evaluated-mul-object t c = search needs
+
+evaluated-index-1-object : (t : ℕ) → evaluated-lts.Need-index-1-object (
+  signed-reads.Asked,
+  signed-reads.Learnt,
+  is-limited-reads.Asked,
+  is-limited-reads.Learnt,
+  get-dogma-attribute-reads.Asked,
+  get-dogma-attribute-reads.Learnt,
+  operated-below t,
+  operated.Post,
+  limited-below t,
+  limited.Post,
+) (evaluated-at t) evaluated.Post
+evaluated-index-1-object t c = search needs
+
+evaluated-index-2-object : (t : ℕ) → evaluated-lts.Need-index-2-object (
+  signed-reads.Asked,
+  signed-reads.Learnt,
+  is-limited-reads.Asked,
+  is-limited-reads.Learnt,
+  get-dogma-attribute-reads.Asked,
+  get-dogma-attribute-reads.Learnt,
+  operated-below t,
+  operated.Post,
+  limited-below t,
+  limited.Post,
+) (evaluated-at t) evaluated.Post
+evaluated-index-2-object t c = search needs
+
+evaluated-operated-requires : (t : ℕ) → evaluated-lts.Need-operated-requires (
+  signed-reads.Asked,
+  signed-reads.Learnt,
+  is-limited-reads.Asked,
+  is-limited-reads.Learnt,
+  get-dogma-attribute-reads.Asked,
+  get-dogma-attribute-reads.Learnt,
+  operated-below t,
+  operated.Post,
+  limited-below t,
+  limited.Post,
+) (evaluated-at t) evaluated.Post
+evaluated-operated-requires t c κs = search needs
+
+evaluated-enum-known-got : (t : ℕ) → evaluated-lts.Need-enum-known-got (
+  signed-reads.Asked,
+  signed-reads.Learnt,
+  is-limited-reads.Asked,
+  is-limited-reads.Learnt,
+  get-dogma-attribute-reads.Asked,
+  get-dogma-attribute-reads.Learnt,
+  operated-below t,
+  operated.Post,
+  limited-below t,
+  limited.Post,
+) (evaluated-at t) evaluated.Post
+evaluated-enum-known-got t c = search needs
+
+evaluated-enum-told : (t : ℕ) → evaluated-lts.Need-enum-told (
+  signed-reads.Asked,
+  signed-reads.Learnt,
+  is-limited-reads.Asked,
+  is-limited-reads.Learnt,
+  get-dogma-attribute-reads.Asked,
+  get-dogma-attribute-reads.Learnt,
+  operated-below t,
+  operated.Post,
+  limited-below t,
+  limited.Post,
+) (evaluated-at t) evaluated.Post
+evaluated-enum-told t c = search needs
+
+evaluated-same-length : (t : ℕ) → evaluated-lts.Need-same-length (
+  signed-reads.Asked,
+  signed-reads.Learnt,
+  is-limited-reads.Asked,
+  is-limited-reads.Learnt,
+  get-dogma-attribute-reads.Asked,
+  get-dogma-attribute-reads.Learnt,
+  operated-below t,
+  operated.Post,
+  limited-below t,
+  limited.Post,
+) (evaluated-at t) evaluated.Post
+evaluated-same-length t c = search needs
+
+evaluated-same-length-2 : (t : ℕ) → evaluated-lts.Need-same-length-2 (
+  signed-reads.Asked,
+  signed-reads.Learnt,
+  is-limited-reads.Asked,
+  is-limited-reads.Learnt,
+  get-dogma-attribute-reads.Asked,
+  get-dogma-attribute-reads.Learnt,
+  operated-below t,
+  operated.Post,
+  limited-below t,
+  limited.Post,
+) (evaluated-at t) evaluated.Post
+evaluated-same-length-2 t c = search needs
+
+evaluated-same-length-3 : (t : ℕ) → evaluated-lts.Need-same-length-3 (
+  signed-reads.Asked,
+  signed-reads.Learnt,
+  is-limited-reads.Asked,
+  is-limited-reads.Learnt,
+  get-dogma-attribute-reads.Asked,
+  get-dogma-attribute-reads.Learnt,
+  operated-below t,
+  operated.Post,
+  limited-below t,
+  limited.Post,
+) (evaluated-at t) evaluated.Post
+evaluated-same-length-3 t c = search needs
+
+evaluated-returns-2 : (t : ℕ) → evaluated-lts.Need-returns-2 (
+  signed-reads.Asked,
+  signed-reads.Learnt,
+  is-limited-reads.Asked,
+  is-limited-reads.Learnt,
+  get-dogma-attribute-reads.Asked,
+  get-dogma-attribute-reads.Learnt,
+  operated-below t,
+  operated.Post,
+  limited-below t,
+  limited.Post,
+) (evaluated-at t) evaluated.Post
+evaluated-returns-2 t c = search needs
+
+evaluated-limited-requires : (t : ℕ) → evaluated-lts.Need-limited-requires (
+  signed-reads.Asked,
+  signed-reads.Learnt,
+  is-limited-reads.Asked,
+  is-limited-reads.Learnt,
+  get-dogma-attribute-reads.Asked,
+  get-dogma-attribute-reads.Learnt,
+  operated-below t,
+  operated.Post,
+  limited-below t,
+  limited.Post,
+) (evaluated-at t) evaluated.Post
+evaluated-limited-requires t c κs = search needs
+
+evaluated-enum-known-low : (t : ℕ) → evaluated-lts.Need-enum-known-low (
+  signed-reads.Asked,
+  signed-reads.Learnt,
+  is-limited-reads.Asked,
+  is-limited-reads.Learnt,
+  get-dogma-attribute-reads.Asked,
+  get-dogma-attribute-reads.Learnt,
+  operated-below t,
+  operated.Post,
+  limited-below t,
+  limited.Post,
+) (evaluated-at t) evaluated.Post
+evaluated-enum-known-low t c = search needs
+
+evaluated-enum-told-2 : (t : ℕ) → evaluated-lts.Need-enum-told-2 (
+  signed-reads.Asked,
+  signed-reads.Learnt,
+  is-limited-reads.Asked,
+  is-limited-reads.Learnt,
+  get-dogma-attribute-reads.Asked,
+  get-dogma-attribute-reads.Learnt,
+  operated-below t,
+  operated.Post,
+  limited-below t,
+  limited.Post,
+) (evaluated-at t) evaluated.Post
+evaluated-enum-told-2 t c = search needs
+
+evaluated-same-length-4 : (t : ℕ) → evaluated-lts.Need-same-length-4 (
+  signed-reads.Asked,
+  signed-reads.Learnt,
+  is-limited-reads.Asked,
+  is-limited-reads.Learnt,
+  get-dogma-attribute-reads.Asked,
+  get-dogma-attribute-reads.Learnt,
+  operated-below t,
+  operated.Post,
+  limited-below t,
+  limited.Post,
+) (evaluated-at t) evaluated.Post
+evaluated-same-length-4 t c = search needs
+
+evaluated-same-length-5 : (t : ℕ) → evaluated-lts.Need-same-length-5 (
+  signed-reads.Asked,
+  signed-reads.Learnt,
+  is-limited-reads.Asked,
+  is-limited-reads.Learnt,
+  get-dogma-attribute-reads.Asked,
+  get-dogma-attribute-reads.Learnt,
+  operated-below t,
+  operated.Post,
+  limited-below t,
+  limited.Post,
+) (evaluated-at t) evaluated.Post
+evaluated-same-length-5 t c = search needs
+
+evaluated-same-length-6 : (t : ℕ) → evaluated-lts.Need-same-length-6 (
+  signed-reads.Asked,
+  signed-reads.Learnt,
+  is-limited-reads.Asked,
+  is-limited-reads.Learnt,
+  get-dogma-attribute-reads.Asked,
+  get-dogma-attribute-reads.Learnt,
+  operated-below t,
+  operated.Post,
+  limited-below t,
+  limited.Post,
+) (evaluated-at t) evaluated.Post
+evaluated-same-length-6 t c = search needs
+
+evaluated-returns-3 : (t : ℕ) → evaluated-lts.Need-returns-3 (
+  signed-reads.Asked,
+  signed-reads.Learnt,
+  is-limited-reads.Asked,
+  is-limited-reads.Learnt,
+  get-dogma-attribute-reads.Asked,
+  get-dogma-attribute-reads.Learnt,
+  operated-below t,
+  operated.Post,
+  limited-below t,
+  limited.Post,
+) (evaluated-at t) evaluated.Post
+evaluated-returns-3 t c = search needs
+
+evaluated-limited-requires-2 : (t : ℕ) → evaluated-lts.Need-limited-requires-2 (
+  signed-reads.Asked,
+  signed-reads.Learnt,
+  is-limited-reads.Asked,
+  is-limited-reads.Learnt,
+  get-dogma-attribute-reads.Asked,
+  get-dogma-attribute-reads.Learnt,
+  operated-below t,
+  operated.Post,
+  limited-below t,
+  limited.Post,
+) (evaluated-at t) evaluated.Post
+evaluated-limited-requires-2 t c κs = search needs
+
+evaluated-same-length-7 : (t : ℕ) → evaluated-lts.Need-same-length-7 (
+  signed-reads.Asked,
+  signed-reads.Learnt,
+  is-limited-reads.Asked,
+  is-limited-reads.Learnt,
+  get-dogma-attribute-reads.Asked,
+  get-dogma-attribute-reads.Learnt,
+  operated-below t,
+  operated.Post,
+  limited-below t,
+  limited.Post,
+) (evaluated-at t) evaluated.Post
+evaluated-same-length-7 t c = search needs
+
+evaluated-same-length-8 : (t : ℕ) → evaluated-lts.Need-same-length-8 (
+  signed-reads.Asked,
+  signed-reads.Learnt,
+  is-limited-reads.Asked,
+  is-limited-reads.Learnt,
+  get-dogma-attribute-reads.Asked,
+  get-dogma-attribute-reads.Learnt,
+  operated-below t,
+  operated.Post,
+  limited-below t,
+  limited.Post,
+) (evaluated-at t) evaluated.Post
+evaluated-same-length-8 t c = search needs
+
+evaluated-same-length-9 : (t : ℕ) → evaluated-lts.Need-same-length-9 (
+  signed-reads.Asked,
+  signed-reads.Learnt,
+  is-limited-reads.Asked,
+  is-limited-reads.Learnt,
+  get-dogma-attribute-reads.Asked,
+  get-dogma-attribute-reads.Learnt,
+  operated-below t,
+  operated.Post,
+  limited-below t,
+  limited.Post,
+) (evaluated-at t) evaluated.Post
+evaluated-same-length-9 t c = search needs
+
+evaluated-returns-4 : (t : ℕ) → evaluated-lts.Need-returns-4 (
+  signed-reads.Asked,
+  signed-reads.Learnt,
+  is-limited-reads.Asked,
+  is-limited-reads.Learnt,
+  get-dogma-attribute-reads.Asked,
+  get-dogma-attribute-reads.Learnt,
+  operated-below t,
+  operated.Post,
+  limited-below t,
+  limited.Post,
+) (evaluated-at t) evaluated.Post
+evaluated-returns-4 t c = search needs
+
+abbrev gathered-Inv-loop : gathered-lts.InvT-loop
+gathered-Inv-loop values₀ sources₀ floats₀ book pairs states stretches limits rows bases entries entry-values run row operator high left found own used count p₀ k₀ values sources floats p k = ?
+
+abbrev gathered-μ-loop : gathered-lts.MeasureT-loop
+gathered-μ-loop values₀ sources₀ floats₀ book pairs states stretches limits rows bases entries entry-values run row operator high left found own used count p₀ k₀ values sources floats p k = ?
+
+gathered-mul-count : (t : ℕ) → gathered-lts.Need-mul-count (
+  empty-reads.Asked,
+  empty-reads.Learnt,
+  with-entry-below t,
+  with-entry.Post,
+  apply-reads.Asked,
+  apply-reads.Learnt,
+) (gathered-at t) gathered.Post gathered-Inv-loop gathered-μ-loop
+gathered-mul-count t c = search needs
+
+gathered-index-1-count : (t : ℕ) → gathered-lts.Need-index-1-count (
+  empty-reads.Asked,
+  empty-reads.Learnt,
+  with-entry-below t,
+  with-entry.Post,
+  apply-reads.Asked,
+  apply-reads.Learnt,
+) (gathered-at t) gathered.Post gathered-Inv-loop gathered-μ-loop
+gathered-index-1-count t c = search needs
+
+gathered-index-2-count : (t : ℕ) → gathered-lts.Need-index-2-count (
+  empty-reads.Asked,
+  empty-reads.Learnt,
+  with-entry-below t,
+  with-entry.Post,
+  apply-reads.Asked,
+  apply-reads.Learnt,
+) (gathered-at t) gathered.Post gathered-Inv-loop gathered-μ-loop
+gathered-index-2-count t c = search needs
+
+gathered-cast-count : (t : ℕ) → gathered-lts.Need-cast-count (
+  empty-reads.Asked,
+  empty-reads.Learnt,
+  with-entry-below t,
+  with-entry.Post,
+  apply-reads.Asked,
+  apply-reads.Learnt,
+) (gathered-at t) gathered.Post gathered-Inv-loop gathered-μ-loop
+gathered-cast-count t c = search needs
+
+gathered-empty-requires : (t : ℕ) → gathered-lts.Need-empty-requires (
+  empty-reads.Asked,
+  empty-reads.Learnt,
+  with-entry-below t,
+  with-entry.Post,
+  apply-reads.Asked,
+  apply-reads.Learnt,
+) (gathered-at t) gathered.Post gathered-Inv-loop gathered-μ-loop
+gathered-empty-requires t c κs = search needs
+
+gathered-loop-holds : (t : ℕ) → gathered-lts.Need-loop-holds (
+  empty-reads.Asked,
+  empty-reads.Learnt,
+  with-entry-below t,
+  with-entry.Post,
+  apply-reads.Asked,
+  apply-reads.Learnt,
+) (gathered-at t) gathered.Post gathered-Inv-loop gathered-μ-loop
+gathered-loop-holds t c = search needs
+
+gathered-with-entry-requires : (t : ℕ) → gathered-lts.Need-with-entry-requires (
+  empty-reads.Asked,
+  empty-reads.Learnt,
+  with-entry-below t,
+  with-entry.Post,
+  apply-reads.Asked,
+  apply-reads.Learnt,
+) (gathered-at t) gathered.Post gathered-Inv-loop gathered-μ-loop
+gathered-with-entry-requires t c κs = search needs
+
+gathered-add-k : (t : ℕ) → gathered-lts.Need-add-k (
+  empty-reads.Asked,
+  empty-reads.Learnt,
+  with-entry-below t,
+  with-entry.Post,
+  apply-reads.Asked,
+  apply-reads.Learnt,
+) (gathered-at t) gathered.Post gathered-Inv-loop gathered-μ-loop
+gathered-add-k t c = search needs
+
+gathered-enum-told : (t : ℕ) → gathered-lts.Need-enum-told (
+  empty-reads.Asked,
+  empty-reads.Learnt,
+  with-entry-below t,
+  with-entry.Post,
+  apply-reads.Asked,
+  apply-reads.Learnt,
+) (gathered-at t) gathered.Post gathered-Inv-loop gathered-μ-loop
+gathered-enum-told t c = search needs
+
+gathered-loop-less : (t : ℕ) → gathered-lts.Need-loop-less (
+  empty-reads.Asked,
+  empty-reads.Learnt,
+  with-entry-below t,
+  with-entry.Post,
+  apply-reads.Asked,
+  apply-reads.Learnt,
+) (gathered-at t) gathered.Post gathered-Inv-loop gathered-μ-loop
+gathered-loop-less t c = search needs
+
+gathered-loop-again : (t : ℕ) → gathered-lts.Need-loop-again (
+  empty-reads.Asked,
+  empty-reads.Learnt,
+  with-entry-below t,
+  with-entry.Post,
+  apply-reads.Asked,
+  apply-reads.Learnt,
+) (gathered-at t) gathered.Post gathered-Inv-loop gathered-μ-loop
+gathered-loop-again t c = search needs
+
+gathered-enum-known-stop : (t : ℕ) → gathered-lts.Need-enum-known-stop (
+  empty-reads.Asked,
+  empty-reads.Learnt,
+  with-entry-below t,
+  with-entry.Post,
+  apply-reads.Asked,
+  apply-reads.Learnt,
+) (gathered-at t) gathered.Post gathered-Inv-loop gathered-μ-loop
+gathered-enum-known-stop t c = search needs
+
+gathered-same-length : (t : ℕ) → gathered-lts.Need-same-length (
+  empty-reads.Asked,
+  empty-reads.Learnt,
+  with-entry-below t,
+  with-entry.Post,
+  apply-reads.Asked,
+  apply-reads.Learnt,
+) (gathered-at t) gathered.Post gathered-Inv-loop gathered-μ-loop
+gathered-same-length t c = search needs
+
+gathered-same-length-2 : (t : ℕ) → gathered-lts.Need-same-length-2 (
+  empty-reads.Asked,
+  empty-reads.Learnt,
+  with-entry-below t,
+  with-entry.Post,
+  apply-reads.Asked,
+  apply-reads.Learnt,
+) (gathered-at t) gathered.Post gathered-Inv-loop gathered-μ-loop
+gathered-same-length-2 t c = search needs
+
+gathered-same-length-3 : (t : ℕ) → gathered-lts.Need-same-length-3 (
+  empty-reads.Asked,
+  empty-reads.Learnt,
+  with-entry-below t,
+  with-entry.Post,
+  apply-reads.Asked,
+  apply-reads.Learnt,
+) (gathered-at t) gathered.Post gathered-Inv-loop gathered-μ-loop
+gathered-same-length-3 t c = search needs
+
+gathered-returns : (t : ℕ) → gathered-lts.Need-returns (
+  empty-reads.Asked,
+  empty-reads.Learnt,
+  with-entry-below t,
+  with-entry.Post,
+  apply-reads.Asked,
+  apply-reads.Learnt,
+) (gathered-at t) gathered.Post gathered-Inv-loop gathered-μ-loop
+gathered-returns t c = search needs
+
+gathered-mul-object : (t : ℕ) → gathered-lts.Need-mul-object (
+  empty-reads.Asked,
+  empty-reads.Learnt,
+  with-entry-below t,
+  with-entry.Post,
+  apply-reads.Asked,
+  apply-reads.Learnt,
+) (gathered-at t) gathered.Post gathered-Inv-loop gathered-μ-loop
+gathered-mul-object t c = search needs
+
+gathered-index-1-object : (t : ℕ) → gathered-lts.Need-index-1-object (
+  empty-reads.Asked,
+  empty-reads.Learnt,
+  with-entry-below t,
+  with-entry.Post,
+  apply-reads.Asked,
+  apply-reads.Learnt,
+) (gathered-at t) gathered.Post gathered-Inv-loop gathered-μ-loop
+gathered-index-1-object t c = search needs
+
+gathered-index-2-object : (t : ℕ) → gathered-lts.Need-index-2-object (
+  empty-reads.Asked,
+  empty-reads.Learnt,
+  with-entry-below t,
+  with-entry.Post,
+  apply-reads.Asked,
+  apply-reads.Learnt,
+) (gathered-at t) gathered.Post gathered-Inv-loop gathered-μ-loop
+gathered-index-2-object t c = search needs
+
+gathered-mul-first : (t : ℕ) → gathered-lts.Need-mul-first (
+  empty-reads.Asked,
+  empty-reads.Learnt,
+  with-entry-below t,
+  with-entry.Post,
+  apply-reads.Asked,
+  apply-reads.Learnt,
+) (gathered-at t) gathered.Post gathered-Inv-loop gathered-μ-loop
+gathered-mul-first t c = search needs
+
+gathered-index-1-first : (t : ℕ) → gathered-lts.Need-index-1-first (
+  empty-reads.Asked,
+  empty-reads.Learnt,
+  with-entry-below t,
+  with-entry.Post,
+  apply-reads.Asked,
+  apply-reads.Learnt,
+) (gathered-at t) gathered.Post gathered-Inv-loop gathered-μ-loop
+gathered-index-1-first t c = search needs
+
+gathered-index-2-first : (t : ℕ) → gathered-lts.Need-index-2-first (
+  empty-reads.Asked,
+  empty-reads.Learnt,
+  with-entry-below t,
+  with-entry.Post,
+  apply-reads.Asked,
+  apply-reads.Learnt,
+) (gathered-at t) gathered.Post gathered-Inv-loop gathered-μ-loop
+gathered-index-2-first t c = search needs
+
+gathered-apply-requires : (t : ℕ) → gathered-lts.Need-apply-requires (
+  empty-reads.Asked,
+  empty-reads.Learnt,
+  with-entry-below t,
+  with-entry.Post,
+  apply-reads.Asked,
+  apply-reads.Learnt,
+) (gathered-at t) gathered.Post gathered-Inv-loop gathered-μ-loop
+gathered-apply-requires t c κs = search needs
+
+gathered-same-length-4 : (t : ℕ) → gathered-lts.Need-same-length-4 (
+  empty-reads.Asked,
+  empty-reads.Learnt,
+  with-entry-below t,
+  with-entry.Post,
+  apply-reads.Asked,
+  apply-reads.Learnt,
+) (gathered-at t) gathered.Post gathered-Inv-loop gathered-μ-loop
+gathered-same-length-4 t c = search needs
+
+gathered-same-length-5 : (t : ℕ) → gathered-lts.Need-same-length-5 (
+  empty-reads.Asked,
+  empty-reads.Learnt,
+  with-entry-below t,
+  with-entry.Post,
+  apply-reads.Asked,
+  apply-reads.Learnt,
+) (gathered-at t) gathered.Post gathered-Inv-loop gathered-μ-loop
+gathered-same-length-5 t c = search needs
+
+gathered-same-length-6 : (t : ℕ) → gathered-lts.Need-same-length-6 (
+  empty-reads.Asked,
+  empty-reads.Learnt,
+  with-entry-below t,
+  with-entry.Post,
+  apply-reads.Asked,
+  apply-reads.Learnt,
+) (gathered-at t) gathered.Post gathered-Inv-loop gathered-μ-loop
+gathered-same-length-6 t c = search needs
+
+gathered-returns-2 : (t : ℕ) → gathered-lts.Need-returns-2 (
+  empty-reads.Asked,
+  empty-reads.Learnt,
+  with-entry-below t,
+  with-entry.Post,
+  apply-reads.Asked,
+  apply-reads.Learnt,
+) (gathered-at t) gathered.Post gathered-Inv-loop gathered-μ-loop
+gathered-returns-2 t c = search needs
+
+limited-returns : (t : ℕ) → limited-lts.Need-returns (
+  calculated-value-below t,
+  calculated-value.Post,
+  held-to-reads.Asked,
+  held-to-reads.Learnt,
+) (limited-at t) limited.Post
+limited-returns t c = search needs
+
+limited-calculated-value-requires : (t : ℕ) → limited-lts.Need-calculated-value-requires (
+  calculated-value-below t,
+  calculated-value.Post,
+  held-to-reads.Asked,
+  held-to-reads.Learnt,
+) (limited-at t) limited.Post
+limited-calculated-value-requires t c κs = search needs
+
+limited-enum-known-got : (t : ℕ) → limited-lts.Need-enum-known-got (
+  calculated-value-below t,
+  calculated-value.Post,
+  held-to-reads.Asked,
+  held-to-reads.Learnt,
+) (limited-at t) limited.Post
+limited-enum-known-got t c = search needs
+
+limited-enum-told : (t : ℕ) → limited-lts.Need-enum-told (
+  calculated-value-below t,
+  calculated-value.Post,
+  held-to-reads.Asked,
+  held-to-reads.Learnt,
+) (limited-at t) limited.Post
+limited-enum-told t c = search needs
+
+limited-same-length : (t : ℕ) → limited-lts.Need-same-length (
+  calculated-value-below t,
+  calculated-value.Post,
+  held-to-reads.Asked,
+  held-to-reads.Learnt,
+) (limited-at t) limited.Post
+limited-same-length t c = search needs
+
+limited-same-length-2 : (t : ℕ) → limited-lts.Need-same-length-2 (
+  calculated-value-below t,
+  calculated-value.Post,
+  held-to-reads.Asked,
+  held-to-reads.Learnt,
+) (limited-at t) limited.Post
+limited-same-length-2 t c = search needs
+
+limited-same-length-3 : (t : ℕ) → limited-lts.Need-same-length-3 (
+  calculated-value-below t,
+  calculated-value.Post,
+  held-to-reads.Asked,
+  held-to-reads.Learnt,
+) (limited-at t) limited.Post
+limited-same-length-3 t c = search needs
+
+limited-returns-2 : (t : ℕ) → limited-lts.Need-returns-2 (
+  calculated-value-below t,
+  calculated-value.Post,
+  held-to-reads.Asked,
+  held-to-reads.Learnt,
+) (limited-at t) limited.Post
+limited-returns-2 t c = search needs
+
+limited-held-to-requires : (t : ℕ) → limited-lts.Need-held-to-requires (
+  calculated-value-below t,
+  calculated-value.Post,
+  held-to-reads.Asked,
+  held-to-reads.Learnt,
+) (limited-at t) limited.Post
+limited-held-to-requires t c κs = search needs
+
+limited-same-length-4 : (t : ℕ) → limited-lts.Need-same-length-4 (
+  calculated-value-below t,
+  calculated-value.Post,
+  held-to-reads.Asked,
+  held-to-reads.Learnt,
+) (limited-at t) limited.Post
+limited-same-length-4 t c = search needs
+
+limited-same-length-5 : (t : ℕ) → limited-lts.Need-same-length-5 (
+  calculated-value-below t,
+  calculated-value.Post,
+  held-to-reads.Asked,
+  held-to-reads.Learnt,
+) (limited-at t) limited.Post
+limited-same-length-5 t c = search needs
+
+limited-same-length-6 : (t : ℕ) → limited-lts.Need-same-length-6 (
+  calculated-value-below t,
+  calculated-value.Post,
+  held-to-reads.Asked,
+  held-to-reads.Learnt,
+) (limited-at t) limited.Post
+limited-same-length-6 t c = search needs
+
+limited-returns-3 : (t : ℕ) → limited-lts.Need-returns-3 (
+  calculated-value-below t,
+  calculated-value.Post,
+  held-to-reads.Asked,
+  held-to-reads.Learnt,
+) (limited-at t) limited.Post
+limited-returns-3 t c = search needs
+
+abbrev operated-Inv-loop : operated-lts.InvT-loop
+operated-Inv-loop values₀ sources₀ floats₀ book pairs states stretches limits rows bases entries entry-values run row high left used first end value₀ own₀ u₀ code₀ values sources floats value own u code = ?
+
+abbrev operated-μ-loop : operated-lts.MeasureT-loop
+operated-μ-loop values₀ sources₀ floats₀ book pairs states stretches limits rows bases entries entry-values run row high left used first end value₀ own₀ u₀ code₀ values sources floats value own u code = ?
+
+operated-mul-first : (t : ℕ) → operated-lts.Need-mul-first (
+  operator-of-reads.Asked,
+  operator-of-reads.Learnt,
+  has-operator-reads.Asked,
+  has-operator-reads.Learnt,
+  gathered-below t,
+  gathered.Post,
+) (operated-at t) operated.Post operated-Inv-loop operated-μ-loop
+operated-mul-first t c = search needs
+
+operated-index-1-first : (t : ℕ) → operated-lts.Need-index-1-first (
+  operator-of-reads.Asked,
+  operator-of-reads.Learnt,
+  has-operator-reads.Asked,
+  has-operator-reads.Learnt,
+  gathered-below t,
+  gathered.Post,
+) (operated-at t) operated.Post operated-Inv-loop operated-μ-loop
+operated-index-1-first t c = search needs
+
+operated-index-2-first : (t : ℕ) → operated-lts.Need-index-2-first (
+  operator-of-reads.Asked,
+  operator-of-reads.Learnt,
+  has-operator-reads.Asked,
+  has-operator-reads.Learnt,
+  gathered-below t,
+  gathered.Post,
+) (operated-at t) operated.Post operated-Inv-loop operated-μ-loop
+operated-index-2-first t c = search needs
+
+operated-cast-first : (t : ℕ) → operated-lts.Need-cast-first (
+  operator-of-reads.Asked,
+  operator-of-reads.Learnt,
+  has-operator-reads.Asked,
+  has-operator-reads.Learnt,
+  gathered-below t,
+  gathered.Post,
+) (operated-at t) operated.Post operated-Inv-loop operated-μ-loop
+operated-cast-first t c = search needs
+
+operated-mul-end : (t : ℕ) → operated-lts.Need-mul-end (
+  operator-of-reads.Asked,
+  operator-of-reads.Learnt,
+  has-operator-reads.Asked,
+  has-operator-reads.Learnt,
+  gathered-below t,
+  gathered.Post,
+) (operated-at t) operated.Post operated-Inv-loop operated-μ-loop
+operated-mul-end t c = search needs
+
+operated-index-1-end : (t : ℕ) → operated-lts.Need-index-1-end (
+  operator-of-reads.Asked,
+  operator-of-reads.Learnt,
+  has-operator-reads.Asked,
+  has-operator-reads.Learnt,
+  gathered-below t,
+  gathered.Post,
+) (operated-at t) operated.Post operated-Inv-loop operated-μ-loop
+operated-index-1-end t c = search needs
+
+operated-index-2-end : (t : ℕ) → operated-lts.Need-index-2-end (
+  operator-of-reads.Asked,
+  operator-of-reads.Learnt,
+  has-operator-reads.Asked,
+  has-operator-reads.Learnt,
+  gathered-below t,
+  gathered.Post,
+) (operated-at t) operated.Post operated-Inv-loop operated-μ-loop
+operated-index-2-end t c = search needs
+
+operated-cast-end : (t : ℕ) → operated-lts.Need-cast-end (
+  operator-of-reads.Asked,
+  operator-of-reads.Learnt,
+  has-operator-reads.Asked,
+  has-operator-reads.Learnt,
+  gathered-below t,
+  gathered.Post,
+) (operated-at t) operated.Post operated-Inv-loop operated-μ-loop
+operated-cast-end t c = search needs
+
+operated-add-end : (t : ℕ) → operated-lts.Need-add-end (
+  operator-of-reads.Asked,
+  operator-of-reads.Learnt,
+  has-operator-reads.Asked,
+  has-operator-reads.Learnt,
+  gathered-below t,
+  gathered.Post,
+) (operated-at t) operated.Post operated-Inv-loop operated-μ-loop
+operated-add-end t c = search needs
+
+operated-mul-value : (t : ℕ) → operated-lts.Need-mul-value (
+  operator-of-reads.Asked,
+  operator-of-reads.Learnt,
+  has-operator-reads.Asked,
+  has-operator-reads.Learnt,
+  gathered-below t,
+  gathered.Post,
+) (operated-at t) operated.Post operated-Inv-loop operated-μ-loop
+operated-mul-value t c = search needs
+
+operated-shared-slice-read-value : (t : ℕ) → operated-lts.Need-shared-slice-read-value (
+  operator-of-reads.Asked,
+  operator-of-reads.Learnt,
+  has-operator-reads.Asked,
+  has-operator-reads.Learnt,
+  gathered-below t,
+  gathered.Post,
+) (operated-at t) operated.Post operated-Inv-loop operated-μ-loop
+operated-shared-slice-read-value t c = search needs
+
+operated-loop-holds : (t : ℕ) → operated-lts.Need-loop-holds (
+  operator-of-reads.Asked,
+  operator-of-reads.Learnt,
+  has-operator-reads.Asked,
+  has-operator-reads.Learnt,
+  gathered-below t,
+  gathered.Post,
+) (operated-at t) operated.Post operated-Inv-loop operated-μ-loop
+operated-loop-holds t c = search needs
+
+operated-operator-of-requires : (t : ℕ) → operated-lts.Need-operator-of-requires (
+  operator-of-reads.Asked,
+  operator-of-reads.Learnt,
+  has-operator-reads.Asked,
+  has-operator-reads.Learnt,
+  gathered-below t,
+  gathered.Post,
+) (operated-at t) operated.Post operated-Inv-loop operated-μ-loop
+operated-operator-of-requires t c κs = search needs
+
+operated-add-code : (t : ℕ) → operated-lts.Need-add-code (
+  operator-of-reads.Asked,
+  operator-of-reads.Learnt,
+  has-operator-reads.Asked,
+  has-operator-reads.Learnt,
+  gathered-below t,
+  gathered.Post,
+) (operated-at t) operated.Post operated-Inv-loop operated-μ-loop
+operated-add-code t c = search needs
+
+operated-has-operator-requires : (t : ℕ) → operated-lts.Need-has-operator-requires (
+  operator-of-reads.Asked,
+  operator-of-reads.Learnt,
+  has-operator-reads.Asked,
+  has-operator-reads.Learnt,
+  gathered-below t,
+  gathered.Post,
+) (operated-at t) operated.Post operated-Inv-loop operated-μ-loop
+operated-has-operator-requires t c κs = search needs
+
+operated-gathered-requires : (t : ℕ) → operated-lts.Need-gathered-requires (
+  operator-of-reads.Asked,
+  operator-of-reads.Learnt,
+  has-operator-reads.Asked,
+  has-operator-reads.Learnt,
+  gathered-below t,
+  gathered.Post,
+) (operated-at t) operated.Post operated-Inv-loop operated-μ-loop
+operated-gathered-requires t c κs = search needs
+
+operated-enum-known-part : (t : ℕ) → operated-lts.Need-enum-known-part (
+  operator-of-reads.Asked,
+  operator-of-reads.Learnt,
+  has-operator-reads.Asked,
+  has-operator-reads.Learnt,
+  gathered-below t,
+  gathered.Post,
+) (operated-at t) operated.Post operated-Inv-loop operated-μ-loop
+operated-enum-known-part t c = search needs
+
+operated-loop-less : (t : ℕ) → operated-lts.Need-loop-less (
+  operator-of-reads.Asked,
+  operator-of-reads.Learnt,
+  has-operator-reads.Asked,
+  has-operator-reads.Learnt,
+  gathered-below t,
+  gathered.Post,
+) (operated-at t) operated.Post operated-Inv-loop operated-μ-loop
+operated-loop-less t c = search needs
+
+operated-loop-again : (t : ℕ) → operated-lts.Need-loop-again (
+  operator-of-reads.Asked,
+  operator-of-reads.Learnt,
+  has-operator-reads.Asked,
+  has-operator-reads.Learnt,
+  gathered-below t,
+  gathered.Post,
+) (operated-at t) operated.Post operated-Inv-loop operated-μ-loop
+operated-loop-again t c = search needs
+
+operated-enum-known-part-2 : (t : ℕ) → operated-lts.Need-enum-known-part-2 (
+  operator-of-reads.Asked,
+  operator-of-reads.Learnt,
+  has-operator-reads.Asked,
+  has-operator-reads.Learnt,
+  gathered-below t,
+  gathered.Post,
+) (operated-at t) operated.Post operated-Inv-loop operated-μ-loop
+operated-enum-known-part-2 t c = search needs
+
+operated-same-length : (t : ℕ) → operated-lts.Need-same-length (
+  operator-of-reads.Asked,
+  operator-of-reads.Learnt,
+  has-operator-reads.Asked,
+  has-operator-reads.Learnt,
+  gathered-below t,
+  gathered.Post,
+) (operated-at t) operated.Post operated-Inv-loop operated-μ-loop
+operated-same-length t c = search needs
+
+operated-same-length-2 : (t : ℕ) → operated-lts.Need-same-length-2 (
+  operator-of-reads.Asked,
+  operator-of-reads.Learnt,
+  has-operator-reads.Asked,
+  has-operator-reads.Learnt,
+  gathered-below t,
+  gathered.Post,
+) (operated-at t) operated.Post operated-Inv-loop operated-μ-loop
+operated-same-length-2 t c = search needs
+
+operated-same-length-3 : (t : ℕ) → operated-lts.Need-same-length-3 (
+  operator-of-reads.Asked,
+  operator-of-reads.Learnt,
+  has-operator-reads.Asked,
+  has-operator-reads.Learnt,
+  gathered-below t,
+  gathered.Post,
+) (operated-at t) operated.Post operated-Inv-loop operated-μ-loop
+operated-same-length-3 t c = search needs
+
+operated-returns : (t : ℕ) → operated-lts.Need-returns (
+  operator-of-reads.Asked,
+  operator-of-reads.Learnt,
+  has-operator-reads.Asked,
+  has-operator-reads.Learnt,
+  gathered-below t,
+  gathered.Post,
+) (operated-at t) operated.Post operated-Inv-loop operated-μ-loop
+operated-returns t c = search needs
+
+operated-loop-less-2 : (t : ℕ) → operated-lts.Need-loop-less-2 (
+  operator-of-reads.Asked,
+  operator-of-reads.Learnt,
+  has-operator-reads.Asked,
+  has-operator-reads.Learnt,
+  gathered-below t,
+  gathered.Post,
+) (operated-at t) operated.Post operated-Inv-loop operated-μ-loop
+operated-loop-less-2 t c = search needs
+
+operated-loop-again-2 : (t : ℕ) → operated-lts.Need-loop-again-2 (
+  operator-of-reads.Asked,
+  operator-of-reads.Learnt,
+  has-operator-reads.Asked,
+  has-operator-reads.Learnt,
+  gathered-below t,
+  gathered.Post,
+) (operated-at t) operated.Post operated-Inv-loop operated-μ-loop
+operated-loop-again-2 t c = search needs
+
+operated-same-length-4 : (t : ℕ) → operated-lts.Need-same-length-4 (
+  operator-of-reads.Asked,
+  operator-of-reads.Learnt,
+  has-operator-reads.Asked,
+  has-operator-reads.Learnt,
+  gathered-below t,
+  gathered.Post,
+) (operated-at t) operated.Post operated-Inv-loop operated-μ-loop
+operated-same-length-4 t c = search needs
+
+operated-same-length-5 : (t : ℕ) → operated-lts.Need-same-length-5 (
+  operator-of-reads.Asked,
+  operator-of-reads.Learnt,
+  has-operator-reads.Asked,
+  has-operator-reads.Learnt,
+  gathered-below t,
+  gathered.Post,
+) (operated-at t) operated.Post operated-Inv-loop operated-μ-loop
+operated-same-length-5 t c = search needs
+
+operated-same-length-6 : (t : ℕ) → operated-lts.Need-same-length-6 (
+  operator-of-reads.Asked,
+  operator-of-reads.Learnt,
+  has-operator-reads.Asked,
+  has-operator-reads.Learnt,
+  gathered-below t,
+  gathered.Post,
+) (operated-at t) operated.Post operated-Inv-loop operated-μ-loop
+operated-same-length-6 t c = search needs
+
+operated-returns-2 : (t : ℕ) → operated-lts.Need-returns-2 (
+  operator-of-reads.Asked,
+  operator-of-reads.Learnt,
+  has-operator-reads.Asked,
+  has-operator-reads.Learnt,
+  gathered-below t,
+  gathered.Post,
+) (operated-at t) operated.Post operated-Inv-loop operated-μ-loop
+operated-returns-2 t c = search needs
+
+resisted-enum-told : (t : ℕ) → resisted-lts.Need-enum-told (
+  calculated-value-below t,
+  calculated-value.Post,
+  product-reads.Asked,
+  product-reads.Learnt,
+) (resisted-at t) resisted.Post
+resisted-enum-told t c = search needs
+
+resisted-enum-known-resistance : (t : ℕ) → resisted-lts.Need-enum-known-resistance (
+  calculated-value-below t,
+  calculated-value.Post,
+  product-reads.Asked,
+  product-reads.Learnt,
+) (resisted-at t) resisted.Post
+resisted-enum-known-resistance t c = search needs
+
+resisted-calculated-value-requires : (t : ℕ) → resisted-lts.Need-calculated-value-requires (
+  calculated-value-below t,
+  calculated-value.Post,
+  product-reads.Asked,
+  product-reads.Learnt,
+) (resisted-at t) resisted.Post
+resisted-calculated-value-requires t c κs = search needs
+
+resisted-enum-known-got : (t : ℕ) → resisted-lts.Need-enum-known-got (
+  calculated-value-below t,
+  calculated-value.Post,
+  product-reads.Asked,
+  product-reads.Learnt,
+) (resisted-at t) resisted.Post
+resisted-enum-known-got t c = search needs
+
+resisted-enum-told-2 : (t : ℕ) → resisted-lts.Need-enum-told-2 (
+  calculated-value-below t,
+  calculated-value.Post,
+  product-reads.Asked,
+  product-reads.Learnt,
+) (resisted-at t) resisted.Post
+resisted-enum-told-2 t c = search needs
+
+resisted-same-length : (t : ℕ) → resisted-lts.Need-same-length (
+  calculated-value-below t,
+  calculated-value.Post,
+  product-reads.Asked,
+  product-reads.Learnt,
+) (resisted-at t) resisted.Post
+resisted-same-length t c = search needs
+
+resisted-same-length-2 : (t : ℕ) → resisted-lts.Need-same-length-2 (
+  calculated-value-below t,
+  calculated-value.Post,
+  product-reads.Asked,
+  product-reads.Learnt,
+) (resisted-at t) resisted.Post
+resisted-same-length-2 t c = search needs
+
+resisted-same-length-3 : (t : ℕ) → resisted-lts.Need-same-length-3 (
+  calculated-value-below t,
+  calculated-value.Post,
+  product-reads.Asked,
+  product-reads.Learnt,
+) (resisted-at t) resisted.Post
+resisted-same-length-3 t c = search needs
+
+resisted-returns : (t : ℕ) → resisted-lts.Need-returns (
+  calculated-value-below t,
+  calculated-value.Post,
+  product-reads.Asked,
+  product-reads.Learnt,
+) (resisted-at t) resisted.Post
+resisted-returns t c = search needs
+
+resisted-product-requires : (t : ℕ) → resisted-lts.Need-product-requires (
+  calculated-value-below t,
+  calculated-value.Post,
+  product-reads.Asked,
+  product-reads.Learnt,
+) (resisted-at t) resisted.Post
+resisted-product-requires t c κs = search needs
+
+resisted-enum-known-step : (t : ℕ) → resisted-lts.Need-enum-known-step (
+  calculated-value-below t,
+  calculated-value.Post,
+  product-reads.Asked,
+  product-reads.Learnt,
+) (resisted-at t) resisted.Post
+resisted-enum-known-step t c = search needs
+
+resisted-enum-told-3 : (t : ℕ) → resisted-lts.Need-enum-told-3 (
+  calculated-value-below t,
+  calculated-value.Post,
+  product-reads.Asked,
+  product-reads.Learnt,
+) (resisted-at t) resisted.Post
+resisted-enum-told-3 t c = search needs
+
+resisted-returns-2 : (t : ℕ) → resisted-lts.Need-returns-2 (
+  calculated-value-below t,
+  calculated-value.Post,
+  product-reads.Asked,
+  product-reads.Learnt,
+) (resisted-at t) resisted.Post
+resisted-returns-2 t c = search needs
+
+resisted-same-length-4 : (t : ℕ) → resisted-lts.Need-same-length-4 (
+  calculated-value-below t,
+  calculated-value.Post,
+  product-reads.Asked,
+  product-reads.Learnt,
+) (resisted-at t) resisted.Post
+resisted-same-length-4 t c = search needs
+
+resisted-same-length-5 : (t : ℕ) → resisted-lts.Need-same-length-5 (
+  calculated-value-below t,
+  calculated-value.Post,
+  product-reads.Asked,
+  product-reads.Learnt,
+) (resisted-at t) resisted.Post
+resisted-same-length-5 t c = search needs
+
+resisted-same-length-6 : (t : ℕ) → resisted-lts.Need-same-length-6 (
+  calculated-value-below t,
+  calculated-value.Post,
+  product-reads.Asked,
+  product-reads.Learnt,
+) (resisted-at t) resisted.Post
+resisted-same-length-6 t c = search needs
+
+resisted-returns-3 : (t : ℕ) → resisted-lts.Need-returns-3 (
+  calculated-value-below t,
+  calculated-value.Post,
+  product-reads.Asked,
+  product-reads.Learnt,
+) (resisted-at t) resisted.Post
+resisted-returns-3 t c = search needs
+
+resisted-same-length-7 : (t : ℕ) → resisted-lts.Need-same-length-7 (
+  calculated-value-below t,
+  calculated-value.Post,
+  product-reads.Asked,
+  product-reads.Learnt,
+) (resisted-at t) resisted.Post
+resisted-same-length-7 t c = search needs
+
+resisted-same-length-8 : (t : ℕ) → resisted-lts.Need-same-length-8 (
+  calculated-value-below t,
+  calculated-value.Post,
+  product-reads.Asked,
+  product-reads.Learnt,
+) (resisted-at t) resisted.Post
+resisted-same-length-8 t c = search needs
+
+resisted-same-length-9 : (t : ℕ) → resisted-lts.Need-same-length-9 (
+  calculated-value-below t,
+  calculated-value.Post,
+  product-reads.Asked,
+  product-reads.Learnt,
+) (resisted-at t) resisted.Post
+resisted-same-length-9 t c = search needs
+
+resisted-returns-4 : (t : ℕ) → resisted-lts.Need-returns-4 (
+  calculated-value-below t,
+  calculated-value.Post,
+  product-reads.Asked,
+  product-reads.Learnt,
+) (resisted-at t) resisted.Post
+resisted-returns-4 t c = search needs
+
+strength-enum-known-origin : (t : ℕ) → strength-lts.Need-enum-known-origin (
+  calculated-value-below t,
+  calculated-value.Post,
+  resisted-below t,
+  resisted.Post,
+) (strength-at t) strength.Post
+strength-enum-known-origin t c = search needs
+
+strength-enum-known-origin-2 : (t : ℕ) → strength-lts.Need-enum-known-origin-2 (
+  calculated-value-below t,
+  calculated-value.Post,
+  resisted-below t,
+  resisted.Post,
+) (strength-at t) strength.Post
+strength-enum-known-origin-2 t c = search needs
+
+strength-calculated-value-requires : (t : ℕ) → strength-lts.Need-calculated-value-requires (
+  calculated-value-below t,
+  calculated-value.Post,
+  resisted-below t,
+  resisted.Post,
+) (strength-at t) strength.Post
+strength-calculated-value-requires t c κs = search needs
+
+strength-enum-known-got : (t : ℕ) → strength-lts.Need-enum-known-got (
+  calculated-value-below t,
+  calculated-value.Post,
+  resisted-below t,
+  resisted.Post,
+) (strength-at t) strength.Post
+strength-enum-known-got t c = search needs
+
+strength-enum-told : (t : ℕ) → strength-lts.Need-enum-told (
+  calculated-value-below t,
+  calculated-value.Post,
+  resisted-below t,
+  resisted.Post,
+) (strength-at t) strength.Post
+strength-enum-told t c = search needs
+
+strength-same-length : (t : ℕ) → strength-lts.Need-same-length (
+  calculated-value-below t,
+  calculated-value.Post,
+  resisted-below t,
+  resisted.Post,
+) (strength-at t) strength.Post
+strength-same-length t c = search needs
+
+strength-same-length-2 : (t : ℕ) → strength-lts.Need-same-length-2 (
+  calculated-value-below t,
+  calculated-value.Post,
+  resisted-below t,
+  resisted.Post,
+) (strength-at t) strength.Post
+strength-same-length-2 t c = search needs
+
+strength-same-length-3 : (t : ℕ) → strength-lts.Need-same-length-3 (
+  calculated-value-below t,
+  calculated-value.Post,
+  resisted-below t,
+  resisted.Post,
+) (strength-at t) strength.Post
+strength-same-length-3 t c = search needs
+
+strength-returns : (t : ℕ) → strength-lts.Need-returns (
+  calculated-value-below t,
+  calculated-value.Post,
+  resisted-below t,
+  resisted.Post,
+) (strength-at t) strength.Post
+strength-returns t c = search needs
+
+strength-resisted-requires : (t : ℕ) → strength-lts.Need-resisted-requires (
+  calculated-value-below t,
+  calculated-value.Post,
+  resisted-below t,
+  resisted.Post,
+) (strength-at t) strength.Post
+strength-resisted-requires t c κs = search needs
+
+strength-returns-2 : (t : ℕ) → strength-lts.Need-returns-2 (
+  calculated-value-below t,
+  calculated-value.Post,
+  resisted-below t,
+  resisted.Post,
+) (strength-at t) strength.Post
+strength-returns-2 t c = search needs
+
+strength-same-length-4 : (t : ℕ) → strength-lts.Need-same-length-4 (
+  calculated-value-below t,
+  calculated-value.Post,
+  resisted-below t,
+  resisted.Post,
+) (strength-at t) strength.Post
+strength-same-length-4 t c = search needs
+
+strength-same-length-5 : (t : ℕ) → strength-lts.Need-same-length-5 (
+  calculated-value-below t,
+  calculated-value.Post,
+  resisted-below t,
+  resisted.Post,
+) (strength-at t) strength.Post
+strength-same-length-5 t c = search needs
+
+strength-same-length-6 : (t : ℕ) → strength-lts.Need-same-length-6 (
+  calculated-value-below t,
+  calculated-value.Post,
+  resisted-below t,
+  resisted.Post,
+) (strength-at t) strength.Post
+strength-same-length-6 t c = search needs
+
+strength-returns-3 : (t : ℕ) → strength-lts.Need-returns-3 (
+  calculated-value-below t,
+  calculated-value.Post,
+  resisted-below t,
+  resisted.Post,
+) (strength-at t) strength.Post
+strength-returns-3 t c = search needs
+
+with-entry-mul-at : (t : ℕ) → with-entry-lts.Need-mul-at (
+  operator-code-reads.Asked,
+  operator-code-reads.Learnt,
+  entry-at-reads.Asked,
+  entry-at-reads.Learnt,
+  is-running-reads.Asked,
+  is-running-reads.Learnt,
+  strength-below t,
+  strength.Post,
+  counted-reads.Asked,
+  counted-reads.Learnt,
+  add-entry-reads.Asked,
+  add-entry-reads.Learnt,
+  stopped-reads.Asked,
+  stopped-reads.Learnt,
+) (with-entry-at t) with-entry.Post
+with-entry-mul-at t c = search needs
+
+with-entry-index-1-at : (t : ℕ) → with-entry-lts.Need-index-1-at (
+  operator-code-reads.Asked,
+  operator-code-reads.Learnt,
+  entry-at-reads.Asked,
+  entry-at-reads.Learnt,
+  is-running-reads.Asked,
+  is-running-reads.Learnt,
+  strength-below t,
+  strength.Post,
+  counted-reads.Asked,
+  counted-reads.Learnt,
+  add-entry-reads.Asked,
+  add-entry-reads.Learnt,
+  stopped-reads.Asked,
+  stopped-reads.Learnt,
+) (with-entry-at t) with-entry.Post
+with-entry-index-1-at t c = search needs
+
+with-entry-index-2-at : (t : ℕ) → with-entry-lts.Need-index-2-at (
+  operator-code-reads.Asked,
+  operator-code-reads.Learnt,
+  entry-at-reads.Asked,
+  entry-at-reads.Learnt,
+  is-running-reads.Asked,
+  is-running-reads.Learnt,
+  strength-below t,
+  strength.Post,
+  counted-reads.Asked,
+  counted-reads.Learnt,
+  add-entry-reads.Asked,
+  add-entry-reads.Learnt,
+  stopped-reads.Asked,
+  stopped-reads.Learnt,
+) (with-entry-at t) with-entry.Post
+with-entry-index-2-at t c = search needs
+
+with-entry-cast-at : (t : ℕ) → with-entry-lts.Need-cast-at (
+  operator-code-reads.Asked,
+  operator-code-reads.Learnt,
+  entry-at-reads.Asked,
+  entry-at-reads.Learnt,
+  is-running-reads.Asked,
+  is-running-reads.Learnt,
+  strength-below t,
+  strength.Post,
+  counted-reads.Asked,
+  counted-reads.Learnt,
+  add-entry-reads.Asked,
+  add-entry-reads.Learnt,
+  stopped-reads.Asked,
+  stopped-reads.Learnt,
+) (with-entry-at t) with-entry.Post
+with-entry-cast-at t c = search needs
+
+with-entry-add-at : (t : ℕ) → with-entry-lts.Need-add-at (
+  operator-code-reads.Asked,
+  operator-code-reads.Learnt,
+  entry-at-reads.Asked,
+  entry-at-reads.Learnt,
+  is-running-reads.Asked,
+  is-running-reads.Learnt,
+  strength-below t,
+  strength.Post,
+  counted-reads.Asked,
+  counted-reads.Learnt,
+  add-entry-reads.Asked,
+  add-entry-reads.Learnt,
+  stopped-reads.Asked,
+  stopped-reads.Learnt,
+) (with-entry-at t) with-entry.Post
+with-entry-add-at t c = search needs
+
+with-entry-mul-code : (t : ℕ) → with-entry-lts.Need-mul-code (
+  operator-code-reads.Asked,
+  operator-code-reads.Learnt,
+  entry-at-reads.Asked,
+  entry-at-reads.Learnt,
+  is-running-reads.Asked,
+  is-running-reads.Learnt,
+  strength-below t,
+  strength.Post,
+  counted-reads.Asked,
+  counted-reads.Learnt,
+  add-entry-reads.Asked,
+  add-entry-reads.Learnt,
+  stopped-reads.Asked,
+  stopped-reads.Learnt,
+) (with-entry-at t) with-entry.Post
+with-entry-mul-code t c = search needs
+
+with-entry-index-1-code : (t : ℕ) → with-entry-lts.Need-index-1-code (
+  operator-code-reads.Asked,
+  operator-code-reads.Learnt,
+  entry-at-reads.Asked,
+  entry-at-reads.Learnt,
+  is-running-reads.Asked,
+  is-running-reads.Learnt,
+  strength-below t,
+  strength.Post,
+  counted-reads.Asked,
+  counted-reads.Learnt,
+  add-entry-reads.Asked,
+  add-entry-reads.Learnt,
+  stopped-reads.Asked,
+  stopped-reads.Learnt,
+) (with-entry-at t) with-entry.Post
+with-entry-index-1-code t c = search needs
+
+with-entry-index-2-code : (t : ℕ) → with-entry-lts.Need-index-2-code (
+  operator-code-reads.Asked,
+  operator-code-reads.Learnt,
+  entry-at-reads.Asked,
+  entry-at-reads.Learnt,
+  is-running-reads.Asked,
+  is-running-reads.Learnt,
+  strength-below t,
+  strength.Post,
+  counted-reads.Asked,
+  counted-reads.Learnt,
+  add-entry-reads.Asked,
+  add-entry-reads.Learnt,
+  stopped-reads.Asked,
+  stopped-reads.Learnt,
+) (with-entry-at t) with-entry.Post
+with-entry-index-2-code t c = search needs
+
+with-entry-operator-code-requires : (t : ℕ) → with-entry-lts.Need-operator-code-requires (
+  operator-code-reads.Asked,
+  operator-code-reads.Learnt,
+  entry-at-reads.Asked,
+  entry-at-reads.Learnt,
+  is-running-reads.Asked,
+  is-running-reads.Learnt,
+  strength-below t,
+  strength.Post,
+  counted-reads.Asked,
+  counted-reads.Learnt,
+  add-entry-reads.Asked,
+  add-entry-reads.Learnt,
+  stopped-reads.Asked,
+  stopped-reads.Learnt,
+) (with-entry-at t) with-entry.Post
+with-entry-operator-code-requires t c κs = search needs
+
+with-entry-returns : (t : ℕ) → with-entry-lts.Need-returns (
+  operator-code-reads.Asked,
+  operator-code-reads.Learnt,
+  entry-at-reads.Asked,
+  entry-at-reads.Learnt,
+  is-running-reads.Asked,
+  is-running-reads.Learnt,
+  strength-below t,
+  strength.Post,
+  counted-reads.Asked,
+  counted-reads.Learnt,
+  add-entry-reads.Asked,
+  add-entry-reads.Learnt,
+  stopped-reads.Asked,
+  stopped-reads.Learnt,
+) (with-entry-at t) with-entry.Post
+with-entry-returns t c = search needs
+
+with-entry-entry-at-requires : (t : ℕ) → with-entry-lts.Need-entry-at-requires (
+  operator-code-reads.Asked,
+  operator-code-reads.Learnt,
+  entry-at-reads.Asked,
+  entry-at-reads.Learnt,
+  is-running-reads.Asked,
+  is-running-reads.Learnt,
+  strength-below t,
+  strength.Post,
+  counted-reads.Asked,
+  counted-reads.Learnt,
+  add-entry-reads.Asked,
+  add-entry-reads.Learnt,
+  stopped-reads.Asked,
+  stopped-reads.Learnt,
+) (with-entry-at t) with-entry.Post
+with-entry-entry-at-requires t c κs = search needs
+
+with-entry-is-running-requires : (t : ℕ) → with-entry-lts.Need-is-running-requires (
+  operator-code-reads.Asked,
+  operator-code-reads.Learnt,
+  entry-at-reads.Asked,
+  entry-at-reads.Learnt,
+  is-running-reads.Asked,
+  is-running-reads.Learnt,
+  strength-below t,
+  strength.Post,
+  counted-reads.Asked,
+  counted-reads.Learnt,
+  add-entry-reads.Asked,
+  add-entry-reads.Learnt,
+  stopped-reads.Asked,
+  stopped-reads.Learnt,
+) (with-entry-at t) with-entry.Post
+with-entry-is-running-requires t c κs = search needs
+
+with-entry-returns-2 : (t : ℕ) → with-entry-lts.Need-returns-2 (
+  operator-code-reads.Asked,
+  operator-code-reads.Learnt,
+  entry-at-reads.Asked,
+  entry-at-reads.Learnt,
+  is-running-reads.Asked,
+  is-running-reads.Learnt,
+  strength-below t,
+  strength.Post,
+  counted-reads.Asked,
+  counted-reads.Learnt,
+  add-entry-reads.Asked,
+  add-entry-reads.Learnt,
+  stopped-reads.Asked,
+  stopped-reads.Learnt,
+) (with-entry-at t) with-entry.Post
+with-entry-returns-2 t c = search needs
+
+with-entry-mul-object : (t : ℕ) → with-entry-lts.Need-mul-object (
+  operator-code-reads.Asked,
+  operator-code-reads.Learnt,
+  entry-at-reads.Asked,
+  entry-at-reads.Learnt,
+  is-running-reads.Asked,
+  is-running-reads.Learnt,
+  strength-below t,
+  strength.Post,
+  counted-reads.Asked,
+  counted-reads.Learnt,
+  add-entry-reads.Asked,
+  add-entry-reads.Learnt,
+  stopped-reads.Asked,
+  stopped-reads.Learnt,
+) (with-entry-at t) with-entry.Post
+with-entry-mul-object t c = search needs
+
+with-entry-index-1-object : (t : ℕ) → with-entry-lts.Need-index-1-object (
+  operator-code-reads.Asked,
+  operator-code-reads.Learnt,
+  entry-at-reads.Asked,
+  entry-at-reads.Learnt,
+  is-running-reads.Asked,
+  is-running-reads.Learnt,
+  strength-below t,
+  strength.Post,
+  counted-reads.Asked,
+  counted-reads.Learnt,
+  add-entry-reads.Asked,
+  add-entry-reads.Learnt,
+  stopped-reads.Asked,
+  stopped-reads.Learnt,
+) (with-entry-at t) with-entry.Post
+with-entry-index-1-object t c = search needs
+
+with-entry-index-2-object : (t : ℕ) → with-entry-lts.Need-index-2-object (
+  operator-code-reads.Asked,
+  operator-code-reads.Learnt,
+  entry-at-reads.Asked,
+  entry-at-reads.Learnt,
+  is-running-reads.Asked,
+  is-running-reads.Learnt,
+  strength-below t,
+  strength.Post,
+  counted-reads.Asked,
+  counted-reads.Learnt,
+  add-entry-reads.Asked,
+  add-entry-reads.Learnt,
+  stopped-reads.Asked,
+  stopped-reads.Learnt,
+) (with-entry-at t) with-entry.Post
+with-entry-index-2-object t c = search needs
+
+with-entry-mul-first : (t : ℕ) → with-entry-lts.Need-mul-first (
+  operator-code-reads.Asked,
+  operator-code-reads.Learnt,
+  entry-at-reads.Asked,
+  entry-at-reads.Learnt,
+  is-running-reads.Asked,
+  is-running-reads.Learnt,
+  strength-below t,
+  strength.Post,
+  counted-reads.Asked,
+  counted-reads.Learnt,
+  add-entry-reads.Asked,
+  add-entry-reads.Learnt,
+  stopped-reads.Asked,
+  stopped-reads.Learnt,
+) (with-entry-at t) with-entry.Post
+with-entry-mul-first t c = search needs
+
+with-entry-index-1-first : (t : ℕ) → with-entry-lts.Need-index-1-first (
+  operator-code-reads.Asked,
+  operator-code-reads.Learnt,
+  entry-at-reads.Asked,
+  entry-at-reads.Learnt,
+  is-running-reads.Asked,
+  is-running-reads.Learnt,
+  strength-below t,
+  strength.Post,
+  counted-reads.Asked,
+  counted-reads.Learnt,
+  add-entry-reads.Asked,
+  add-entry-reads.Learnt,
+  stopped-reads.Asked,
+  stopped-reads.Learnt,
+) (with-entry-at t) with-entry.Post
+with-entry-index-1-first t c = search needs
+
+with-entry-index-2-first : (t : ℕ) → with-entry-lts.Need-index-2-first (
+  operator-code-reads.Asked,
+  operator-code-reads.Learnt,
+  entry-at-reads.Asked,
+  entry-at-reads.Learnt,
+  is-running-reads.Asked,
+  is-running-reads.Learnt,
+  strength-below t,
+  strength.Post,
+  counted-reads.Asked,
+  counted-reads.Learnt,
+  add-entry-reads.Asked,
+  add-entry-reads.Learnt,
+  stopped-reads.Asked,
+  stopped-reads.Learnt,
+) (with-entry-at t) with-entry.Post
+with-entry-index-2-first t c = search needs
+
+with-entry-strength-requires : (t : ℕ) → with-entry-lts.Need-strength-requires (
+  operator-code-reads.Asked,
+  operator-code-reads.Learnt,
+  entry-at-reads.Asked,
+  entry-at-reads.Learnt,
+  is-running-reads.Asked,
+  is-running-reads.Learnt,
+  strength-below t,
+  strength.Post,
+  counted-reads.Asked,
+  counted-reads.Learnt,
+  add-entry-reads.Asked,
+  add-entry-reads.Learnt,
+  stopped-reads.Asked,
+  stopped-reads.Learnt,
+) (with-entry-at t) with-entry.Post
+with-entry-strength-requires t c κs = search needs
+
+with-entry-enum-known-got : (t : ℕ) → with-entry-lts.Need-enum-known-got (
+  operator-code-reads.Asked,
+  operator-code-reads.Learnt,
+  entry-at-reads.Asked,
+  entry-at-reads.Learnt,
+  is-running-reads.Asked,
+  is-running-reads.Learnt,
+  strength-below t,
+  strength.Post,
+  counted-reads.Asked,
+  counted-reads.Learnt,
+  add-entry-reads.Asked,
+  add-entry-reads.Learnt,
+  stopped-reads.Asked,
+  stopped-reads.Learnt,
+) (with-entry-at t) with-entry.Post
+with-entry-enum-known-got t c = search needs
+
+with-entry-counted-requires : (t : ℕ) → with-entry-lts.Need-counted-requires (
+  operator-code-reads.Asked,
+  operator-code-reads.Learnt,
+  entry-at-reads.Asked,
+  entry-at-reads.Learnt,
+  is-running-reads.Asked,
+  is-running-reads.Learnt,
+  strength-below t,
+  strength.Post,
+  counted-reads.Asked,
+  counted-reads.Learnt,
+  add-entry-reads.Asked,
+  add-entry-reads.Learnt,
+  stopped-reads.Asked,
+  stopped-reads.Learnt,
+) (with-entry-at t) with-entry.Post
+with-entry-counted-requires t c κs = search needs
+
+with-entry-add-entry-requires : (t : ℕ) → with-entry-lts.Need-add-entry-requires (
+  operator-code-reads.Asked,
+  operator-code-reads.Learnt,
+  entry-at-reads.Asked,
+  entry-at-reads.Learnt,
+  is-running-reads.Asked,
+  is-running-reads.Learnt,
+  strength-below t,
+  strength.Post,
+  counted-reads.Asked,
+  counted-reads.Learnt,
+  add-entry-reads.Asked,
+  add-entry-reads.Learnt,
+  stopped-reads.Asked,
+  stopped-reads.Learnt,
+) (with-entry-at t) with-entry.Post
+with-entry-add-entry-requires t c κs = search needs
+
+with-entry-enum-known-got-2 : (t : ℕ) → with-entry-lts.Need-enum-known-got-2 (
+  operator-code-reads.Asked,
+  operator-code-reads.Learnt,
+  entry-at-reads.Asked,
+  entry-at-reads.Learnt,
+  is-running-reads.Asked,
+  is-running-reads.Learnt,
+  strength-below t,
+  strength.Post,
+  counted-reads.Asked,
+  counted-reads.Learnt,
+  add-entry-reads.Asked,
+  add-entry-reads.Learnt,
+  stopped-reads.Asked,
+  stopped-reads.Learnt,
+) (with-entry-at t) with-entry.Post
+with-entry-enum-known-got-2 t c = search needs
+
+with-entry-stopped-requires : (t : ℕ) → with-entry-lts.Need-stopped-requires (
+  operator-code-reads.Asked,
+  operator-code-reads.Learnt,
+  entry-at-reads.Asked,
+  entry-at-reads.Learnt,
+  is-running-reads.Asked,
+  is-running-reads.Learnt,
+  strength-below t,
+  strength.Post,
+  counted-reads.Asked,
+  counted-reads.Learnt,
+  add-entry-reads.Asked,
+  add-entry-reads.Learnt,
+  stopped-reads.Asked,
+  stopped-reads.Learnt,
+) (with-entry-at t) with-entry.Post
+with-entry-stopped-requires t c κs = search needs
+
+with-entry-same-length : (t : ℕ) → with-entry-lts.Need-same-length (
+  operator-code-reads.Asked,
+  operator-code-reads.Learnt,
+  entry-at-reads.Asked,
+  entry-at-reads.Learnt,
+  is-running-reads.Asked,
+  is-running-reads.Learnt,
+  strength-below t,
+  strength.Post,
+  counted-reads.Asked,
+  counted-reads.Learnt,
+  add-entry-reads.Asked,
+  add-entry-reads.Learnt,
+  stopped-reads.Asked,
+  stopped-reads.Learnt,
+) (with-entry-at t) with-entry.Post
+with-entry-same-length t c = search needs
+
+with-entry-same-length-2 : (t : ℕ) → with-entry-lts.Need-same-length-2 (
+  operator-code-reads.Asked,
+  operator-code-reads.Learnt,
+  entry-at-reads.Asked,
+  entry-at-reads.Learnt,
+  is-running-reads.Asked,
+  is-running-reads.Learnt,
+  strength-below t,
+  strength.Post,
+  counted-reads.Asked,
+  counted-reads.Learnt,
+  add-entry-reads.Asked,
+  add-entry-reads.Learnt,
+  stopped-reads.Asked,
+  stopped-reads.Learnt,
+) (with-entry-at t) with-entry.Post
+with-entry-same-length-2 t c = search needs
+
+with-entry-same-length-3 : (t : ℕ) → with-entry-lts.Need-same-length-3 (
+  operator-code-reads.Asked,
+  operator-code-reads.Learnt,
+  entry-at-reads.Asked,
+  entry-at-reads.Learnt,
+  is-running-reads.Asked,
+  is-running-reads.Learnt,
+  strength-below t,
+  strength.Post,
+  counted-reads.Asked,
+  counted-reads.Learnt,
+  add-entry-reads.Asked,
+  add-entry-reads.Learnt,
+  stopped-reads.Asked,
+  stopped-reads.Learnt,
+) (with-entry-at t) with-entry.Post
+with-entry-same-length-3 t c = search needs
+
+with-entry-returns-3 : (t : ℕ) → with-entry-lts.Need-returns-3 (
+  operator-code-reads.Asked,
+  operator-code-reads.Learnt,
+  entry-at-reads.Asked,
+  entry-at-reads.Learnt,
+  is-running-reads.Asked,
+  is-running-reads.Learnt,
+  strength-below t,
+  strength.Post,
+  counted-reads.Asked,
+  counted-reads.Learnt,
+  add-entry-reads.Asked,
+  add-entry-reads.Learnt,
+  stopped-reads.Asked,
+  stopped-reads.Learnt,
+) (with-entry-at t) with-entry.Post
+with-entry-returns-3 t c = search needs
+
+with-entry-same-length-4 : (t : ℕ) → with-entry-lts.Need-same-length-4 (
+  operator-code-reads.Asked,
+  operator-code-reads.Learnt,
+  entry-at-reads.Asked,
+  entry-at-reads.Learnt,
+  is-running-reads.Asked,
+  is-running-reads.Learnt,
+  strength-below t,
+  strength.Post,
+  counted-reads.Asked,
+  counted-reads.Learnt,
+  add-entry-reads.Asked,
+  add-entry-reads.Learnt,
+  stopped-reads.Asked,
+  stopped-reads.Learnt,
+) (with-entry-at t) with-entry.Post
+with-entry-same-length-4 t c = search needs
+
+with-entry-same-length-5 : (t : ℕ) → with-entry-lts.Need-same-length-5 (
+  operator-code-reads.Asked,
+  operator-code-reads.Learnt,
+  entry-at-reads.Asked,
+  entry-at-reads.Learnt,
+  is-running-reads.Asked,
+  is-running-reads.Learnt,
+  strength-below t,
+  strength.Post,
+  counted-reads.Asked,
+  counted-reads.Learnt,
+  add-entry-reads.Asked,
+  add-entry-reads.Learnt,
+  stopped-reads.Asked,
+  stopped-reads.Learnt,
+) (with-entry-at t) with-entry.Post
+with-entry-same-length-5 t c = search needs
+
+with-entry-same-length-6 : (t : ℕ) → with-entry-lts.Need-same-length-6 (
+  operator-code-reads.Asked,
+  operator-code-reads.Learnt,
+  entry-at-reads.Asked,
+  entry-at-reads.Learnt,
+  is-running-reads.Asked,
+  is-running-reads.Learnt,
+  strength-below t,
+  strength.Post,
+  counted-reads.Asked,
+  counted-reads.Learnt,
+  add-entry-reads.Asked,
+  add-entry-reads.Learnt,
+  stopped-reads.Asked,
+  stopped-reads.Learnt,
+) (with-entry-at t) with-entry.Post
+with-entry-same-length-6 t c = search needs
+
+with-entry-returns-4 : (t : ℕ) → with-entry-lts.Need-returns-4 (
+  operator-code-reads.Asked,
+  operator-code-reads.Learnt,
+  entry-at-reads.Asked,
+  entry-at-reads.Learnt,
+  is-running-reads.Asked,
+  is-running-reads.Learnt,
+  strength-below t,
+  strength.Post,
+  counted-reads.Asked,
+  counted-reads.Learnt,
+  add-entry-reads.Asked,
+  add-entry-reads.Learnt,
+  stopped-reads.Asked,
+  stopped-reads.Learnt,
+) (with-entry-at t) with-entry.Post
+with-entry-returns-4 t c = search needs
+
+pub +calculate-value+calculated-value+evaluated+gathered+limited+operated+resisted+strength+with-entry-spec :
+    {M : Type 1} → statement M
++calculate-value+calculated-value+evaluated+gathered+limited+operated+resisted+strength+with-entry-spec =
+    close
+    μ-calculate-value
+    μ-calculated-value
+    μ-evaluated
+    μ-gathered
+    μ-limited
+    μ-operated
+    μ-resisted
+    μ-strength
+    μ-with-entry
+    (λ t. calculate-value-lts.spec
+    (evaluated-below t, evaluated.Post)
+    (calculate-value-at t)
+    calculate-value.Post
+    (calculate-value-mul-v t)
+    (calculate-value-slice-read-v t)
+    (calculate-value-returns t)
+    (calculate-value-mul-object t)
+    (calculate-value-index-1-object t)
+    (calculate-value-index-2-object t)
+    (calculate-value-returns-2 t)
+    (calculate-value-mul-base t)
+    (calculate-value-shared-slice-read-base t)
+    (calculate-value-mul-values t)
+    (calculate-value-slice-write-values t)
+    (calculate-value-sub-evaluated t)
+    (calculate-value-evaluated-requires t)
+    (calculate-value-enum-known-got t)
+    (calculate-value-mul-values-2 t)
+    (calculate-value-slice-write-values-2 t)
+    (calculate-value-enum-known-got-2 t)
+    (calculate-value-same-length t)
+    (calculate-value-same-length-2 t)
+    (calculate-value-same-length-3 t)
+    (calculate-value-returns-3 t)
+    (calculate-value-same-length-4 t)
+    (calculate-value-same-length-5 t)
+    (calculate-value-same-length-6 t)
+    (calculate-value-returns-4 t))
+    (λ t. calculated-value-lts.spec (
+      find-reads.Asked,
+      find-reads.Learnt,
+      calculate-value-below t,
+      calculate-value.Post,
+      get-dogma-attribute-reads.Asked,
+      get-dogma-attribute-reads.Learnt,
+    )
+    (calculated-value-at t)
+    calculated-value.Post
+    (calculated-value-find-requires t)
+    (calculated-value-enum-known-found t)
+    (calculated-value-calculate-value-requires t)
+    (calculated-value-enum-told t)
+    (calculated-value-get-dogma-attribute-requires t)
+    (calculated-value-same-length t)
+    (calculated-value-same-length-2 t)
+    (calculated-value-same-length-3 t)
+    (calculated-value-returns t)
+    (calculated-value-returns-2 t))
+    (λ t. evaluated-lts.spec (
+      signed-reads.Asked,
+      signed-reads.Learnt,
+      is-limited-reads.Asked,
+      is-limited-reads.Learnt,
+      get-dogma-attribute-reads.Asked,
+      get-dogma-attribute-reads.Learnt,
+      operated-below t,
+      operated.Post,
+      limited-below t,
+      limited.Post,
+    )
+    (evaluated-at t)
+    evaluated.Post
+    (evaluated-mul-signed t)
+    (evaluated-index-1-signed t)
+    (evaluated-index-2-signed t)
+    (evaluated-signed-requires t)
+    (evaluated-mul-count t)
+    (evaluated-index-1-count t)
+    (evaluated-index-2-count t)
+    (evaluated-is-limited-requires t)
+    (evaluated-mul-base t)
+    (evaluated-shared-slice-read-base t)
+    (evaluated-returns t)
+    (evaluated-get-dogma-attribute-requires t)
+    (evaluated-mul-object t)
+    (evaluated-index-1-object t)
+    (evaluated-index-2-object t)
+    (evaluated-operated-requires t)
+    (evaluated-enum-known-got t)
+    (evaluated-enum-told t)
+    (evaluated-same-length t)
+    (evaluated-same-length-2 t)
+    (evaluated-same-length-3 t)
+    (evaluated-returns-2 t)
+    (evaluated-limited-requires t)
+    (evaluated-enum-known-low t)
+    (evaluated-enum-told-2 t)
+    (evaluated-same-length-4 t)
+    (evaluated-same-length-5 t)
+    (evaluated-same-length-6 t)
+    (evaluated-returns-3 t)
+    (evaluated-limited-requires-2 t)
+    (evaluated-same-length-7 t)
+    (evaluated-same-length-8 t)
+    (evaluated-same-length-9 t)
+    (evaluated-returns-4 t))
+    (λ t. gathered-lts.spec (
+      empty-reads.Asked,
+      empty-reads.Learnt,
+      with-entry-below t,
+      with-entry.Post,
+      apply-reads.Asked,
+      apply-reads.Learnt,
+    )
+    (gathered-at t)
+    gathered.Post
+    gathered-Inv-loop
+    gathered-μ-loop
+    (gathered-mul-count t)
+    (gathered-index-1-count t)
+    (gathered-index-2-count t)
+    (gathered-cast-count t)
+    (gathered-empty-requires t)
+    (gathered-loop-holds t)
+    (gathered-with-entry-requires t)
+    (gathered-add-k t)
+    (gathered-enum-told t)
+    (gathered-loop-less t)
+    (gathered-loop-again t)
+    (gathered-enum-known-stop t)
+    (gathered-same-length t)
+    (gathered-same-length-2 t)
+    (gathered-same-length-3 t)
+    (gathered-returns t)
+    (gathered-mul-object t)
+    (gathered-index-1-object t)
+    (gathered-index-2-object t)
+    (gathered-mul-first t)
+    (gathered-index-1-first t)
+    (gathered-index-2-first t)
+    (gathered-apply-requires t)
+    (gathered-same-length-4 t)
+    (gathered-same-length-5 t)
+    (gathered-same-length-6 t)
+    (gathered-returns-2 t))
+    (λ t. limited-lts.spec (
+      calculated-value-below t,
+      calculated-value.Post,
+      held-to-reads.Asked,
+      held-to-reads.Learnt,
+    )
+    (limited-at t)
+    limited.Post
+    (limited-returns t)
+    (limited-calculated-value-requires t)
+    (limited-enum-known-got t)
+    (limited-enum-told t)
+    (limited-same-length t)
+    (limited-same-length-2 t)
+    (limited-same-length-3 t)
+    (limited-returns-2 t)
+    (limited-held-to-requires t)
+    (limited-same-length-4 t)
+    (limited-same-length-5 t)
+    (limited-same-length-6 t)
+    (limited-returns-3 t))
+    (λ t. operated-lts.spec (
+      operator-of-reads.Asked,
+      operator-of-reads.Learnt,
+      has-operator-reads.Asked,
+      has-operator-reads.Learnt,
+      gathered-below t,
+      gathered.Post,
+    )
+    (operated-at t)
+    operated.Post
+    operated-Inv-loop
+    operated-μ-loop
+    (operated-mul-first t)
+    (operated-index-1-first t)
+    (operated-index-2-first t)
+    (operated-cast-first t)
+    (operated-mul-end t)
+    (operated-index-1-end t)
+    (operated-index-2-end t)
+    (operated-cast-end t)
+    (operated-add-end t)
+    (operated-mul-value t)
+    (operated-shared-slice-read-value t)
+    (operated-loop-holds t)
+    (operated-operator-of-requires t)
+    (operated-add-code t)
+    (operated-has-operator-requires t)
+    (operated-gathered-requires t)
+    (operated-enum-known-part t)
+    (operated-loop-less t)
+    (operated-loop-again t)
+    (operated-enum-known-part-2 t)
+    (operated-same-length t)
+    (operated-same-length-2 t)
+    (operated-same-length-3 t)
+    (operated-returns t)
+    (operated-loop-less-2 t)
+    (operated-loop-again-2 t)
+    (operated-same-length-4 t)
+    (operated-same-length-5 t)
+    (operated-same-length-6 t)
+    (operated-returns-2 t))
+    (λ t. resisted-lts.spec (
+      calculated-value-below t,
+      calculated-value.Post,
+      product-reads.Asked,
+      product-reads.Learnt,
+    )
+    (resisted-at t)
+    resisted.Post
+    (resisted-enum-told t)
+    (resisted-enum-known-resistance t)
+    (resisted-calculated-value-requires t)
+    (resisted-enum-known-got t)
+    (resisted-enum-told-2 t)
+    (resisted-same-length t)
+    (resisted-same-length-2 t)
+    (resisted-same-length-3 t)
+    (resisted-returns t)
+    (resisted-product-requires t)
+    (resisted-enum-known-step t)
+    (resisted-enum-told-3 t)
+    (resisted-returns-2 t)
+    (resisted-same-length-4 t)
+    (resisted-same-length-5 t)
+    (resisted-same-length-6 t)
+    (resisted-returns-3 t)
+    (resisted-same-length-7 t)
+    (resisted-same-length-8 t)
+    (resisted-same-length-9 t)
+    (resisted-returns-4 t))
+    (λ t. strength-lts.spec (
+      calculated-value-below t,
+      calculated-value.Post,
+      resisted-below t,
+      resisted.Post,
+    )
+    (strength-at t)
+    strength.Post
+    (strength-enum-known-origin t)
+    (strength-enum-known-origin-2 t)
+    (strength-calculated-value-requires t)
+    (strength-enum-known-got t)
+    (strength-enum-told t)
+    (strength-same-length t)
+    (strength-same-length-2 t)
+    (strength-same-length-3 t)
+    (strength-returns t)
+    (strength-resisted-requires t)
+    (strength-returns-2 t)
+    (strength-same-length-4 t)
+    (strength-same-length-5 t)
+    (strength-same-length-6 t)
+    (strength-returns-3 t))
+    λ t. with-entry-lts.spec (
+      operator-code-reads.Asked,
+      operator-code-reads.Learnt,
+      entry-at-reads.Asked,
+      entry-at-reads.Learnt,
+      is-running-reads.Asked,
+      is-running-reads.Learnt,
+      strength-below t,
+      strength.Post,
+      counted-reads.Asked,
+      counted-reads.Learnt,
+      add-entry-reads.Asked,
+      add-entry-reads.Learnt,
+      stopped-reads.Asked,
+      stopped-reads.Learnt,
+    )
+    (with-entry-at t)
+    with-entry.Post
+    (with-entry-mul-at t)
+    (with-entry-index-1-at t)
+    (with-entry-index-2-at t)
+    (with-entry-cast-at t)
+    (with-entry-add-at t)
+    (with-entry-mul-code t)
+    (with-entry-index-1-code t)
+    (with-entry-index-2-code t)
+    (with-entry-operator-code-requires t)
+    (with-entry-returns t)
+    (with-entry-entry-at-requires t)
+    (with-entry-is-running-requires t)
+    (with-entry-returns-2 t)
+    (with-entry-mul-object t)
+    (with-entry-index-1-object t)
+    (with-entry-index-2-object t)
+    (with-entry-mul-first t)
+    (with-entry-index-1-first t)
+    (with-entry-index-2-first t)
+    (with-entry-strength-requires t)
+    (with-entry-enum-known-got t)
+    (with-entry-counted-requires t)
+    (with-entry-add-entry-requires t)
+    (with-entry-enum-known-got-2 t)
+    (with-entry-stopped-requires t)
+    (with-entry-same-length t)
+    (with-entry-same-length-2 t)
+    (with-entry-same-length-3 t)
+    (with-entry-returns-3 t)
+    (with-entry-same-length-4 t)
+    (with-entry-same-length-5 t)
+    (with-entry-same-length-6 t)
+    (with-entry-returns-4 t)
