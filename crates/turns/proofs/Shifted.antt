@@ -1,0 +1,98 @@
+-- The turns over a list: its first part, then the third, the second, and the rest.
+use Prim.Native.Nat.{ℕ, zero, suc, _+_, _-_, _≤_, _<_}
+use native.Mathlib.Nat.{zero-add}
+use native.Mathlib.Omega.{arith}
+use mathlib.Core.Path.{_≡_, refl, sym, ap, ap₂, _∙_}
+use mathlib.Core.Bool.{Bool, true, false, _||_, cond}
+use mathlib.Core.List.{List, [], _∷_, _++_, map}
+use lib.Dec.{ltb, leb}
+use lib.ListN.{length, getD}
+use lib.Seq.{ext-getD}
+use borrow.Author.Tests.{lt-ltb, le-ltb, le-leb, lt-leb}
+use Rattle.laws.specs.Lists.{span, from}
+use Rattle.laws.proofs.Bools.{or-true-right}
+use Rattle.laws.proofs.From.{table-length, table-at, table-append, table-same}
+use Rattle.laws.proofs.Spans.{span-table}
+use Rattle.turns.specs.declared.Turns.{Turns}
+use Rattle.turns.specs.Order.{walkedAt, Ordered}
+
+-- ---- the place of a turn
+
+module _ (t : Turns) (k : ℕ) where
+  second : ℕ
+  second = cond (ltb k (t .ship + (t .projected - t .character))) (k - t .ship + t .character) (k - (t .projected - t .character))
+
+  pub at-ship : k < t .ship → walkedAt t k ≡ k
+  unfolding second
+  at-ship h = ap (λ (b : Bool). cond (b || leb (t .projected) k) k second) (lt-ltb k (t .ship) h)
+
+  pub at-rest : t .projected ≤ k → walkedAt t k ≡ k
+  unfolding second
+  at-rest h =
+      ap (λ (b : Bool). cond (ltb k (t .ship) || b) k second) (le-leb (t .projected) k h) ∙ ap (λ (b : Bool). cond b k second) (or-true-right (ltb k (t .ship)))
+
+  moved : t .ship ≤ k → k < t .projected → walkedAt t k ≡ second
+  unfolding second
+  moved h l = rw (le-ltb k (t .ship) h, lt-leb (t .projected) k l) refl
+
+  pub at-projected : t .ship ≤ k → k < t .projected → k < t .ship + (t .projected - t .character) → walkedAt t k ≡ k - t .ship + t .character
+  unfolding second
+  at-projected h l m = moved h l ∙ rw (lt-ltb k (t .ship + (t .projected - t .character)) m) refl
+
+  pub at-owner : t .ship ≤ k → k < t .projected → t .ship + (t .projected - t .character) ≤ k → walkedAt t k ≡ k - (t .projected - t .character)
+  unfolding second
+  at-owner h l m = moved h l ∙ rw (le-ltb k (t .ship + (t .projected - t .character)) m) refl
+
+-- ---- all turns
+
+pub table-shift : {A : Type 0} (f g : ℕ → A) (d : A) (a b n : ℕ) → ((j : ℕ) → j < n → f (a + j) ≡ g (b + j)) → map f (from a n) ≡ map g (from b n)
+table-shift f g d a b n e =
+    ext-getD d (map f (from a n)) (map g (from b n)) (table-length f a n ∙ sym (table-length g b n)) (λ j h. both j (rw (table-length f a n) at h))
+  where
+    both : (j : ℕ) → j < n → getD (map f (from a n)) j d ≡ getD (map g (from b n)) j d
+    both j h = table-at f a n j d h ∙ e j h ∙ sym (table-at g b n j d h)
+
+module _ {A : Type 0} (xs : List A) (d : A) (t : Turns) (o : Ordered t) (inside : t .projected ≤ length xs) where
+  turn : ℕ → A
+  turn k = getD xs (walkedAt t k) d
+
+  -- from a on, n turns go over the places from b on
+  part : (a b n : ℕ) → b + n ≤ length xs → ((j : ℕ) → j < n → walkedAt t (a + j) ≡ b + j) → span b n xs ≡ map turn (from a n)
+  unfolding turn
+  part a b n h e =
+      span-table b n xs d h ∙ sym (table-shift turn (λ k. getD xs k d) d a b n (λ j l. ap (λ (k : ℕ). getD xs k d) (e j l)))
+
+  pub shifted : span 0 (t .ship) xs ++ (span (t .character) (t .projected - t .character) xs ++ (span (t .ship) (t .character - t .ship) xs ++ span (t .projected) (length xs - t .projected) xs))
+      ≡ map (λ k. getD xs (walkedAt t k) d) (from 0 (length xs))
+  unfolding turn
+  shifted =
+      rw (first, projected, owners, rest)
+      (sym (ap (λ (n : ℕ). map turn (from 0 n)) all
+      ∙ table-append turn 0 (t .ship) (t .projected - t .character + (t .character - t .ship + (length xs - t .projected)))
+      ∙ rw (zero-add (t .ship)) (ap (λ (l : List A). map turn (from 0 (t .ship)) ++ l)
+      (table-append turn (t .ship) (t .projected - t .character) (t .character - t .ship + (length xs - t .projected))
+      ∙ ap (λ (l : List A). map turn (from (t .ship) (t .projected - t .character)) ++ l)
+      (table-append turn (t .ship + (t .projected - t .character)) (t .character - t .ship) (length xs - t .projected)
+      ∙ ap (λ (n : ℕ). map turn (from (t .ship + (t .projected - t .character)) (t .character - t .ship)) ++ map turn (from n (length xs - t .projected))) last)))))
+    where
+      first : span 0 (t .ship) xs ≡ map turn (from 0 (t .ship))
+      first = part 0 0 (t .ship) (omega (arith, o .ship, o .character)) (λ j h. at-ship t (0 + j) (omega arith))
+
+      projected : span (t .character) (t .projected - t .character) xs ≡ map turn (from (t .ship) (t .projected - t .character))
+      projected =
+          part (t .ship) (t .character) (t .projected - t .character) (omega (arith, o .character))
+          (λ j h. at-projected t (t .ship + j) (omega arith) (omega (arith, o .ship)) (omega arith) ∙ omega arith)
+
+      owners : span (t .ship) (t .character - t .ship) xs ≡ map turn (from (t .ship + (t .projected - t .character)) (t .character - t .ship))
+      owners =
+          part (t .ship + (t .projected - t .character)) (t .ship) (t .character - t .ship) (omega (arith, o .ship, o .character))
+          (λ j h. at-owner t (t .ship + (t .projected - t .character) + j) (omega arith) (omega (arith, o .character)) (omega arith) ∙ omega arith)
+
+      rest : span (t .projected) (length xs - t .projected) xs ≡ map turn (from (t .projected) (length xs - t .projected))
+      rest = part (t .projected) (t .projected) (length xs - t .projected) (omega arith) (λ j h. at-rest t (t .projected + j) (omega arith))
+
+      all : length xs ≡ t .ship + (t .projected - t .character + (t .character - t .ship + (length xs - t .projected)))
+      all = omega (arith, o .ship, o .character)
+
+      last : t .ship + (t .projected - t .character) + (t .character - t .ship) ≡ t .projected
+      last = omega (arith, o .ship, o .character)

@@ -1,0 +1,43 @@
+-- In which order the walk goes over the rows, by their places in list 2. Definitions only.
+use Prim.Native.Nat.{ℕ, _+_, _-_, _≤_}
+use mathlib.Core.Path.{_≡_}
+use mathlib.Core.Bool.{Bool, true, _||_, cond}
+use mathlib.Core.List.{List, map}
+use lib.Dec.{ltb, leb}
+use lib.ListN.{length, getD}
+use Rattle.laws.specs.Lists.{keep, every?, from}
+use Rattle.rules.specs.Sheet.{Fit}
+use Rattle.rules.specs.Item.{isProjected, charOf}
+use Rattle.rules.specs.Dispatch.{Row}
+use Rattle.rules.specs.Outcome.{walkOrder}
+use Rattle.reading.specs.Held.{noRow}
+use Rattle.turns.specs.declared.Turns.{Turns}
+
+-- how many rows are of objects below one
+abbrev pub rowsBelow : ℕ → List Row → ℕ
+rowsBelow o rs = length (keep (λ r. ltb (r .object) o) rs)
+
+-- the projected ones stand right after the char: the number just past the last
+abbrev pub projectedEnd : Fit → ℕ
+projectedEnd f = charOf f + 1 + length (keep isProjected (f .objects))
+
+-- the place of the row that turn k is at: the projected ones' rows go before those of mode and char
+abbrev pub walkedAt : Turns → ℕ → ℕ
+walkedAt t k =
+    cond (ltb k (t .ship) || leb (t .projected) k) k
+    (cond (ltb k (t .ship + (t .projected - t .character))) (k - t .ship + t .character) (k - (t .projected - t .character)))
+
+-- the rows end in this order
+pub record Ordered (t : Turns) : Type 0 where
+  pub ship : t .ship ≤ t .character
+  pub character : t .character ≤ t .projected
+
+-- every row is of one of n objects
+abbrev pub owned : ℕ → List Row → Bool
+owned n rs = every? (λ r. ltb (r .object) n) rs
+
+-- t are the walk's turns over the rows of the objects
+pub record TurnsOf (f : Fit) (rs : List Row) (t : Turns) : Type 0 where
+  pub ordered : Ordered t
+  pub inside : t .projected ≤ length rs
+  pub order : walkOrder (f .objects) rs ≡ map (λ k. getD rs (walkedAt t k) noRow) (from 0 (length rs))
