@@ -1,3 +1,6 @@
 pub mod Sorted
 pub mod Ranks
 pub mod Shifted
+pub mod Objects
+pub mod Walks
+pub mod Bounds

@@ -66,10 +66,11 @@ module _ {A : Type 0} (key : A → ℕ) (xs : List A) (d : A) where
   Climbs = (i j : ℕ) → i ≤ j → j < length xs → key (getD xs i d) ≤ key (getD xs j d)
 
   module _ (c : Climbs) where
+    pub falls : (r : ℕ) → Falls (λ x. ltb (key x) r) xs d
+    falls r = record { before = λ i j l h e. lt-ltb (key (getD xs i d)) r (omega (arith, c i j l h, ltb-true (key (getD xs j d)) r e)) }
+
     bound : (r : ℕ) → Between (λ x. ltb (key x) r) xs d (below r) (below r)
-    bound r =
-        falls-kept (λ x. ltb (key x) r) d xs
-        (record { before = λ i j l h e. lt-ltb (key (getD xs i d)) r (omega (arith, c i j l h, ltb-true (key (getD xs j d)) r e)) })
+    bound r = falls-kept (λ x. ltb (key x) r) d xs (falls r)
 
     pub below-inside : (r : ℕ) → below r ≤ length xs
     below-inside r = bound r .inside
