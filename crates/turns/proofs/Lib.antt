@@ -4,3 +4,4 @@ pub mod Shifted
 pub mod Objects
 pub mod Walks
 pub mod Bounds
+pub mod Passing
