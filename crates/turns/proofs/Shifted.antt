@@ -8,10 +8,10 @@ use mathlib.Core.List.{List, [], _∷_, _++_, map}
 use lib.Dec.{ltb, leb}
 use lib.ListN.{length, getD}
 use lib.Seq.{ext-getD}
-use borrow.Author.Tests.{lt-ltb, le-ltb, le-leb, lt-leb}
+use borrow.Author.Tests.{lt-ltb, le-ltb, ltb-false, le-leb, lt-leb, leb-false}
 use Rattle.laws.specs.Lists.{span, from}
-use Rattle.laws.proofs.Bools.{or-true-right}
-use Rattle.laws.proofs.From.{table-length, table-at, table-append, table-same}
+use Rattle.laws.proofs.Bools.{or-true-right, or-false-left, or-false-right}
+use Rattle.laws.proofs.From.{table-length, table-at, table-append}
 use Rattle.laws.proofs.Spans.{span-table}
 use Rattle.turns.specs.declared.Turns.{Turns}
 use Rattle.turns.specs.Order.{walkedAt, Ordered}
@@ -19,29 +19,57 @@ use Rattle.turns.specs.Order.{walkedAt, Ordered}
 -- ---- the place of a turn
 
 module _ (t : Turns) (k : ℕ) where
-  second : ℕ
-  second = cond (ltb k (t .ship + (t .projected - t .character))) (k - t .ship + t .character) (k - (t .projected - t .character))
+  -- whether the turn is at the row of its own number
+  abbrev stays : Bool
+  stays = ltb k (t .ship) || leb (t .projected) k
 
-  pub at-ship : k < t .ship → walkedAt t k ≡ k
-  unfolding second
-  at-ship h = ap (λ (b : Bool). cond (b || leb (t .projected) k) k second) (lt-ltb k (t .ship) h)
+  abbrev other : ℕ
+  other = cond (ltb k (t .ship + (t .projected - t .character))) (k - t .ship + t .character) (k - (t .projected - t .character))
 
-  pub at-rest : t .projected ≤ k → walkedAt t k ≡ k
-  unfolding second
-  at-rest h =
-      ap (λ (b : Bool). cond (ltb k (t .ship) || b) k second) (le-leb (t .projected) k h) ∙ ap (λ (b : Bool). cond b k second) (or-true-right (ltb k (t .ship)))
+  stayed : stays ≡ true → walkedAt t k ≡ k
+  stayed e = ap (λ (b : Bool). cond b k other) e
 
-  moved : t .ship ≤ k → k < t .projected → walkedAt t k ≡ second
-  unfolding second
-  moved h l = rw (le-ltb k (t .ship) h, lt-leb (t .projected) k l) refl
+  moved : stays ≡ false → walkedAt t k ≡ other
+  moved e = ap (λ (b : Bool). cond b k other) e
 
-  pub at-projected : t .ship ≤ k → k < t .projected → k < t .ship + (t .projected - t .character) → walkedAt t k ≡ k - t .ship + t .character
-  unfolding second
-  at-projected h l m = moved h l ∙ rw (lt-ltb k (t .ship + (t .projected - t .character)) m) refl
+  forward : stays ≡ false → k < t .ship + (t .projected - t .character) → walkedAt t k ≡ k - t .ship + t .character
+  forward e l =
+      moved e
+      ∙ ap (λ (b : Bool). cond b (k - t .ship + t .character) (k - (t .projected - t .character))) (lt-ltb k (t .ship + (t .projected - t .character)) l)
 
-  pub at-owner : t .ship ≤ k → k < t .projected → t .ship + (t .projected - t .character) ≤ k → walkedAt t k ≡ k - (t .projected - t .character)
-  unfolding second
-  at-owner h l m = moved h l ∙ rw (le-ltb k (t .ship + (t .projected - t .character)) m) refl
+  back : stays ≡ false → t .ship + (t .projected - t .character) ≤ k → walkedAt t k ≡ k - (t .projected - t .character)
+  back e l =
+      moved e
+      ∙ ap (λ (b : Bool). cond b (k - t .ship + t .character) (k - (t .projected - t .character))) (le-ltb k (t .ship + (t .projected - t .character)) l)
+
+  at-ship : k < t .ship → walkedAt t k ≡ k
+  at-ship h = stayed (ap (λ (b : Bool). b || leb (t .projected) k) (lt-ltb k (t .ship) h))
+
+  at-rest : t .projected ≤ k → walkedAt t k ≡ k
+  at-rest h = stayed (ap (λ (b : Bool). ltb k (t .ship) || b) (le-leb (t .projected) k h) ∙ or-true-right (ltb k (t .ship)))
+
+  not-stays : t .ship ≤ k → k < t .projected → stays ≡ false
+  not-stays h l = rw (le-ltb k (t .ship) h, lt-leb (t .projected) k l) refl
+
+  -- what the code's tests say
+  pub past-ship : stays ≡ false → t .ship ≤ k
+  past-ship e = ltb-false k (t .ship) (or-false-left (ltb k (t .ship)) (leb (t .projected) k) e)
+
+  before-rest : stays ≡ false → k < t .projected
+  before-rest e = leb-false (t .projected) k (or-false-right (ltb k (t .ship)) (leb (t .projected) k) e)
+
+  abbrev Walked : ℕ → Type 0
+  Walked r = (r ≡ walkedAt t k) × ((n : ℕ) → t .projected ≤ n → k < n → r < n)
+
+  pub walked-own : stays ≡ true → Walked k
+  walked-own e = (sym (stayed e), λ n l m. m)
+
+  module _ (o : Ordered t) (e : stays ≡ false) where
+    pub walked-projected : k < t .ship + (t .projected - t .character) → Walked (k - t .ship + t .character)
+    walked-projected h = (sym (forward e h), λ n l m. omega (arith, past-ship e, o .character))
+
+    pub walked-owner : t .ship + (t .projected - t .character) ≤ k → Walked (k - (t .projected - t .character))
+    walked-owner h = (sym (back e h), λ n l m. omega arith)
 
 -- ---- all turns
 
@@ -81,12 +109,12 @@ module _ {A : Type 0} (xs : List A) (d : A) (t : Turns) (o : Ordered t) (inside 
       projected : span (t .character) (t .projected - t .character) xs ≡ map turn (from (t .ship) (t .projected - t .character))
       projected =
           part (t .ship) (t .character) (t .projected - t .character) (omega (arith, o .character))
-          (λ j h. at-projected t (t .ship + j) (omega arith) (omega (arith, o .ship)) (omega arith) ∙ omega arith)
+          (λ j h. forward t (t .ship + j) (not-stays t (t .ship + j) (omega arith) (omega (arith, o .ship))) (omega arith) ∙ omega arith)
 
       owners : span (t .ship) (t .character - t .ship) xs ≡ map turn (from (t .ship + (t .projected - t .character)) (t .character - t .ship))
       owners =
           part (t .ship + (t .projected - t .character)) (t .ship) (t .character - t .ship) (omega (arith, o .ship, o .character))
-          (λ j h. at-owner t (t .ship + (t .projected - t .character) + j) (omega arith) (omega (arith, o .character)) (omega arith) ∙ omega arith)
+          (λ j h. back t (t .ship + (t .projected - t .character) + j) (not-stays t (t .ship + (t .projected - t .character) + j) (omega arith) (omega (arith, o .character))) (omega arith) ∙ omega arith)
 
       rest : span (t .projected) (length xs - t .projected) xs ≡ map turn (from (t .projected) (length xs - t .projected))
       rest = part (t .projected) (t .projected) (length xs - t .projected) (omega arith) (λ j h. at-rest t (t .projected + j) (omega arith))
