@@ -5,3 +5,4 @@ pub mod Objects
 pub mod Walks
 pub mod Bounds
 pub mod Passing
+pub mod Owners

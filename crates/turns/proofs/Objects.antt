@@ -1,14 +1,14 @@
 -- Where the objects stand by rank: the ship is one, mode and char end at the char, the projected ones follow.
-use Prim.Native.Nat.{ℕ, zero, suc, _+_, _-_, _≤_, _<_, zero-le}
+use Prim.Native.Nat.{ℕ, suc, _+_, _-_, _≤_, _<_, zero-le}
 use native.Mathlib.Nat.{not-suc-le-zero}
 use native.Mathlib.Omega.{arith}
-use mathlib.Core.Path.{_≡_, refl, sym, ap, subst, _∙_}
+use mathlib.Core.Path.{_≡_, sym, ap, subst, _∙_}
 use mathlib.Core.Bool.{Bool, true, false, _||_, cond}
-use mathlib.Core.List.{List, [], _∷_, map}
+use mathlib.Core.List.{List, map}
 use mathlib.Core.Logic.{⊎-elim}
 use lib.Dec.{eqb, ltb}
 use lib.ListN.{length, getD, length-map}
-use borrow.Author.Tests.{eqb-true, eqb-false, eq-eqb, ne-eqb, ltb-true, ltb-false}
+use borrow.Author.Tests.{eqb-true, eqb-false, ltb-true, ltb-false}
 use Rattle.laws.specs.Lists.{keep, span, every?}
 use Rattle.laws.proofs.Bools.{and-left, true-or-false}
 use Rattle.laws.proofs.Keep.{keep-same}

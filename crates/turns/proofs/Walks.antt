@@ -5,14 +5,14 @@ use native.Mathlib.Numerals.{add-one}
 use native.Mathlib.Omega.{arith}
 use mathlib.Core.Path.{_≡_, refl, sym, ap, ap₂, _∙_}
 use mathlib.Core.Bool.{Bool, true, false, _||_, cond}
-use mathlib.Core.List.{List, [], _∷_, _++_, map, append-assoc}
+use mathlib.Core.List.{List, _++_, append-assoc}
 use mathlib.Core.Logic.{⊎-elim}
 use lib.Dec.{eqb, ltb}
 use lib.IntN.{ℤ}
 use lib.Signed.{ltZ}
 use lib.ListN.{length, getD}
 use borrow.Author.Tests.{eqb-true, ltb-true, ltb-false}
-use Rattle.laws.specs.Lists.{keep, flat, span, from, every?}
+use Rattle.laws.specs.Lists.{keep, flat, span}
 use Rattle.laws.proofs.Bools.{true-or-false}
 use Rattle.laws.proofs.Keep.{keep-all}
 use Rattle.laws.proofs.Flat.{flat-append}
@@ -20,11 +20,11 @@ use Rattle.laws.proofs.Spans.{flat-span-next}
 use Rattle.laws.proofs.From.{table-length, table-at}
 use Rattle.rules.specs.Sheet.{Fit}
 use Rattle.rules.specs.Shape.{objectsGood}
-use Rattle.rules.specs.Item.{object, noItem, isShip, isMode, isChar, isItem, isCharge, isSkill, isProjected, charOf}
+use Rattle.rules.specs.Item.{object, noItem, isShip, isMode, isChar, isItem, isCharge, isProjected, charOf}
 use Rattle.rules.specs.Dispatch.{Row}
 use Rattle.rules.specs.Outcome.{walkOrder}
 use Rattle.rules.specs.declared.Item.{Item}
-use Rattle.reading.specs.Held.{noRow, isBefore, rowBefore, ascending, RowsHeld}
+use Rattle.reading.specs.Held.{noRow, isBefore, ascending}
 use Rattle.reading.proofs.Orders.{ascending-far}
 use Rattle.turns.specs.declared.Turns.{Turns}
 use Rattle.turns.specs.Order.{rowsBelow, projectedEnd, walkedAt, Ordered, owned, TurnsOf}
