@@ -21,11 +21,19 @@ rowsBelow o rs = length (keep (λ r. ltb (r .object) o) rs)
 abbrev pub projectedEnd : Fit → ℕ
 projectedEnd f = charOf f + 1 + length (keep isProjected (f .objects))
 
+-- whether turn k is at the row of its own number: among the ship's, or past the projected ones'
+abbrev pub stays : Turns → ℕ → Bool
+stays t k = ltb k (t .ship) || leb (t .projected) k
+
+abbrev pub projectedRows : Turns → ℕ
+projectedRows t = t .projected - t .character
+
 -- the place of the row that turn k is at: the projected ones' rows go before those of mode and char
 abbrev pub walkedAt : Turns → ℕ → ℕ
 walkedAt t k =
-    cond (ltb k (t .ship) || leb (t .projected) k) k
-    (cond (ltb k (t .ship + (t .projected - t .character))) (k - t .ship + t .character) (k - (t .projected - t .character)))
+    let forward = k - t .ship + t .character in
+    let back = k - projectedRows t in
+    cond (stays t k) k (cond (ltb k (t .ship + projectedRows t)) forward back)
 
 -- the rows end in this order
 pub record Ordered (t : Turns) : Type 0 where
