@@ -1,0 +1,3 @@
+pub mod Unless
+pub mod AnyDepth
+pub mod Calculations
