@@ -1,3 +1,5 @@
 pub mod Unless
 pub mod AnyDepth
 pub mod Calculations
+pub mod Depth
+pub mod Room

@@ -1,1 +1,2 @@
 pub mod Unless
+pub mod Wider
