@@ -3,3 +3,4 @@ pub mod AnyDepth
 pub mod Calculations
 pub mod Depth
 pub mod Room
+pub mod Companions
