@@ -4,3 +4,4 @@ pub mod Calculations
 pub mod Depth
 pub mod Room
 pub mod Companions
+pub mod OneAnswer

@@ -1,2 +1,3 @@
 pub mod Unless
 pub mod Wider
+pub mod Zeros
