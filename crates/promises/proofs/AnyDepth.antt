@@ -1,20 +1,19 @@
 -- The depth is read by the walk alone: collection, dispatch and what is valued are the same at any.
 use Prim.Native.Nat.{ℕ}
-use mathlib.Core.Path.{_≡_, refl, ap, _∙_}
+use mathlib.Core.Path.{_≡_, refl, ap}
 use mathlib.Core.List.{List, map}
 use lib.IntN.{ℤ}
-use Rattle.laws.specs.Lists.{eqZ, keep, flat, insertAll}
+use Rattle.laws.specs.Lists.{eqZ, keep}
 use Rattle.laws.proofs.Flat.{flat-same}
 use Rattle.laws.proofs.Keep.{keep-same}
 use Rattle.laws.proofs.Maps.{map-same}
-use Rattle.rules.specs.Sheet.{Book, Fit, basesOf}
-use Rattle.rules.specs.Info.{getDogmaAttribute, getBase}
+use Rattle.rules.specs.Sheet.{Book, Fit}
+use Rattle.rules.specs.Info.{getBase}
 use Rattle.rules.specs.Item.{object}
 use Rattle.rules.specs.States.{collectedStates, statesOf}
 use Rattle.rules.specs.Collect.{takenOf, moves, fittedMoves, ownMoves, effectMoves, foundMoves, modifierMoves, testDomain, testProjectedDomain, projectedModifierMoves, projectedMoves}
-use Rattle.rules.specs.Dispatch.{Row, Key, sourceType, sourceCategory, requires, inLocation, hit, entry, arrival, baseKeys, hitKeys, hitsOn, idsOf, rowOf, rows}
-use Rattle.rules.specs.Outcome.{collectedIn, rowsIn, worldOf, walkOrder, startsOf}
-use Rattle.rules.specs.Value.{World}
+use Rattle.rules.specs.Dispatch.{Key, sourceType, sourceCategory, requires, inLocation, hit, entry, arrival, baseKeys, hitKeys, hitsOn, idsOf, rowOf, rows}
+use Rattle.rules.specs.Outcome.{collectedIn, rowsIn, worldOf}
 use Rattle.rules.specs.declared.Item.{Item}
 use Rattle.rules.specs.declared.Modifier.{Modifier}
 use Rattle.rules.specs.declared.Modifier.the-variants.{LocationRequiredSkillModifier, LocationGroupModifier, LocationModifier, OwnerRequiredSkillModifier, ItemModifier}

@@ -1,20 +1,20 @@
 -- Calculations in a world and in one that differs in room alone, where all that is noted and all that is read is the same unless
 -- refused: each gives the same unless refused.
 use Prim.Native.Nat.{ℕ, zero, suc, _-_, min}
-use mathlib.Core.Path.{_≡_, refl}
-use mathlib.Core.Bool.{Bool, true, false, _&&_, _||_}
+use mathlib.Core.Path.{refl}
+use mathlib.Core.Bool.{true, false, _&&_, _||_}
 use mathlib.Core.List.{List, [], _∷_}
 use mathlib.Core.Option.{Option, none, some}
 use lib.Ieee.{Float}
 use lib.IntN.{ℤ, pos}
-use lib.ListN.{getD, length}
+use lib.ListN.{getD}
 use Rattle.laws.specs.Lists.{eqZ}
 use Rattle.rules.specs.Answer.{Res, ok, refused, _>>=_}
 use Rattle.rules.specs.Codes.{operators, sameOperator}
 use Rattle.rules.specs.Dispatch.{Row}
 use Rattle.rules.specs.Info.{getDogmaAttribute, highIsGood}
 use Rattle.rules.specs.Item.{runsAt}
-use Rattle.rules.specs.Number.{times, numberAt}
+use Rattle.rules.specs.Number.{numberAt}
 use Rattle.rules.specs.Operate.{simplified, hasPenalty, applied}
 use Rattle.rules.specs.Value.{World, Mem, Read, Reader, Gathered, Found, stateOf, toSource, nothing, note, copies, penalised, unpenalised, contribute, resisted, gatherFrom, gather, markedBy, operate, clamped, atLeast, atMost, setValue, calculate, calculatedValue, valueOf, findRow}
 use Rattle.rules.specs.Outcome.{valued}
@@ -27,7 +27,7 @@ use Rattle.rules.specs.declared.Origin.{Origin}
 use Rattle.rules.specs.declared.Origin.the-variants as origin
 use Rattle.rules.specs.declared.Refusal.{Refusal}
 use Rattle.rules.specs.declared.Source.{Source}
-use Rattle.promises.specs.Unless.{Unless, refused-so, the-same, withRoom}
+use Rattle.promises.specs.Unless.{Unless, the-same, withRoom}
 use Rattle.promises.proofs.Unless.{either, on, after, before}
 
 -- all that is noted

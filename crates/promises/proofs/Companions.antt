@@ -1,5 +1,6 @@
 -- Sheets on which more depth and more room do change the answer: a refusal of DEPTH and one of ROOM for each list, and then done.
-use Prim.Native.Nat.{ℕ}
+use Prim.Native.Nat.{ℕ, _≤_}
+use native.Mathlib.Omega.{arith}
 use mathlib.Core.Path.{_≡_, refl}
 use mathlib.Core.List.{List, [], _∷_}
 use lib.ListN.{set}
@@ -10,6 +11,8 @@ use Rattle.rules.specs.declared.Refusal.the-variants.{Room, Depth}
 use Rattle.rules.proofs.Everything.{everything}
 use Rattle.rules.proofs.Marked.{lent, caseL}
 use Rattle.rules.proofs.Written.{whole, attribute, effect, modifier, typeEffect, hull, fitted, base, sheet}
+use Rattle.promises.specs.Sheets.{Deeper}
+use Rattle.promises.specs.Wider.{Longer}
 
 -- case L with recording, where each item has also an effect without modifiers
 abbrev recorded : List ℕ
@@ -30,12 +33,14 @@ lists c r e p s =
 
 pub record Companions : Type 0 where
   pub depth-1 : outcome (caseL 1 []) lent ≡ refused (Depth 2)
+  pub deeper : Deeper (caseL 1 []) (caseL 2 [])
   pub depth-2 : answerOf (outcome (caseL 2 []) lent) ≡ Done
   pub room-1 : outcome recorded (lists 1 3 2 2 2) ≡ refused (Room 1)
   pub room-2 : outcome recorded (lists 2 2 2 2 2) ≡ refused (Room 2)
   pub room-3 : outcome recorded (lists 2 3 1 2 2) ≡ refused (Room 3)
   pub room-4 : outcome recorded (lists 2 3 2 1 2) ≡ refused (Room 4)
   pub room-5 : outcome recorded (lists 2 3 2 2 1) ≡ refused (Room 5)
+  pub longer : (c r e p s : ℕ) → c ≤ 2 → r ≤ 3 → e ≤ 2 → p ≤ 2 → s ≤ 2 → Longer (lists c r e p s) (lists 2 3 2 2 2)
   pub room : answerOf (outcome recorded (lists 2 3 2 2 2)) ≡ Done
 
 pub companions : Companions
@@ -43,11 +48,14 @@ unfolding everything
 companions =
     record {
       depth-1 = refl;
+      deeper = record { front = refl; back = refl; long = refl; least = omega arith; more = omega arith; most = omega arith };
       depth-2 = refl;
       room-1 = refl;
       room-2 = refl;
       room-3 = refl;
       room-4 = refl;
       room-5 = refl;
+      longer = λ c r e p s h₁ h₂ h₃ h₄ h₅.
+          record { collected = h₁; collectedValues = h₁; rows = h₂; bases = h₂; values = h₂; entries = h₃; entryValues = h₃; plain = h₄; sources = h₅; sourceFloats = h₅ };
       room = refl;
     }

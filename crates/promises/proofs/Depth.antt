@@ -1,12 +1,12 @@
 -- "More depth": a run that was not refused DEPTH is the same with more, whatever it gave or was refused for, with loops or without.
 use Prim.Native.Nat.{ℕ, zero, suc, _≤_}
 use native.Mathlib.Nat.{le-of-suc-le-suc, not-suc-le-zero}
-use mathlib.Core.Path.{_≡_, refl}
+use mathlib.Core.Path.{refl}
 use mathlib.Core.Bool.{cond}
 use mathlib.Core.Option.{none, some}
 use lib.Dec.{leb}
 use lib.ListN.{length}
-use Rattle.rules.specs.Answer.{Res, refused, _>>=_}
+use Rattle.rules.specs.Answer.{refused}
 use Rattle.rules.specs.Sheet.{Book, Fit}
 use Rattle.rules.specs.Collect.{moves}
 use Rattle.rules.specs.Dispatch.{baseKeys, hitKeys, fullAt}

@@ -5,3 +5,4 @@ pub mod Depth
 pub mod Room
 pub mod Companions
 pub mod OneAnswer
+pub mod Sheets

@@ -1,3 +1,4 @@
 pub mod Unless
 pub mod Wider
 pub mod Zeros
+pub mod Sheets

@@ -1,5 +1,5 @@
 -- Lists that were lent at least as long, and the rooms at least as large.
-use Prim.Native.Nat.{ℕ, _≤_}
+use Prim.Native.Nat.{_≤_}
 use Rattle.rules.specs.Outcome.{Lent, Rooms}
 
 pub record Wider (q r : Rooms) : Type 0 where
