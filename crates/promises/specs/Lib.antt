@@ -2,3 +2,4 @@ pub mod Unless
 pub mod Wider
 pub mod Zeros
 pub mod Sheets
+pub mod Result

@@ -1,0 +1,41 @@
+-- What comes back of a run: number, place, counts, and every column as long as it was lent.
+use Prim.Native.Nat.{ℕ}
+use mathlib.Core.Path.{_≡_}
+use mathlib.Core.List.{List}
+use lib.Ieee.{Float}
+use Rattle.rules.specs.Answer.{number, place, answerOf}
+use Rattle.rules.specs.Columns.{Counts, countsOf, collectedColumn, collectedValueColumn, rowColumn, baseColumn, valueColumn, entryColumn, entryValueColumn, plainColumn, sourceColumn, sourceFloatColumn, stateColumn}
+use Rattle.rules.specs.Outcome.{Lent, outcome}
+
+pub record Result : Type 0 where
+  pub number : ℕ
+  pub place : ℕ
+  pub counts : Counts
+  pub states : List (List ℕ)
+  pub collected : List (List ℕ)
+  pub collectedValues : List Float
+  pub rows : List (List ℕ)
+  pub bases : List Float
+  pub values : List Float
+  pub entries : List (List ℕ)
+  pub entryValues : List Float
+  pub plain : List (List ℕ)
+  pub sources : List (List ℕ)
+  pub sourceFloats : List (List Float)
+
+-- r is what the definition gives for the bytes and the lists lent
+pub record Meets (b : List ℕ) (l : Lent) (r : Result) : Type 0 where
+  pub by-number : r .number ≡ number (answerOf (outcome b l))
+  pub by-place : r .place ≡ place (answerOf (outcome b l))
+  pub by-counts : r .counts ≡ countsOf (outcome b l)
+  pub by-states : r .states ≡ stateColumn (outcome b l)
+  pub by-collected : r .collected ≡ collectedColumn (outcome b l) (l .collected)
+  pub by-collectedValues : r .collectedValues ≡ collectedValueColumn (outcome b l) (l .collectedValues)
+  pub by-rows : r .rows ≡ rowColumn (outcome b l) (l .rows)
+  pub by-bases : r .bases ≡ baseColumn (outcome b l) (l .bases)
+  pub by-values : r .values ≡ valueColumn (outcome b l) (l .values)
+  pub by-entries : r .entries ≡ entryColumn (outcome b l) (l .entries)
+  pub by-entryValues : r .entryValues ≡ entryValueColumn (outcome b l) (l .entryValues)
+  pub by-plain : r .plain ≡ plainColumn (outcome b l) (l .plain)
+  pub by-sources : r .sources ≡ sourceColumn (outcome b l) (l .sources)
+  pub by-sourceFloats : r .sourceFloats ≡ sourceFloatColumn (outcome b l) (l .sourceFloats)
