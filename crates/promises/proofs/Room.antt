@@ -23,7 +23,7 @@ use Rattle.promises.specs.Wider.{Wider, Longer}
 use Rattle.promises.proofs.Unless.{either, on, before}
 use Rattle.promises.proofs.Calculations.{Noting, Reading, started-so, deeper-so, valued-so}
 
--- a test of room that is held goes on being held
+-- a test of room that is passed is passed with more, and one that is not is refused ROOM
 roomier : {A : Type 0} (F G : Bool → Res A) (t u : Bool) (l : ℕ) → (t ≡ true → u ≡ true) → F false ≡ refused (Room l) → Unless Room (F true) (G true) → Unless Room (F t) (G u)
 roomier F G true u l h e g = rw (h refl) g
 roomier F G false u l h e g = refused-so l e
@@ -71,7 +71,7 @@ dispatch-so q r w known n e (h ∷ hs) =
 module _ (w : World) (n : ℕ) (h : w .room ≤ n) where
   as-noted : Noting Room w (withRoom n w)
   unfolding note
-  as-noted i row r m = either Room (w .recording) (roomier (by) (by) (ltb (m .used) (w .room)) (ltb (m .used) n) 5 (ltb-more (m .used) (w .room) n h) refl (the-same refl)) (the-same refl)
+  as-noted i row r m = either Room (w .recording) (roomier by by (ltb (m .used) (w .room)) (ltb (m .used) n) 5 (ltb-more (m .used) (w .room) n h) refl (the-same refl)) (the-same refl)
     where
       by : Bool → Res Mem
       by t = elim t [ false ↦ refused (Room 5) | true ↦ ok (record { values = m .values; sources = set (m .sources) i (ownSources i m ++ (r ∷ [])); used = suc (m .used) }) ]
