@@ -4,3 +4,4 @@ pub mod Elements
 pub mod Searches
 pub mod Finds
 pub mod Bases
+pub mod Defaults
