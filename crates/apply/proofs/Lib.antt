@@ -1,1 +1,3 @@
 pub mod Applies
+pub mod Holdings
+pub mod Starts
