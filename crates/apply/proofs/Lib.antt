@@ -1,3 +1,5 @@
 pub mod Applies
 pub mod Holdings
 pub mod Starts
+pub mod Finding
+pub mod Limiting

@@ -1,0 +1,114 @@
+-- A limit, a resistance, an entry's strength and a row's evaluation, each from what it has read.
+use Prim.Native.Nat.{ℕ, _<_}
+use native.Mathlib.Omega.{arith}
+use mathlib.Core.Path.{_≡_, refl, sym, ap, subst, _∙_}
+use mathlib.Core.Bool.{Bool, true, false, cond}
+use mathlib.Core.List.{List, []}
+use lib.Dec.{T}
+use lib.Ieee.{Float, lt}
+use lib.IntN.{ℤ, pos}
+use lib.ListN.{length}
+use Rattle.laws.specs.Floats.{finite}
+use Rattle.laws.specs.Lists.{eqZ}
+use Rattle.laws.proofs.Bools.{true-or-false}
+use Rattle.rules.specs.Answer.{Res, ok, refused, _>>=_}
+use Rattle.rules.specs.Dispatch.{Row}
+use Rattle.rules.specs.Number.{times, numberAt, step}
+use Rattle.rules.specs.Value.{World, Mem, Read, Reader, resisted, clamped, atLeast, atMost}
+use Rattle.rules.specs.declared.Effect.{Effect}
+use Rattle.rules.specs.declared.OptionalId.the-variants.{Absent, Given}
+use Rattle.rules.specs.declared.Origin.{Origin}
+use Rattle.rules.specs.declared.Origin.the-variants as origin
+use Rattle.rules.specs.declared.Refusal.{Refusal}
+use Rattle.rules.specs.declared.Refusal.the-variants.{Number}
+use Rattle.rules.specs.declared.Step.the-variants.{Finite, NotFinite}
+use Rattle.memory.specs.Steps.{strengthOf}
+use Rattle.memory.specs.Holding.{Holds}
+use Rattle.memory.proofs.Readings.{clamp-none, clamp-read}
+use Rattle.apply.specs.Answers.{Meets, heldBy}
+use Rattle.apply.specs.declared.Got.{Got}
+use Rattle.apply.specs.declared.Got.the-variants as got
+use Rattle.apply.proofs.Holdings.{Met, met, missed, meets-value, meets-refused}
+
+-- of two numbers one
+pub held-good : (least : Bool) (v x : Float) → T (finite v) → T (finite x) → T (finite (heldBy least v x))
+held-good true v x a b = elim (true-or-false (lt v x)) [ inl h ↦ rw h b | inr h ↦ rw h a ]
+held-good false v x a b = elim (true-or-false (lt x v)) [ inl h ↦ rw h b | inr h ↦ rw h a ]
+
+module _ (w : World) (s₀ : List (List ℕ)) (f₀ : List (List Float)) (v′ : List Float) (s′ : List (List ℕ)) (f′ : List (List Float)) where
+  -- a refusal is passed on
+  pub passed-on : (x : Res Read) (k : Read → Res Read) (r : Got) (z : Refusal) → r ≡ got.Refused z → Meets w s₀ f₀ x r v′ s′ f′ → Meets w s₀ f₀ (x >>= k) r v′ s′ f′
+  passed-on x k r z e h = rw e (meets-refused w s₀ f₀ v′ s′ f′ (x >>= k) (ap (λ (y : Res Read). y >>= k) (missed w s₀ f₀ v′ s′ f′ x z (rw e at h))))
+
+  module _ (o : ℕ) (read : Reader) (least : Bool) (a : ℤ) (v : Float) (m : Mem) where
+    abbrev limiting : Res Read
+    limiting = clamped o read (heldBy least) a (record { value = v; mem = m })
+
+    pub not-limited : {used : ℕ} → a ≡ pos 0 → T (finite v) → Holds w s₀ f₀ m v′ s′ f′ used → Meets w s₀ f₀ limiting (got.Value v used) v′ s′ f′
+    not-limited e good h = meets-value w s₀ f₀ v′ s′ f′ limiting _ (clamp-none o read (heldBy least) a (record { value = v; mem = m }) e) refl good h
+
+    module _ (apart : eqZ a (pos 0) ≡ false) where
+      limit-read : limiting ≡ (read o a m >>= λ q. ok (record { value = heldBy least v (q .value); mem = q .mem }))
+      limit-read = clamp-read o read (heldBy least) a (record { value = v; mem = m }) apart
+
+      pub limit-refused : (r : Got) (z : Refusal) → r ≡ got.Refused z → Meets w s₀ f₀ (read o a m) r v′ s′ f′ → Meets w s₀ f₀ limiting r v′ s′ f′
+      limit-refused r z e h = rw limit-read (passed-on (read o a m) (λ q. ok (record { value = heldBy least v (q .value); mem = q .mem })) r z e h)
+
+      pub limit-held : (x : Float) (used : ℕ) → T (finite v) → Meets w s₀ f₀ (read o a m) (got.Value x used) v′ s′ f′ → Meets w s₀ f₀ limiting (got.Value (heldBy least v x) used) v′ s′ f′
+      limit-held x used good h =
+          let q = met w s₀ f₀ v′ s′ f′ (read o a m) x used h in
+          meets-value w s₀ f₀ v′ s′ f′ limiting (record { value = heldBy least v (q .read .value); mem = q .read .mem })
+          (limit-read ∙ ap (λ (y : Res Read). y >>= λ q. ok (record { value = heldBy least v (q .value); mem = q .mem })) (q .is)) (ap (heldBy least v) (q .value)) (held-good least v x good (q .number)) (q .holds)
+
+  -- the ship's resistance
+  module _ (i : ℕ) (row : Row) (read : Reader) (v : Float) (m : Mem) where
+    pub not-resisted : {used : ℕ} → T (finite v) → Holds w s₀ f₀ m v′ s′ f′ used → Meets w s₀ f₀ (resisted w i row read Absent (record { value = v; mem = m })) (got.Value v used) v′ s′ f′
+    unfolding resisted
+    not-resisted good h = (refl, good, h)
+
+    module _ (a : ℤ) where
+      abbrev resisting : Res Read
+      resisting = resisted w i row read (Given a) (record { value = v; mem = m })
+
+      abbrev product : Read → Res Read
+      product q = numberAt (row .object) (times v (q .value)) >>= λ x. ok (record { value = x; mem = q .mem })
+
+      resist-read : resisting ≡ (read 0 a m >>= product)
+      unfolding resisted
+      resist-read = refl
+
+      pub resist-refused : (r : Got) (z : Refusal) → r ≡ got.Refused z → Meets w s₀ f₀ (read 0 a m) r v′ s′ f′ → Meets w s₀ f₀ resisting r v′ s′ f′
+      resist-refused r z e h = rw resist-read (passed-on (read 0 a m) product r z e h)
+
+      module _ (y : Float) (used : ℕ) (h : Meets w s₀ f₀ (read 0 a m) (got.Value y used) v′ s′ f′) where
+        q : Met w s₀ f₀ (read 0 a m) y v′ s′ f′ used
+        q = met w s₀ f₀ v′ s′ f′ (read 0 a m) y used h
+
+        product-is : resisting ≡ product (q .read)
+        product-is = resist-read ∙ ap (λ (z : Res Read). z >>= product) (q .is)
+
+        pub resist-made : (x : Float) → times v y ≡ Finite x → T (finite x) → Meets w s₀ f₀ resisting (got.Value x used) v′ s′ f′
+        resist-made x e good =
+            meets-value w s₀ f₀ v′ s′ f′ resisting (record { value = x; mem = q .read .mem }) (product-is ∙ made (sym (ap (times v) (q .value)) ∙ e)) refl good (q .holds)
+          where
+            made : times v (q .read .value) ≡ Finite x → product (q .read) ≡ ok (record { value = x; mem = q .read .mem })
+            unfolding numberAt
+            made p = rw p refl
+
+        pub resist-not-finite : {object : ℕ} → times v y ≡ NotFinite → row .object ≡ object → Meets w s₀ f₀ resisting (got.Refused (Number object)) v′ s′ f′
+        resist-not-finite {object} e o =
+            meets-refused w s₀ f₀ v′ s′ f′ resisting (product-is ∙ made (sym (ap (times v) (q .value)) ∙ e) ∙ ap (λ (n : ℕ). refused (Number n)) o)
+          where
+            made : times v (q .read .value) ≡ NotFinite → product (q .read) ≡ refused (Number (row .object))
+            unfolding numberAt
+            made p = rw p refl
+
+  -- an entry's strength
+  module _ (i : ℕ) (row : Row) (read : Reader) (e : Effect) (m : Mem) where
+    pub buff-strength : (b : ℤ) (x : Float) {used : ℕ} → T (finite x) → Holds w s₀ f₀ m v′ s′ f′ used → Meets w s₀ f₀ (strengthOf w read i row e (origin.Buff b x) m) (got.Value x used) v′ s′ f′
+    unfolding strengthOf
+    buff-strength b x good h = (refl, good, h)
+
+-- what a product gives is finite
+pub product-good : (v y : Float) {x : Float} → times v y ≡ Finite x → T (finite x)
+product-good v y e = ?
