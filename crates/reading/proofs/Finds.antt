@@ -105,7 +105,7 @@ module _ (o : ℕ) (a : ℤ) where
   -- ---- the binary search
 
   module _ {rs : List Row} {c : List (List ℕ)} (H : RowsHeld rs c) where
-    falls : Falls (rowBefore o a) rs noRow
+    pub falls : Falls (rowBefore o a) rs noRow
     falls = record { before = λ i j l h e. ⊎-elim (λ k. earlier i j (ltb-true i j k) h e) (λ k. same i j (omega (arith, ltb-false i j k)) e) (true-or-false (ltb i j)) }
       where
         earlier : (i j : ℕ) → i < j → j < length rs → rowBefore o a (getD rs j noRow) ≡ true → rowBefore o a (getD rs i noRow) ≡ true
@@ -120,7 +120,7 @@ module _ (o : ℕ) (a : ℤ) where
       inside : k < length rs
       inside = omega (arith, H .long)
 
-      id-read : toZ w32 (getD (getD c k []) 1 0) ≡ getD rs k noRow .id
+      pub id-read : toZ w32 (getD (getD c k []) 1 0) ≡ getD rs k noRow .id
       id-read = ap (toZ w32) (H .id k inside) ∙ toZ-ofZ (H .narrow k inside)
 
       column-before : isBefore (getD (getD c k []) 0 0) (toZ w32 (getD (getD c k []) 1 0)) o a ≡ rowBefore o a (getD rs k noRow)
@@ -133,7 +133,7 @@ module _ (o : ℕ) (a : ℤ) where
       passed-by : (j : ℕ) → j < lo → rowOf o a (getD rs j noRow) ≡ false
       passed-by j l = before-apart (getD rs j noRow .object) (getD rs j noRow .id) o a (b .below j l)
 
-      is-found : (l : lo < length c) → isOf (getD (getD c lo []) 0 0) (toZ w32 (getD (getD c lo []) 1 0)) o a ≡ true → some lo ≡ indexOf (findRow o a 0 rs)
+      pub is-found : (l : lo < length c) → isOf (getD (getD c lo []) 0 0) (toZ w32 (getD (getD c lo []) 1 0)) o a ≡ true → some lo ≡ indexOf (findRow o a 0 rs)
       is-found l e =
           sym (ap indexOf (find-at 0 rs lo noRow (inside lo l) passed-by (sym (column-of lo l) ∙ e)) ∙ ap some (zero-add lo))
 
@@ -153,12 +153,12 @@ module _ (o : ℕ) (a : ℤ) where
           (λ k. ⊎-elim (λ m. f (ltb-true lo j m)) (λ m. e (omega (arith, ltb-false j lo k, ltb-false lo j m))) (true-or-false (ltb lo j)))
           (true-or-false (ltb j lo))
 
-      is-missing : (l : lo < length c) → isOf (getD (getD c lo []) 0 0) (toZ w32 (getD (getD c lo []) 1 0)) o a ≡ false → none ≡ indexOf (findRow o a 0 rs)
+      pub is-missing : (l : lo < length c) → isOf (getD (getD c lo []) 0 0) (toZ w32 (getD (getD c lo []) 1 0)) o a ≡ false → none ≡ indexOf (findRow o a 0 rs)
       is-missing l e =
           sym (ap indexOf (find-none 0 rs noRow (λ j h.
           nowhere j h (λ k. subst (λ (n : ℕ). rowOf o a (getD rs n noRow) ≡ false) k (sym (column-of lo l) ∙ e)) (λ k. behind l j k h))))
 
-      is-past : length c ≤ lo → none ≡ indexOf (findRow o a 0 rs)
+      pub is-past : length c ≤ lo → none ≡ indexOf (findRow o a 0 rs)
       is-past l =
           sym (ap indexOf (find-none 0 rs noRow (λ j h. nowhere j h (λ k. absurd (omega (arith, H .long))) (λ k. absurd (omega (arith, H .long))))))
 

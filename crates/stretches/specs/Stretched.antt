@@ -4,17 +4,28 @@ use mathlib.Core.Path.{_≡_}
 use mathlib.Core.List.{List, []}
 use lib.IntN.{ℤ, pos}
 use lib.ListN.{length, getD}
+use Rattle.laws.proofs.Search.{Between}
 use Rattle.rules.specs.Bytes.{bits}
 use Rattle.rules.specs.Dispatch.{Row}
 use Rattle.rules.specs.Info.{getDogmaAttribute}
 use Rattle.rules.specs.Sheet.{Book}
-use Rattle.reading.specs.Held.{noRow}
+use Rattle.reading.specs.Held.{noRow, rowBefore, RowsHeld}
+
+-- the rows from first to end are of object o
+abbrev pub AllOf : ℕ → List Row → ℕ → ℕ → Type 0
+AllOf o rs first end = (i : ℕ) → first ≤ i → i < end → getD rs i noRow .object ≡ o
 
 -- of each object its first row, and the row past its last
 pub record Stretched (rs : List Row) (c : List (List ℕ)) : Type 0 where
   pub inside : (o : ℕ) → o < 1024 → (getD (getD c o []) 0 0 ≤ getD (getD c o []) 1 0) × (getD (getD c o []) 1 0 ≤ length rs)
   pub before : (o i : ℕ) → o < 1024 → i < getD (getD c o []) 0 0 → getD rs i noRow .object < o
+  pub own : (o : ℕ) → o < 1024 → AllOf o rs (getD (getD c o []) 0 0) (getD (getD c o []) 1 0)
   pub after : (o i : ℕ) → o < 1024 → i < length rs → getD (getD c o []) 1 0 ≤ i → o < getD rs i noRow .object
+
+-- attribute a of the object that the rows from first to end are of is sought from lo to hi
+pub record Narrowed (c : List (List ℕ)) (a : ℤ) (first end lo hi : ℕ) : Type 0 where
+  pub within : first ≤ lo
+  pub between : (o : ℕ) (rs : List Row) → RowsHeld rs c → AllOf o rs first end → Between (rowBefore o a) rs noRow first end → Between (rowBefore o a) rs noRow lo hi
 
 -- an attribute whose number is not marked has no limit; ids are counted modulo 1,024
 pub record Limits (k : Book) (c : List ℕ) : Type 0 where

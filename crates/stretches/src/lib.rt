@@ -1,33 +1,65 @@
 // A row found in its object's stretch of list 2, and whether an attribute may have a limit.
+use info::bytes::index;
+use numbers::bits;
+use numbers::signed;
 use reading::rows::Found;
-use reading::rows::find_row;
 ghost use mathlib.Core.Path.{_≡_};
 ghost use mathlib.Core.Bool.{false};
 ghost use mathlib.Core.List.{List};
-ghost use Prim.Native.Nat.{_<_};
+ghost use Prim.Native.Nat.{_≤_, _<_};
 ghost use lib.IntN.{pos};
+ghost use lib.ListN.{length};
 ghost use Rattle.rules.specs.Dispatch.{Row};
 ghost use Rattle.rules.specs.Info.{getDogmaAttribute};
 ghost use Rattle.rules.specs.Sheet.{Book};
 ghost use Rattle.rules.specs.Value.{findRow};
 ghost use Rattle.reading.specs.Held.{RowsHeld, placed, indexOf};
-ghost use Rattle.stretches.specs.Stretched.{Stretched, Limits};
+ghost use Rattle.stretches.specs.Stretched.{Stretched, Narrowed, Limits};
+
+// The first row from one to another whose attribute is not before the one sought.
+fn lower(rows: &[[u32; 6]], first: usize, end: usize, id: i32) -> usize
+    requires { ⌜ end ≤ length (now rows) ⌝ }
+    ensures { λ r. ⌜ Narrowed (now (rows .entry)) id first end r r ⌝ }
+{
+    let mut low = first;
+    let mut high = end;
+    while low < high {
+        let middle = low + (high - low) / 2;
+        let own = signed(rows[middle][1]);
+        if own < id {
+            low = middle + 1;
+        } else {
+            high = middle;
+        }
+    }
+    low
+}
 
 // The row of an attribute of an object.
 pub fn find(rows: &[[u32; 6]], stretches: &[[u32; 2]; 1024], object: u32, id: i32) -> Found
     requires { ⌜ object < 1024 ⌝ }
     ensures { λ r. ⌜ ((rs : List Row) → RowsHeld rs (now (rows .entry)) → Stretched rs (now (stretches .entry)) → placed r ≡ indexOf (findRow object id 0 rs)) ⌝ }
 {
-    let found = find_row(rows, object, id);
-    match found {
-        Found::At(i) => Found::At(i),
-        Found::Nothing => Found::Nothing,
+    let stretch = stretches[index(object)];
+    let end = index(stretch[1]);
+    if end > rows.len() {
+        return Found::Nothing;
     }
+    let at = lower(rows, index(stretch[0]), end, id);
+    if at < end {
+        let own = signed(rows[at][1]);
+        if own == id {
+            return Found::At(at);
+        }
+        return Found::Nothing;
+    }
+    Found::Nothing
 }
 
 // Whether an attribute may have a limit.
 pub fn is_limited(limits: &[u32; 1024], id: i32) -> bool
     ensures { λ r. ⌜ ((k : Book) → Limits k (now (limits .entry)) → r ≡ false → (getDogmaAttribute k id .«min_attribute_id» ≡ pos 0) × (getDogmaAttribute k id .«max_attribute_id» ≡ pos 0)) ⌝ }
 {
-    true
+    let mark = limits[index(bits(id) % 1024)];
+    mark != 0
 }
