@@ -1,5 +1,7 @@
 // A row found in its object's stretch of list 2, and whether an attribute may have a limit.
 use info::bytes::index;
+use info::header::count_of;
+use info::records::attribute;
 use numbers::bits;
 use numbers::signed;
 use reading::rows::Found;
@@ -11,7 +13,8 @@ ghost use lib.IntN.{pos};
 ghost use lib.ListN.{length};
 ghost use Rattle.rules.specs.Dispatch.{Row};
 ghost use Rattle.rules.specs.Info.{getDogmaAttribute};
-ghost use Rattle.rules.specs.Sheet.{Book};
+ghost use Rattle.rules.specs.Sheet.{Book, bookOf};
+ghost use Rattle.info.specs.Sound.{HeldBook};
 ghost use Rattle.rules.specs.Value.{findRow};
 ghost use Rattle.reading.specs.Held.{RowsHeld, placed, indexOf};
 ghost use Rattle.stretches.specs.Stretched.{Stretched, Narrowed, Limits};
@@ -62,4 +65,23 @@ pub fn is_limited(limits: &[u32; 1024], id: i32) -> bool
 {
     let mark = limits[index(bits(id) % 1024)];
     mark != 0
+}
+
+// Marks of the attributes that may have a limit, by their ids modulo 1,024.
+pub fn set_limits(book: &[u8], pairs: &[[u32; 2]; 10]) -> [u32; 1024]
+    requires { ⌜ HeldBook (now book) (now pairs) ⌝ }
+    ensures { λ r. ⌜ Limits (bookOf (now (book .entry)) (now (pairs .entry))) r ⌝ }
+{
+    let attributes = count_of(pairs, 1);
+    let mut marks = [0u32; 1024];
+    let mut i = 0;
+    while i < attributes {
+        let a = attribute(book, pairs, i);
+        let at = index(bits(a.id) % 1024);
+        i += 1;
+        if (a.min_attribute_id != 0) | (a.max_attribute_id != 0) {
+            marks[at] = 1;
+        }
+    }
+    marks
 }
