@@ -1,2 +1,3 @@
+pub mod Laying
 pub mod Limiting
 pub mod Narrows

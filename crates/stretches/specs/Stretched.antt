@@ -27,6 +27,13 @@ pub record Narrowed (c : List (List ℕ)) (a : ℤ) (first end lo hi : ℕ) : Ty
   pub within : first ≤ lo
   pub between : (o : ℕ) (rs : List Row) → RowsHeld rs c → AllOf o rs first end → Between (rowBefore o a) rs noRow first end → Between (rowBefore o a) rs noRow lo hi
 
+-- of the rows from first on, those before end are of objects up to o, and the next is of a later one
+pub record Past (c : List (List ℕ)) (o first end : ℕ) : Type 0 where
+  pub within : first ≤ end
+  pub inside : end ≤ length c
+  pub upTo : (i : ℕ) → first ≤ i → i < end → getD (getD c i []) 0 0 ≤ o
+  pub next : end < length c → o < getD (getD c end []) 0 0
+
 -- an attribute whose number is not marked has no limit; ids are counted modulo 1,024
 pub record Limits (k : Book) (c : List ℕ) : Type 0 where
   pub least : (a : ℤ) → getD c (bits a % 1024) 0 ≡ 0 → getDogmaAttribute k a .«min_attribute_id» ≡ pos 0

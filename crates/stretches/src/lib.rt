@@ -8,7 +8,7 @@ use reading::rows::Found;
 ghost use mathlib.Core.Path.{_≡_};
 ghost use mathlib.Core.Bool.{false};
 ghost use mathlib.Core.List.{List};
-ghost use Prim.Native.Nat.{_≤_, _<_};
+ghost use Prim.Native.Nat.{_≤_, _<_, _^_};
 ghost use lib.IntN.{pos};
 ghost use lib.ListN.{length};
 ghost use Rattle.rules.specs.Dispatch.{Row};
@@ -17,7 +17,7 @@ ghost use Rattle.rules.specs.Sheet.{Book, bookOf};
 ghost use Rattle.info.specs.Sound.{HeldBook};
 ghost use Rattle.rules.specs.Value.{findRow};
 ghost use Rattle.reading.specs.Held.{RowsHeld, placed, indexOf};
-ghost use Rattle.stretches.specs.Stretched.{Stretched, Narrowed, Limits};
+ghost use Rattle.stretches.specs.Stretched.{Stretched, Narrowed, Past, Limits};
 
 // The first row from one to another whose attribute is not before the one sought.
 fn lower(rows: &[[u32; 6]], first: usize, end: usize, id: i32) -> usize
@@ -57,6 +57,41 @@ pub fn find(rows: &[[u32; 6]], stretches: &[[u32; 2]; 1024], object: u32, id: i3
         return Found::Nothing;
     }
     Found::Nothing
+}
+
+// The first row from one on that is of a later object.
+fn past(rows: &[[u32; 6]], first: usize, object: u32) -> usize
+    requires { ⌜ first ≤ length (now rows) ⌝ }
+    ensures { λ r. ⌜ Past (now (rows .entry)) object first r ⌝ }
+{
+    let mut i = first;
+    while i < rows.len() {
+        let own = rows[i][0];
+        if own > object {
+            return i;
+        }
+        i += 1;
+    }
+    i
+}
+
+// The stretches of all objects, in one pass over the rows.
+pub fn set_stretches(rows: &[[u32; 6]]) -> [[u32; 2]; 1024]
+    requires { ⌜ length (now rows) < 2 ^ 32 ⌝ }
+    ensures { λ r. ⌜ ((rs : List Row) → RowsHeld rs (now (rows .entry)) → Stretched rs r) ⌝ }
+{
+    let none = [0u32; 2];
+    let mut stretches = [none; 1024];
+    let mut first: usize = 0;
+    let mut object: u32 = 0;
+    while object < 1024 {
+        let end = past(rows, first, object);
+        let at = index(object);
+        stretches[at] = [first as u32, end as u32];
+        first = end;
+        object += 1;
+    }
+    stretches
 }
 
 // Whether an attribute may have a limit.
