@@ -1,4 +1,4 @@
-// A row found in its object's stretch of list 2, and whether an attribute may have a limit.
+// A row found in its object's stretch of list 2, whether an attribute may have a limit, and the two tables that tell.
 use info::bytes::index;
 use info::header::count_of;
 use info::records::attribute;
