@@ -117,7 +117,7 @@ pub record Met (w : World) (s₀ : List (List ℕ)) (f₀ : List (List Float)) (
   pub holds : Holds w s₀ f₀ (read .mem) v s f used
 
 module _ (w : World) (s₀ : List (List ℕ)) (f₀ : List (List Float)) (v : List Float) (s : List (List ℕ)) (f : List (List Float)) where
-  pub met : (x : Res Read) (y : Float) (used : ℕ) → Meets w s₀ f₀ x (got.Value y used) v s f → Met w s₀ f₀ x y v s f used
+  unfoldable pub met : (x : Res Read) (y : Float) (used : ℕ) → Meets w s₀ f₀ x (got.Value y used) v s f → Met w s₀ f₀ x y v s f used
   met (ok q) y used h = record { read = q; is = refl; value = h .0; number = h .1; holds = h .2 }
   met (refused z) y used h = absurd h
 

@@ -4,27 +4,32 @@ use native.Mathlib.Omega.{arith}
 use mathlib.Core.Path.{_≡_, refl, sym, ap, subst, _∙_}
 use mathlib.Core.Bool.{Bool, true, false, cond}
 use mathlib.Core.List.{List, []}
+use mathlib.Core.Logic.{_⊎_, inl, inr}
 use lib.Dec.{T}
-use lib.Ieee.{Float, lt}
+use lib.Ieee.{Float, lt, binary64, mul}
 use lib.IntN.{ℤ, pos}
 use lib.ListN.{length}
 use Rattle.laws.specs.Floats.{finite}
 use Rattle.laws.specs.Lists.{eqZ}
 use Rattle.laws.proofs.Bools.{true-or-false}
 use Rattle.rules.specs.Answer.{Res, ok, refused, _>>=_}
+use Rattle.rules.specs.Codes.{operators}
 use Rattle.rules.specs.Dispatch.{Row}
+use Rattle.rules.specs.Info.{getDogmaAttribute}
 use Rattle.rules.specs.Number.{times, numberAt, step}
-use Rattle.rules.specs.Value.{World, Mem, Read, Reader, resisted, clamped, atLeast, atMost}
+use Rattle.rules.specs.Value.{World, Mem, Read, Reader, resisted, operate, clamped, atLeast, atMost}
 use Rattle.rules.specs.declared.Effect.{Effect}
+use Rattle.rules.specs.declared.EffectCategory.{EffectCategory}
 use Rattle.rules.specs.declared.OptionalId.the-variants.{Absent, Given}
 use Rattle.rules.specs.declared.Origin.{Origin}
 use Rattle.rules.specs.declared.Origin.the-variants as origin
 use Rattle.rules.specs.declared.Refusal.{Refusal}
 use Rattle.rules.specs.declared.Refusal.the-variants.{Number}
 use Rattle.rules.specs.declared.Step.the-variants.{Finite, NotFinite}
-use Rattle.memory.specs.Steps.{strengthOf}
+use Rattle.operate.proofs.Snocs.{step-good}
+use Rattle.memory.specs.Steps.{strengthOf, evaluation}
 use Rattle.memory.specs.Holding.{Holds}
-use Rattle.memory.proofs.Readings.{clamp-none, clamp-read}
+use Rattle.memory.proofs.Readings.{clamp-none, clamp-read, no-limits}
 use Rattle.apply.specs.Answers.{Meets, heldBy}
 use Rattle.apply.specs.declared.Got.{Got}
 use Rattle.apply.specs.declared.Got.the-variants as got
@@ -39,6 +44,13 @@ module _ (w : World) (s₀ : List (List ℕ)) (f₀ : List (List Float)) (v′ :
   -- a refusal is passed on
   pub passed-on : (x : Res Read) (k : Read → Res Read) (r : Got) (z : Refusal) → r ≡ got.Refused z → Meets w s₀ f₀ x r v′ s′ f′ → Meets w s₀ f₀ (x >>= k) r v′ s′ f′
   passed-on x k r z e h = rw e (meets-refused w s₀ f₀ v′ s′ f′ (x >>= k) (ap (λ (y : Res Read). y >>= k) (missed w s₀ f₀ v′ s′ f′ x z (rw e at h))))
+
+  -- a value is gone on with
+  pub goes-on : (x : Res Read) (k : Read → Res Read) (y : Float) (used : ℕ) (h : Meets w s₀ f₀ x (got.Value y used) v′ s′ f′) (r : Got) (v″ : List Float) (s″ : List (List ℕ)) (f″ : List (List Float))
+      → Meets w s₀ f₀ (k (record { value = y; mem = met w s₀ f₀ v′ s′ f′ x y used h .read .mem })) r v″ s″ f″ → Meets w s₀ f₀ (x >>= k) r v″ s″ f″
+  unfolding met
+  goes-on (ok q) k y used h r v″ s″ f″ l = subst (λ (n : Float). Meets w s₀ f₀ (k (record { value = n; mem = q .mem })) r v″ s″ f″) (h .0) l
+  goes-on (refused z) k y used h r v″ s″ f″ l = absurd h
 
   module _ (o : ℕ) (read : Reader) (least : Bool) (a : ℤ) (v : Float) (m : Mem) where
     abbrev limiting : Res Read
@@ -87,21 +99,21 @@ module _ (w : World) (s₀ : List (List ℕ)) (f₀ : List (List Float)) (v′ :
         product-is : resisting ≡ product (q .read)
         product-is = resist-read ∙ ap (λ (z : Res Read). z >>= product) (q .is)
 
+        made : (x : Float) → times v (q .read .value) ≡ Finite x → product (q .read) ≡ ok (record { value = x; mem = q .read .mem })
+        unfolding numberAt
+        made x p = rw p refl
+
+        not-made : times v (q .read .value) ≡ NotFinite → product (q .read) ≡ refused (Number (row .object))
+        unfolding numberAt
+        not-made p = rw p refl
+
         pub resist-made : (x : Float) → times v y ≡ Finite x → T (finite x) → Meets w s₀ f₀ resisting (got.Value x used) v′ s′ f′
         resist-made x e good =
-            meets-value w s₀ f₀ v′ s′ f′ resisting (record { value = x; mem = q .read .mem }) (product-is ∙ made (sym (ap (times v) (q .value)) ∙ e)) refl good (q .holds)
-          where
-            made : times v (q .read .value) ≡ Finite x → product (q .read) ≡ ok (record { value = x; mem = q .read .mem })
-            unfolding numberAt
-            made p = rw p refl
+            meets-value w s₀ f₀ v′ s′ f′ resisting (record { value = x; mem = q .read .mem }) (product-is ∙ made x (sym (ap (times v) (q .value)) ∙ e)) refl good (q .holds)
 
         pub resist-not-finite : {object : ℕ} → times v y ≡ NotFinite → row .object ≡ object → Meets w s₀ f₀ resisting (got.Refused (Number object)) v′ s′ f′
         resist-not-finite {object} e o =
-            meets-refused w s₀ f₀ v′ s′ f′ resisting (product-is ∙ made (sym (ap (times v) (q .value)) ∙ e) ∙ ap (λ (n : ℕ). refused (Number n)) o)
-          where
-            made : times v (q .read .value) ≡ NotFinite → product (q .read) ≡ refused (Number (row .object))
-            unfolding numberAt
-            made p = rw p refl
+            meets-refused w s₀ f₀ v′ s′ f′ resisting (product-is ∙ not-made (sym (ap (times v) (q .value)) ∙ e) ∙ ap (λ (n : ℕ). refused (Number n)) o)
 
   -- an entry's strength
   module _ (i : ℕ) (row : Row) (read : Reader) (e : Effect) (m : Mem) where
@@ -109,6 +121,69 @@ module _ (w : World) (s₀ : List (List ℕ)) (f₀ : List (List Float)) (v′ :
     unfolding strengthOf
     buff-strength b x good h = (refl, good, h)
 
+    -- one that is read off its source
+    module _ (b : ℤ) (source : ℕ) (c : EffectCategory) (a : ℤ) where
+      abbrev strong : Res Read
+      strong = strengthOf w read i row e (origin.Effect b source c a) m
+
+      strength-read : strong ≡ (read source a m >>= λ r. resisted w i row read (e .resistance) r)
+      unfolding strengthOf
+      strength-read = refl
+
+      pub strength-refused : (r : Got) (z : Refusal) → r ≡ got.Refused z → Meets w s₀ f₀ (read source a m) r v′ s′ f′ → Meets w s₀ f₀ strong r v′ s′ f′
+      strength-refused r z p h = rw strength-read (passed-on (read source a m) (λ r. resisted w i row read (e .resistance) r) r z p h)
+
+      pub strength-resisted : (x : Float) (used : ℕ) (h : Meets w s₀ f₀ (read source a m) (got.Value x used) v′ s′ f′) (r : Got) (v″ : List Float) (s″ : List (List ℕ)) (f″ : List (List Float))
+          → Meets w s₀ f₀ (resisted w i row read (e .resistance) (record { value = x; mem = met w s₀ f₀ v′ s′ f′ (read source a m) x used h .read .mem })) r v″ s″ f″ → Meets w s₀ f₀ strong r v″ s″ f″
+      strength-resisted x used h r v″ s″ f″ k = rw strength-read (goes-on (read source a m) (λ r. resisted w i row read (e .resistance) r) x used h r v″ s″ f″ k)
+
+  -- a row's value from its operators and its limits
+  module _ (read : Reader) (i : ℕ) (row : Row) (m : Mem) where
+    abbrev evaluating : Res Read
+    evaluating = evaluation w read i row m
+
+    abbrev operating : Res Read
+    operating = operate w i row read operators (record { value = row .base; mem = m })
+
+    abbrev raised : Read → Res Read
+    raised a = clamped (row .object) read atLeast (getDogmaAttribute (w .book) (row .id) .«min_attribute_id») a
+
+    abbrev lowered : Read → Res Read
+    lowered b = clamped (row .object) read atMost (getDogmaAttribute (w .book) (row .id) .«max_attribute_id») b
+
+    evaluation-is : evaluating ≡ (operating >>= λ a. raised a >>= λ b. lowered b)
+    unfolding evaluation
+    evaluation-is = refl
+
+    pub evaluate-refused : (r : Got) (z : Refusal) → r ≡ got.Refused z → Meets w s₀ f₀ operating r v′ s′ f′ → Meets w s₀ f₀ evaluating r v′ s′ f′
+    evaluate-refused r z e h = rw evaluation-is (passed-on operating (λ a. raised a >>= λ b. lowered b) r z e h)
+
+    module _ (x : Float) (used : ℕ) (h : Meets w s₀ f₀ operating (got.Value x used) v′ s′ f′) where
+      abbrev pub operated-mem : Mem
+      operated-mem = met w s₀ f₀ v′ s′ f′ operating x used h .read .mem
+
+      pub raise-refused : (r : Got) (z : Refusal) → r ≡ got.Refused z → (v″ : List Float) (s″ : List (List ℕ)) (f″ : List (List Float)) → Meets w s₀ f₀ (raised (record { value = x; mem = operated-mem })) r v″ s″ f″ → Meets w s₀ f₀ evaluating r v″ s″ f″
+      raise-refused r z e v″ s″ f″ k = rw evaluation-is (goes-on operating (λ a. raised a >>= λ b. lowered b) x used h r v″ s″ f″ (rw e (stays (raised (record { value = x; mem = operated-mem })) z (rw e at k))))
+        where
+          stays : (y : Res Read) (z : Refusal) → Meets w s₀ f₀ y (got.Refused z) v″ s″ f″ → Meets w s₀ f₀ (y >>= λ b. lowered b) (got.Refused z) v″ s″ f″
+          stays (ok q) z k = absurd k
+          stays (refused q) z k = k
+
+      pub lowers : (y : Float) (more : ℕ) (v″ : List Float) (s″ : List (List ℕ)) (f″ : List (List Float)) (k : Meets w s₀ f₀ (raised (record { value = x; mem = operated-mem })) (got.Value y more) v″ s″ f″)
+          (r : Got) (v‴ : List Float) (s‴ : List (List ℕ)) (f‴ : List (List Float))
+          → Meets w s₀ f₀ (lowered (record { value = y; mem = met w s₀ f₀ v″ s″ f″ (raised (record { value = x; mem = operated-mem })) y more k .read .mem })) r v‴ s‴ f‴ → Meets w s₀ f₀ evaluating r v‴ s‴ f‴
+      unfolding met
+      lowers y more v″ s″ f″ k r v‴ s‴ f‴ l = rw evaluation-is (goes-on operating (λ a. raised a >>= λ b. lowered b) x used h r v‴ s‴ f‴ (follows (raised (record { value = x; mem = operated-mem })) k l))
+        where
+          follows : (z : Res Read) (k : Meets w s₀ f₀ z (got.Value y more) v″ s″ f″) → Meets w s₀ f₀ (lowered (record { value = y; mem = met w s₀ f₀ v″ s″ f″ z y more k .read .mem })) r v‴ s‴ f‴ → Meets w s₀ f₀ (z >>= λ b. lowered b) r v‴ s‴ f‴
+          follows (refused q) k l = absurd k
+          follows (ok q) k l = subst (λ (n : Float). Meets w s₀ f₀ (lowered (record { value = n; mem = q .mem })) r v‴ s‴ f‴) (k .0) l
+
+    -- no entry, and no limit
+    pub plain-row : {used : ℕ} {x : Float} → row .entries ≡ [] → getDogmaAttribute (w .book) (row .id) .«min_attribute_id» ≡ pos 0 → getDogmaAttribute (w .book) (row .id) .«max_attribute_id» ≡ pos 0
+        → x ≡ row .base → T (finite x) → Holds w s₀ f₀ m v′ s′ f′ used → Meets w s₀ f₀ evaluating (got.Value x used) v′ s′ f′
+    plain-row none-there low high e good h = meets-value w s₀ f₀ v′ s′ f′ evaluating _ (no-limits w read i row none-there m low high) e good h
+
 -- what a product gives is finite
 pub product-good : (v y : Float) {x : Float} → times v y ≡ Finite x → T (finite x)
-product-good v y e = ?
+product-good v y e = step-good (mul binary64 v y) e

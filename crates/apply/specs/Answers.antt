@@ -26,8 +26,8 @@ applying row high op found i g = numberAt (row .object) (applied high op found (
 
 -- a limit is the least or the most
 abbrev pub heldBy : Bool → Float → Float → Float
-heldBy true v limit = atLeast v limit
-heldBy false v limit = atMost v limit
+heldBy true = atLeast
+heldBy false = atMost
 
 -- the value of one operator, with list 5 as it is then
 abbrev pub AppliedAs : List ℕ → ℕ → List (List ℕ) → List (List Float) → ℕ → Res Read → Part → List (List ℕ) → List (List Float) → Type 0
