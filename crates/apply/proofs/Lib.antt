@@ -3,3 +3,4 @@ pub mod Holdings
 pub mod Starts
 pub mod Finding
 pub mod Limiting
+pub mod Gathering

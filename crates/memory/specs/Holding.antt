@@ -7,10 +7,13 @@ use mathlib.Core.Option.{Option, none, some, Option·getD}
 use lib.Dec.{T}
 use lib.Ieee.{Float, nan}
 use lib.ListN.{length, getD, take}
+use mir.Syntax.{w32}
+use mir.Val.{toZ}
 use Rattle.laws.specs.Floats.{finite}
 use Rattle.laws.proofs.Flat.{total}
 use Rattle.rules.specs.Answer.{Res, ok, refused}
 use Rattle.rules.specs.Dispatch.{Row}
+use Rattle.rules.specs.Info.{getDogmaAttribute, highIsGood}
 use Rattle.rules.specs.Sheet.{bookOf}
 use Rattle.rules.specs.Columns.{originValue}
 use Rattle.rules.specs.Operate.{Values}
@@ -44,6 +47,10 @@ pub record Tables : Type 0 where
 
 abbrev pub tables : List ℕ → List (List ℕ) → List (List ℕ) → List (List ℕ) → List ℕ → List (List ℕ) → List Float → List (List ℕ) → List Float → Tables
 tables b p s x l r c e v = record { book = b; pairs = p; states = s; stretches = x; limits = l; rows = r; bases = c; entries = e; values = v }
+
+-- whether high is good of row i's attribute
+abbrev pub highAt : Tables → ℕ → Bool
+highAt t i = highIsGood (getDogmaAttribute (bookOf (t .book) (t .pairs)) (toZ w32 (getD (getD (t .rows) i []) 1 0)))
 
 -- where the entries of row i begin in list 3
 abbrev pub entriesFrom : World → ℕ → ℕ

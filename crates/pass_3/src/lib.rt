@@ -38,11 +38,10 @@ ghost use lib.ListN.{length, replicate, drop};
 ghost use Rattle.laws.specs.Floats.{finite};
 ghost use Rattle.rules.specs.Codes.{operators};
 ghost use Rattle.rules.specs.Dispatch.{Row};
-ghost use Rattle.rules.specs.Info.{getDogmaAttribute, highIsGood};
 ghost use Rattle.rules.specs.Value.{valueOf, operate, gather, clamped};
 ghost use Rattle.rules.specs.Value as defined;
 ghost use Rattle.memory.specs.Steps.{rowAt, entryAt, strengthOf, evaluation};
-ghost use Rattle.memory.specs.Holding.{tables, Good, Ready, Busy, Piling, PileMeets};
+ghost use Rattle.memory.specs.Holding.{tables, highAt, Good, Ready, Busy, Piling, PileMeets};
 ghost use Rattle.apply.specs.Answers.{Meets, PartMeets, heldBy};
 
 // No value is there yet: the first n are NaN.
@@ -349,7 +348,8 @@ fn operated(
     used: u32,
 ) -> Got
     requires { ⌜ Busy (tables (now book) (now pairs) (now states) (now stretches) (now limits) (now rows) (now bases) (now entries) (now «entry_values»)) run (now values) (now sources) (now floats) used row 0 operators ⌝ }
-    ensures { λ r. ⌜ ((h : Busy (tables (now (book .entry)) (now (pairs .entry)) (now (states .entry)) (now (stretches .entry)) (now (limits .entry)) (now (rows .entry)) (now (bases .entry)) (now (entries .entry)) (now («entry_values» .entry))) run (now (values .entry)) (now (sources .entry)) (now (floats .entry)) used row 0 operators) → high ≡ highIsGood (getDogmaAttribute (h .ready .world .book) (rowAt (h .ready .world) row .id)) → Meets (h .ready .world) (h .ready .sources₀) (h .ready .floats₀) (operate (h .ready .world) row (rowAt (h .ready .world) row) (valueOf (h .ready .world) left) operators (record { value = rowAt (h .ready .world) row .base; mem = h .ready .mem })) r (now (values .exit)) (now (sources .exit)) (now (floats .exit))) ⌝ }
+    requires { ⌜ high ≡ highAt (tables (now book) (now pairs) (now states) (now stretches) (now limits) (now rows) (now bases) (now entries) (now «entry_values»)) row ⌝ }
+    ensures { λ r. ⌜ ((h : Busy (tables (now (book .entry)) (now (pairs .entry)) (now (states .entry)) (now (stretches .entry)) (now (limits .entry)) (now (rows .entry)) (now (bases .entry)) (now (entries .entry)) (now («entry_values» .entry))) run (now (values .entry)) (now (sources .entry)) (now (floats .entry)) used row 0 operators) → Meets (h .ready .world) (h .ready .sources₀) (h .ready .floats₀) (operate (h .ready .world) row (rowAt (h .ready .world) row) (valueOf (h .ready .world) left) operators (record { value = rowAt (h .ready .world) row .base; mem = h .ready .mem })) r (now (values .exit)) (now (sources .exit)) (now (floats .exit))) ⌝ }
 {
     let first = rows[row][2] as usize;
     let end = first + rows[row][3] as usize;
@@ -421,7 +421,8 @@ fn gathered(
 ) -> Part
     requires { ⌜ Busy (tables (now book) (now pairs) (now states) (now stretches) (now limits) (now rows) (now bases) (now entries) (now «entry_values»)) run (now values) (now sources) (now floats) used row own (operator ∷ []) ⌝ }
     requires { ⌜ T (finite found) ⌝ }
-    ensures { λ r. ⌜ ((h : Busy (tables (now (book .entry)) (now (pairs .entry)) (now (states .entry)) (now (stretches .entry)) (now (limits .entry)) (now (rows .entry)) (now (bases .entry)) (now (entries .entry)) (now («entry_values» .entry))) run (now (values .entry)) (now (sources .entry)) (now (floats .entry)) used row own (operator ∷ [])) → high ≡ highIsGood (getDogmaAttribute (h .ready .world .book) (rowAt (h .ready .world) row .id)) → PartMeets (h .ready .world) (h .ready .sources₀) (h .ready .floats₀) row (operate (h .ready .world) row (rowAt (h .ready .world) row) (valueOf (h .ready .world) left) (operator ∷ []) (record { value = found; mem = h .ready .mem })) r (now (values .exit)) (now (sources .exit)) (now (floats .exit))) ⌝ }
+    requires { ⌜ high ≡ highAt (tables (now book) (now pairs) (now states) (now stretches) (now limits) (now rows) (now bases) (now entries) (now «entry_values»)) row ⌝ }
+    ensures { λ r. ⌜ ((h : Busy (tables (now (book .entry)) (now (pairs .entry)) (now (states .entry)) (now (stretches .entry)) (now (limits .entry)) (now (rows .entry)) (now (bases .entry)) (now (entries .entry)) (now («entry_values» .entry))) run (now (values .entry)) (now (sources .entry)) (now (floats .entry)) used row own (operator ∷ [])) → PartMeets (h .ready .world) (h .ready .sources₀) (h .ready .floats₀) row (operate (h .ready .world) row (rowAt (h .ready .world) row) (valueOf (h .ready .world) left) (operator ∷ []) (record { value = found; mem = h .ready .mem })) r (now (values .exit)) (now (sources .exit)) (now (floats .exit))) ⌝ }
 {
     let count = rows[row][3] as usize;
     let mut p = empty(found, own, used);
