@@ -6,3 +6,6 @@ pub mod Room
 pub mod Companions
 pub mod OneAnswer
 pub mod Sheets
+pub mod NoMemoryGoes
+pub mod NoMemoryCopies
+pub mod NoMemorySteps

@@ -3,3 +3,4 @@ pub mod Wider
 pub mod Zeros
 pub mod Sheets
 pub mod Result
+pub mod NoMemory
