@@ -9,3 +9,4 @@ pub mod Sheets
 pub mod NoMemoryGoes
 pub mod NoMemoryCopies
 pub mod NoMemorySteps
+pub mod Ranks

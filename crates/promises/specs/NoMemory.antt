@@ -1,10 +1,29 @@
 -- Demand 3, no memory: the words of its statements.
-use mathlib.Core.Path.{_≡_}
-use mathlib.Core.List.{List, [], _∷_}
-use Rattle.rules.specs.Answer.{Res, ok, refused}
-use Rattle.rules.specs.Dispatch.{Key}
+use Prim.Native.Nat.{ℕ}
+use mathlib.Core.List.{[]}
+use lib.Dec.{T}
+use lib.IntN.{pos}
+use lib.ListN.{getD}
+use Rattle.laws.specs.Lists.{some?}
+use Rattle.laws.specs.Floats.{zeroF}
+use Rattle.rules.specs.Dispatch.{Row, Key, sameKey}
 use Rattle.rules.specs.Value.{World}
-use Rattle.rules.specs.Fresh.{LeadsBack}
+use Rattle.rules.specs.Fresh.{needsAt, LeadsBack}
+
+-- a row's object and attribute
+abbrev pub keyOf : Row → Key
+keyOf r = record { object = r .object; id = r .id }
+
+abbrev pub noRow : Row
+noRow = record { object = 0; id = pos 0; base = zeroF; entries = [] }
+
+-- of row j
+abbrev pub keyAt : World → ℕ → Key
+keyAt w j = keyOf (getD (w .rows) j noRow)
+
+-- a needs b directly
+abbrev pub Needs : World → Key → Key → Type 0
+Needs w a b = T (some? (sameKey b) (needsAt w a))
 
 -- no attribute leads back to itself
 abbrev pub NoLoop : World → Type 0
