@@ -10,3 +10,4 @@ pub mod NoMemoryGoes
 pub mod NoMemoryCopies
 pub mod NoMemorySteps
 pub mod Ranks
+pub mod NoMemoryFresh
