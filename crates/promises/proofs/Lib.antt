@@ -11,3 +11,4 @@ pub mod NoMemoryCopies
 pub mod NoMemorySteps
 pub mod Ranks
 pub mod NoMemoryFresh
+pub mod NoMemoryReads

@@ -23,6 +23,16 @@ module _ {A B C D : Type 0} {R : A → B → Type 0} {S : C → D → Type 0} wh
   on-first f z stops h = stops
   on-first f z (goes {a = a} {b = b} r) h = h a b r
 
+-- one step more that only the second takes
+pub on-second : {A B D : Type 0} {R : A → B → Type 0} {S : A → D → Type 0} {x : Res A} {y : Res B} (g : B → Res D) → Goes R x y → ((a : A) (b : B) → R a b → Goes S (ok a) (g b)) → Goes S x (y >>= g)
+on-second g stops h = stops
+on-second g (goes {a = a} {b = b} r) h = h a b r
+
+-- what the second gives
+pub told : {A B : Type 0} {R : A → B → Type 0} {x : Res A} {y : Res B} → Goes R x y → Goes (λ a b. R a b × (y ≡ ok b)) x y
+told stops = stops
+told (goes r) = goes (r, refl)
+
 -- what follows from the relation
 pub weaker : {A B : Type 0} {R S : A → B → Type 0} {x : Res A} {y : Res B} → Goes R x y → ((a : A) (b : B) → R a b → S a b) → Goes S x y
 weaker stops h = stops
