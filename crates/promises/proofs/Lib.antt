@@ -12,3 +12,4 @@ pub mod NoMemorySteps
 pub mod Ranks
 pub mod NoMemoryFresh
 pub mod NoMemoryReads
+pub mod NoMemoryRows

@@ -1,11 +1,16 @@
 -- Demand 3, no memory: the words of its statements.
-use Prim.Native.Nat.{ℕ}
+use Prim.Native.Nat.{ℕ, _<_}
+use mathlib.Core.Path.{_≡_}
 use mathlib.Core.List.{[]}
+use mathlib.Core.Option.{none}
 use lib.Dec.{T}
 use lib.IntN.{pos}
-use lib.ListN.{getD}
+use lib.ListN.{length, getD}
 use Rattle.laws.specs.Lists.{some?}
 use Rattle.laws.specs.Floats.{zeroF}
+use Rattle.rules.specs.Sheet.{Fit}
+use Rattle.rules.specs.Shape.{fitBad}
+use Rattle.rules.specs.Item.{object}
 use Rattle.rules.specs.Dispatch.{Row, Key, sameKey}
 use Rattle.rules.specs.Value.{World}
 use Rattle.rules.specs.Fresh.{needsAt, LeadsBack}
@@ -28,3 +33,8 @@ Needs w a b = T (some? (sameKey b) (needsAt w a))
 -- no attribute leads back to itself
 abbrev pub NoLoop : World → Type 0
 NoLoop w = (a : Key) → LeadsBack w a → ⊥
+
+-- what a sound sheet says of its fit: no table is bad, and objects go by number
+pub record Sound (f : Fit) : Type 0 where
+  pub good : fitBad f ≡ none
+  pub numbered : (j : ℕ) → j < length (f .objects) → object f j .number ≡ j
