@@ -13,3 +13,4 @@ pub mod Ranks
 pub mod NoMemoryFresh
 pub mod NoMemoryReads
 pub mod NoMemoryRows
+pub mod NoMemoryWalk
