@@ -14,3 +14,4 @@ pub mod NoMemoryFresh
 pub mod NoMemoryReads
 pub mod NoMemoryRows
 pub mod NoMemoryWalk
+pub mod NoMemoryRun

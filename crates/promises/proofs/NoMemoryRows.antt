@@ -13,20 +13,20 @@ use lib.IntN.{ℤ}
 use lib.ListN.{length, getD}
 use lib.Signed.{ltZ}
 use Rattle.laws.specs.Lists.{eqZ, some?, every?, put, keep, flat, ascends}
+use Rattle.laws.specs.Floats.{finite}
 use Rattle.laws.proofs.Bools.{both-ways, not-passed, not-failed, and-left, and-right, and-both, or-true-right, or-false-left, or-false-right}
 use Rattle.laws.proofs.Every.{some-append, some-map, some-flat, some-by, none-by, none-at, every-at, every-map, Place, some-place}
 use Rattle.laws.proofs.Ascending.{ascends-head, ascends-tail}
 use Rattle.laws.proofs.Inserts.{ascends-insertAll}
 use Rattle.laws.proofs.Order.{ltZ-apart}
 use Rattle.rules.specs.Sheet.{Book, Fit, basesOf}
-use Rattle.rules.specs.Shape.{follows, standAfter, stand, objectGood, objectsGood}
+use Rattle.rules.specs.Shape.{basesGood}
 use Rattle.rules.specs.Item.{object, noItem, isShip, isMode, isChar, isItem, isCharge, isSkill, isProjected}
 use Rattle.rules.specs.Dispatch.{Row, Key, sameKey, hitsOn, idsOf, rowOf, rows}
 use Rattle.rules.specs.Value.{World, Found, findRow}
 use Rattle.rules.specs.Outcome.{walkOrder}
 use Rattle.rules.specs.declared.Item.{Item}
 use Rattle.rules.specs.declared.Pass2Effect.{Pass2Effect}
-use Rattle.rules.proofs.Verdicts.{objects-good, each-bases-ascend}
 use Rattle.promises.specs.NoMemory.{keyOf, noRow, Sound}
 use Rattle.promises.proofs.Ranks.{key-itself}
 
@@ -110,5 +110,5 @@ module _ (k : Book) (f : Fit) (ts : List Pass2Effect) where
       apart j l i h e = omega (arith, e, own-number o (idsOf k f ts o) j l, n zero (suc-le-suc zero-le), n (suc i) (suc-le-suc h))
 
   pub rows-distinct : Sound f → Distinct (rows k f ts)
-  unfolding rows
-  rows-distinct s = all-distinct 0 (f .objects) (λ j l. s .numbered j l ∙ omega arith) (each-bases-ascend f (s .good))
+  unfolding rows basesGood
+  rows-distinct s = all-distinct 0 (f .objects) (λ j l. s .numbered j l ∙ omega arith) (and-right (every? (λ r. finite (r .value)) (f .bases)) (every? (λ o. ascends (map (λ r. r .«attribute_id») (basesOf f o))) (f .objects)) (s .bases))

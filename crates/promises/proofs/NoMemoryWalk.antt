@@ -19,7 +19,6 @@ use Rattle.rules.specs.Dispatch.{Row, Key, sameKey, rows}
 use Rattle.rules.specs.Outcome.{walkOrder}
 use Rattle.rules.specs.declared.Item.{Item}
 use Rattle.rules.specs.declared.Pass2Effect.{Pass2Effect}
-use Rattle.rules.proofs.Verdicts.{objects-good}
 use Rattle.promises.specs.NoMemory.{keyOf, noRow, Sound}
 use Rattle.promises.proofs.Ranks.{key-itself}
 use Rattle.promises.proofs.NoMemoryRows.{absent}
@@ -64,7 +63,7 @@ stand-six (k ∷ l) h =
 kinds-six : (f : Fit) → Sound f → every? (λ o. leb (o .kind) 6) (f .objects) ≡ true
 unfolding objectsGood
 kinds-six f s =
-    sym (every-map (λ k. leb k 6) (λ o. o .kind) (f .objects)) ∙ stand-six (map (λ o. o .kind) (f .objects)) (and-left (stand (map (λ o. o .kind) (f .objects))) (every? (objectGood f) (f .objects)) (objects-good f (s .good)))
+    sym (every-map (λ k. leb k 6) (λ o. o .kind) (f .objects)) ∙ stand-six (map (λ o. o .kind) (f .objects)) (and-left (stand (map (λ o. o .kind) (f .objects))) (every? (objectGood f) (f .objects)) (s .objects))
 
 -- ---- an object of a kind is among those that the walk takes
 
