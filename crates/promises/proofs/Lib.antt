@@ -15,3 +15,4 @@ pub mod NoMemoryReads
 pub mod NoMemoryRows
 pub mod NoMemoryWalk
 pub mod NoMemoryRun
+pub mod NoMemorySame
