@@ -16,3 +16,4 @@ pub mod NoMemoryRows
 pub mod NoMemoryWalk
 pub mod NoMemoryRun
 pub mod NoMemorySame
+pub mod NoMemory

@@ -155,3 +155,14 @@ module _ (k : Book) (f : Fit) (q : Rooms) where
         right : {X : Type 0} → ⊥ ⊎ X → X
         right (inl x) = absurd x
         right (inr x) = x
+
+    -- as many values as rows, and the rows of the world
+    pub run-long : (d : Done) → run k f q ≡ ok d → length (d .values) ≡ length (d .rows)
+    run-long d e =
+        let r = ran d e in
+        let a = all-read world free (f .depth) (startsOf f (world .rows)) (blank (world .rows)) (r .mem) (blank-standing world free) (r .gone) in
+        ap length (r .values) ∙ a .standing .long ∙ sym (ap length (r .rows))
+
+  pub run-rows : (d : Done) → run k f q ≡ ok d → d .rows ≡ rowsIn k f
+  unfolding worldOf
+  run-rows d e = ran d e .rows
