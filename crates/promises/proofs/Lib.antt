@@ -17,3 +17,4 @@ pub mod NoMemoryWalk
 pub mod NoMemoryRun
 pub mod NoMemorySame
 pub mod NoMemory
+pub mod NoMemoryLoops
