@@ -6,11 +6,10 @@ use mathlib.Core.Path.{_≡_, refl, sym, ap, subst, _∙_}
 use mathlib.Core.Bool.{Bool, true, false}
 use mathlib.Core.List.{List}
 use mathlib.Core.Option.{Option, none, some}
-use lib.Ieee.{Float}
 use lib.ListN.{length, getD}
 use lib.Seq.{ext-getD}
-use Rattle.rules.specs.Answer.{Res, ok, refused}
-use Rattle.rules.specs.Bytes.{pairsOf, recordAt}
+use Rattle.rules.specs.Answer.{ok, refused}
+use Rattle.rules.specs.Bytes.{pairsOf}
 use Rattle.rules.specs.Sheet.{Book, Fit, fitOf, objectFrom}
 use Rattle.rules.specs.Shape.{headerGood, bookBad, fitBad, badShape}
 use Rattle.rules.specs.Item.{object, noItem}

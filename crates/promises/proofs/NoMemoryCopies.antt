@@ -1,9 +1,9 @@
 -- What an operator makes of its values does not turn on where their source rows stand.
 use Prim.Native.Nat.{ℕ, zero, suc}
-use mathlib.Core.Path.{_≡_, refl, sym, ap, ap₂, subst, _∙_}
+use mathlib.Core.Path.{_≡_, refl, sym, ap, ap₂, _∙_}
 use mathlib.Core.Bool.{Bool, true, false, cond}
 use mathlib.Core.List.{List, [], _∷_, _++_, map}
-use lib.Ieee.{Float, lt}
+use lib.Ieee.{Float}
 use Rattle.laws.specs.Floats.{oneF, smaller}
 use Rattle.laws.proofs.Maps.{map-snoc}
 use Rattle.rules.specs.Number.{plus, times, weight, _>>=_}

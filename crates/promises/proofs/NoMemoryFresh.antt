@@ -1,23 +1,20 @@
 -- The value with no memory does not turn on how deep one may go, where that is deeper than needs can be followed.
 use Prim.Native.Nat.{ℕ, zero, suc, _<_}
 use native.Mathlib.Omega.{arith}
-use mathlib.Core.Path.{_≡_, refl, sym, ap, subst, _∙_}
-use mathlib.Core.List.{List}
+use mathlib.Core.Path.{_≡_, refl, subst}
 use mathlib.Core.Option.{Option, none, some}
-use lib.Dec.{T}
 use lib.Ieee.{Float}
 use lib.ListN.{length}
-use Rattle.laws.specs.Lists.{some?}
-use Rattle.rules.specs.Answer.{Res, ok, refused, _>>=_}
-use Rattle.rules.specs.Dispatch.{Key, sameKey}
+use Rattle.rules.specs.Answer.{Res, ok, _>>=_}
+use Rattle.rules.specs.Dispatch.{Key}
 use Rattle.rules.specs.Info.{getDogmaAttribute}
 use Rattle.rules.specs.Outcome.{blank}
-use Rattle.rules.specs.Value.{World, Mem, Read, Reader, Found, findRow, calculate}
+use Rattle.rules.specs.Value.{World, Reader, Found, findRow, calculate}
 use Rattle.rules.specs.Fresh.{unrecorded, forgetful, freshTo, fresh, needsOf}
 use Rattle.promises.specs.NoMemory.{Needs, NoLoop}
-use Rattle.promises.proofs.NoMemoryGoes.{Goes, stops, goes, on}
-use Rattle.promises.proofs.NoMemorySteps.{Each, Got, Agree, Ended, calculate-goes}
-use Rattle.promises.proofs.Ranks.{Within, within-rows, FoundAt, found-at, each-of}
+use Rattle.promises.proofs.NoMemoryGoes.{Goes, goes, on}
+use Rattle.promises.proofs.NoMemorySteps.{Each, Agree, calculate-goes}
+use Rattle.promises.proofs.Ranks.{Within, within-rows, found-at, each-of}
 
 abbrev pub Same : Float → Float → Type 0
 Same x y = x ≡ y

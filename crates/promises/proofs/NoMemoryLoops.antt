@@ -2,16 +2,16 @@
 -- calculated first but no value; on document 01's A and B, which lead back to themselves, an ask changes both values.
 use Prim.Native.Nat.{ℕ, _<_}
 use native.Mathlib.Omega.{arith}
-use mathlib.Core.Path.{_≡_, refl, sym, ap, subst, _∙_}
+use mathlib.Core.Path.{_≡_, refl, sym, subst, _∙_}
 use mathlib.Core.Bool.{Bool, true, false, cond}
-use mathlib.Core.List.{List, [], _∷_, map}
-use mathlib.Core.Option.{Option, none, some}
+use mathlib.Core.List.{List, [], _∷_}
+use mathlib.Core.Option.{Option, some}
 use borrow.Author.Tests.{ltb-true}
-use lib.Dec.{T, eqb, ltb}
+use lib.Dec.{eqb, ltb}
 use lib.IntN.{pos}
 use lib.Ieee.{Float, binary64, ofInt}
-use lib.ListN.{length, getD}
-use Rattle.laws.specs.Lists.{some?, every?, keep, flat}
+use lib.ListN.{getD}
+use Rattle.laws.specs.Lists.{some?, every?, keep}
 use Rattle.laws.proofs.Bools.{both-ways}
 use Rattle.laws.proofs.Every.{every-at, some-flat, Place, some-place}
 use Rattle.laws.proofs.Keep.{every-keep, every-kept}

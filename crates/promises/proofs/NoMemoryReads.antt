@@ -3,13 +3,12 @@
 use Prim.Native.Nat.{ℕ, zero, suc, _<_}
 use native.Mathlib.Omega.{arith}
 use mathlib.Core.Path.{_≡_, refl, sym, ap, subst, _∙_}
-use mathlib.Core.Bool.{Bool, true, false}
-use mathlib.Core.List.{List, [], _∷_}
+use mathlib.Core.Bool.{true}
+use mathlib.Core.List.{List}
 use mathlib.Core.Logic.{_⊎_, inl, inr}
 use mathlib.Core.Option.{Option, none, some}
 use native.Mathlib.Decide.{ℕ-discrete}
 use lib.Ieee.{Float}
-use lib.IntN.{ℤ}
 use lib.ListN.{length, getD, set, length-set}
 use lib.Seq.{getD-set-same, getD-set-other}
 use Rattle.laws.proofs.First.{there?}
@@ -18,13 +17,13 @@ use Rattle.rules.specs.Dispatch.{Row, Key}
 use Rattle.rules.specs.Info.{getDogmaAttribute}
 use Rattle.rules.specs.Outcome.{blank}
 use Rattle.rules.specs.Value.{World, Mem, Read, Reader, Found, findRow, calculate, calculatedValue, valueOf}
-use Rattle.rules.specs.Fresh.{unrecorded, forgetful, fresh, needsOf, Leads, last, next}
+use Rattle.rules.specs.Fresh.{forgetful, fresh, needsOf, Leads, last, next}
 use Rattle.rules.specs.declared.Refusal.the-variants.{Depth}
 use Rattle.promises.specs.NoMemory.{keyAt, Needs, NoLoop}
-use Rattle.promises.proofs.NoMemoryGoes.{Goes, stops, goes, on, on-second, told, weaker}
-use Rattle.promises.proofs.NoMemorySteps.{Each, Got, Agree, Ended, calculate-goes}
+use Rattle.promises.proofs.NoMemoryGoes.{Goes, stops, goes, on-second, told, weaker}
+use Rattle.promises.proofs.NoMemorySteps.{Each, Agree, Ended, calculate-goes}
 use Rattle.promises.proofs.NoMemoryFresh.{Same, valueBy, fresh-goes}
-use Rattle.promises.proofs.Ranks.{FoundAt, found-at, each-of}
+use Rattle.promises.proofs.Ranks.{found-at, each-of}
 
 -- one need further
 pub leads-on : (w : World) {x a b : Key} → Leads w x a → Needs w a b → Leads w x b

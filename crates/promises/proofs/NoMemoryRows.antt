@@ -1,30 +1,28 @@
 -- The rows of a sound fit: no two have the same key, so each is the one that is found, and the walk comes to each.
-use Prim.Native.Nat.{ℕ, zero, suc, _+_, _≤_, _<_, suc-le-suc, zero-le}
+use Prim.Native.Nat.{ℕ, zero, suc, _+_, _<_, suc-le-suc, zero-le}
 use native.Mathlib.Nat.{not-suc-le-zero, le-of-suc-le-suc, add-zero}
 use native.Mathlib.Omega.{arith}
-use mathlib.Core.Path.{_≡_, refl, sym, ap, subst, _∙_}
-use mathlib.Core.Bool.{Bool, true, false, not, _&&_, _||_}
+use mathlib.Core.Path.{_≡_, refl, sym, ap, _∙_}
+use mathlib.Core.Bool.{Bool, true, false, _&&_, _||_}
 use mathlib.Core.List.{List, [], _∷_, _++_, map}
-use mathlib.Core.Logic.{_⊎_, inl, inr, ⊎-elim}
-use mathlib.Core.Option.{Option, none, some}
-use borrow.Author.Tests.{eqb-true, eq-eqb, ne-eqb, leb-true, le-leb}
-use lib.Dec.{eqb, leb}
+use mathlib.Core.Option.{some}
+use borrow.Author.Tests.{ne-eqb}
+use lib.Dec.{eqb}
 use lib.IntN.{ℤ}
 use lib.ListN.{length, getD}
 use lib.Signed.{ltZ}
-use Rattle.laws.specs.Lists.{eqZ, some?, every?, put, keep, flat, ascends}
+use Rattle.laws.specs.Lists.{eqZ, some?, every?, flat, ascends}
 use Rattle.laws.specs.Floats.{finite}
-use Rattle.laws.proofs.Bools.{both-ways, not-passed, not-failed, and-left, and-right, and-both, or-true-right, or-false-left, or-false-right}
-use Rattle.laws.proofs.Every.{some-append, some-map, some-flat, some-by, none-by, none-at, every-at, every-map, Place, some-place}
+use Rattle.laws.proofs.Bools.{and-left, and-right, or-false-left, or-false-right}
+use Rattle.laws.proofs.Every.{some-append, none-by, none-at}
 use Rattle.laws.proofs.Ascending.{ascends-head, ascends-tail}
 use Rattle.laws.proofs.Inserts.{ascends-insertAll}
 use Rattle.laws.proofs.Order.{ltZ-apart}
 use Rattle.rules.specs.Sheet.{Book, Fit, basesOf}
 use Rattle.rules.specs.Shape.{basesGood}
-use Rattle.rules.specs.Item.{object, noItem, isShip, isMode, isChar, isItem, isCharge, isSkill, isProjected}
+use Rattle.rules.specs.Item.{object, noItem}
 use Rattle.rules.specs.Dispatch.{Row, Key, sameKey, hitsOn, idsOf, rowOf, rows}
-use Rattle.rules.specs.Value.{World, Found, findRow}
-use Rattle.rules.specs.Outcome.{walkOrder}
+use Rattle.rules.specs.Value.{findRow}
 use Rattle.rules.specs.declared.Item.{Item}
 use Rattle.rules.specs.declared.Pass2Effect.{Pass2Effect}
 use Rattle.promises.specs.NoMemory.{keyOf, noRow, Sound}

@@ -3,7 +3,7 @@ use Prim.Native.Nat.{ℕ, zero, suc, _+_, _<_}
 use native.Mathlib.Omega.{arith}
 use mathlib.Core.Path.{_≡_, refl, sym, ap, subst, _∙_}
 use mathlib.Core.Bool.{Bool, true, false, _||_, cond}
-use mathlib.Core.List.{List, [], _∷_, _++_, map}
+use mathlib.Core.List.{List, [], _∷_, map}
 use mathlib.Core.Logic.{_⊎_, inl, inr}
 use mathlib.Core.Option.{Option, none, some}
 use lib.Dec.{leb}
@@ -13,17 +13,16 @@ use Rattle.laws.specs.Lists.{some?}
 use Rattle.laws.proofs.Bools.{both-ways, or-true-right}
 use Rattle.laws.proofs.Every.{some-append, some-map}
 use Rattle.laws.proofs.First.{there?}
-use Rattle.rules.specs.Answer.{Res, ok, refused, _>>=_}
+use Rattle.rules.specs.Answer.{ok}
 use Rattle.rules.specs.Sheet.{Book, Fit}
-use Rattle.rules.specs.Collect.{moves, plainOf}
+use Rattle.rules.specs.Collect.{moves}
 use Rattle.rules.specs.Dispatch.{Row, Key, sameKey, baseKeys, hitKeys, fullAt}
 use Rattle.rules.specs.Value.{World, Mem, Read, Found, findRow, valueOf}
 use Rattle.rules.specs.Outcome.{Rooms, Done, full, collected, walkOrder, startsOf, valued, collectedIn, rowsIn, worldOf, blank, run}
-use Rattle.rules.specs.Fresh.{fresh}
 use Rattle.rules.specs.declared.Ask.{Ask}
 use Rattle.promises.specs.NoMemory.{keyOf, keyAt, noRow, NoLoop, Sound, Memoryless}
-use Rattle.promises.proofs.NoMemoryGoes.{Second, second, Passed, passes, got}
-use Rattle.promises.proofs.NoMemoryReads.{Keeps, keeps-same, keeps-on, freshAt, Right, Reading, Ready, reads}
+use Rattle.promises.proofs.NoMemoryGoes.{second, passes, got}
+use Rattle.promises.proofs.NoMemoryReads.{Keeps, keeps-same, keeps-on, freshAt, Right, reads}
 use Rattle.promises.proofs.NoMemoryRows.{found-there, rows-distinct}
 use Rattle.promises.proofs.NoMemoryWalk.{walks}
 use Rattle.promises.proofs.Ranks.{same-key}

@@ -1,24 +1,24 @@
 -- Rows, states, needs and values with no memory do not turn on depth, recording, asks or room.
 use Prim.Native.Nat.{ℕ, zero, suc}
 use mathlib.Core.Path.{_≡_, refl, sym, ap, ap₂, subst, fun-ext, _∙_}
-use mathlib.Core.Bool.{Bool, true, false}
+use mathlib.Core.Bool.{false}
 use mathlib.Core.List.{List, map}
 use mathlib.Core.Option.{Option, none, some}
 use lib.Dec.{T}
 use lib.Ieee.{Float}
 use lib.IntN.{ℤ}
 use lib.ListN.{length}
-use Rattle.laws.specs.Lists.{some?, eqZ, keep, flat, insertAll}
+use Rattle.laws.specs.Lists.{some?, eqZ, keep, insertAll}
 use Rattle.laws.proofs.Flat.{flat-same}
 use Rattle.laws.proofs.Keep.{keep-same}
-use Rattle.rules.specs.Answer.{Res, ok, refused, _>>=_}
+use Rattle.rules.specs.Answer.{Res, ok, _>>=_}
 use Rattle.rules.specs.Sheet.{Book, Fit, basesOf}
 use Rattle.rules.specs.Shape.{objectGood, objectsGood, basesGood}
 use Rattle.rules.specs.Dispatch.{Row, Key, sameKey, requires, inLocation, hit, entry, hitsOn, idsOf, rowOf, rows}
 use Rattle.rules.specs.Collect.{Move, takenOf, testDomain, testProjectedDomain, modifierMoves, foundMoves, effectMoves, ownMoves, projectedModifierMoves, projectedMoves, fittedMoves, moves}
 use Rattle.rules.specs.Info.{getDogmaAttribute, getBase}
-use Rattle.rules.specs.States.{States, collectedStates, statesOf}
-use Rattle.rules.specs.Value.{World, Reader, Found, findRow, calculate}
+use Rattle.rules.specs.States.{collectedStates, statesOf}
+use Rattle.rules.specs.Value.{World, Found, findRow, calculate}
 use Rattle.rules.specs.Outcome.{blank, collectedIn, rowsIn, worldOf}
 use Rattle.rules.specs.Fresh.{unrecorded, forgetful, freshTo, fresh, needsAt, Leads, last, next}
 use Rattle.rules.specs.declared.Ask.{Ask}

@@ -1,25 +1,24 @@
 -- A row's calculation beside the same with nothing recorded and another reader: they give the same value where the readers do
 -- on all that the row needs, and what holds of the memory's values is kept.
 use Prim.Native.Nat.{ℕ, zero, suc, _-_, min}
-use mathlib.Core.Path.{_≡_, refl, sym, ap, ap₂, subst, _∙_}
+use mathlib.Core.Path.{_≡_, refl, ap, ap₂, subst, _∙_}
 use mathlib.Core.Bool.{Bool, true, false, _&&_, _||_, cond}
 use mathlib.Core.List.{List, [], _∷_, _++_}
-use mathlib.Core.Option.{Option, none, some}
+use mathlib.Core.Option.{Option, some}
 use lib.Dec.{ltb}
 use lib.IntN.{ℤ, pos}
-use lib.ListN.{length, set}
+use lib.ListN.{set}
 use lib.Ieee.{Float, lt}
 use Rattle.laws.specs.Lists.{eqZ, flat}
 use Rattle.laws.specs.Floats.{zeroF}
 use Rattle.rules.specs.Answer.{Res, ok, refused, _>>=_}
-use Rattle.rules.specs.Sheet.{Book}
 use Rattle.rules.specs.Codes.{operators, sameOperator}
 use Rattle.rules.specs.Dispatch.{Row, Key}
 use Rattle.rules.specs.Info.{getDogmaAttribute, highIsGood}
 use Rattle.rules.specs.Item.{runsAt}
-use Rattle.rules.specs.Number.{times, numberAt}
-use Rattle.rules.specs.Operate.{Values, simplified, hasPenalty, applied}
-use Rattle.rules.specs.Value.{World, Mem, Read, Reader, Gathered, ownSources, stateOf, toSource, nothing, withStack, withCopy, note, copies, penalised, unpenalised, contribute, resisted, gatherFrom, gather, markedBy, operate, clamped, atLeast, atMost, setValue, calculate}
+use Rattle.rules.specs.Number.{times}
+use Rattle.rules.specs.Operate.{simplified, hasPenalty, applied}
+use Rattle.rules.specs.Value.{World, Mem, Read, Reader, Gathered, ownSources, stateOf, toSource, note, copies, penalised, unpenalised, contribute, resisted, gatherFrom, gather, operate, clamped, atLeast, atMost, calculate}
 use Rattle.rules.specs.Fresh.{unrecorded, limit, resistanceNeeds, entryNeeds, needsOf}
 use Rattle.rules.specs.declared.Effect.{Effect}
 use Rattle.rules.specs.declared.Source.{Source}

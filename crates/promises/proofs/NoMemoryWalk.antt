@@ -2,20 +2,20 @@
 use Prim.Native.Nat.{ℕ, zero, suc, _≤_, _<_}
 use native.Mathlib.Nat.{not-suc-le-zero, le-of-suc-le-suc}
 use native.Mathlib.Omega.{arith}
-use mathlib.Core.Path.{_≡_, refl, sym, ap, subst, _∙_}
+use mathlib.Core.Path.{_≡_, refl, sym, ap, _∙_}
 use mathlib.Core.Bool.{Bool, true, false, not, _&&_, _||_}
 use mathlib.Core.List.{List, [], _∷_, _++_, map}
 use mathlib.Core.Logic.{_⊎_, inl, inr, ⊎-elim}
 use borrow.Author.Tests.{eqb-true, eq-eqb, leb-true, le-leb}
 use lib.Dec.{eqb, leb}
 use lib.ListN.{length, getD}
-use Rattle.laws.specs.Lists.{some?, every?, put, keep, flat}
+use Rattle.laws.specs.Lists.{some?, every?, put, keep}
 use Rattle.laws.proofs.Bools.{both-ways, not-failed, and-left, and-right, and-both, or-true-right}
 use Rattle.laws.proofs.Every.{some-append, some-flat, some-by, every-at, every-map, Place, some-place}
 use Rattle.rules.specs.Sheet.{Book, Fit}
 use Rattle.rules.specs.Shape.{follows, standAfter, stand, objectGood, objectsGood}
 use Rattle.rules.specs.Item.{noItem, isShip, isMode, isChar, isItem, isCharge, isSkill, isProjected}
-use Rattle.rules.specs.Dispatch.{Row, Key, sameKey, rows}
+use Rattle.rules.specs.Dispatch.{Row, sameKey, rows}
 use Rattle.rules.specs.Outcome.{walkOrder}
 use Rattle.rules.specs.declared.Item.{Item}
 use Rattle.rules.specs.declared.Pass2Effect.{Pass2Effect}

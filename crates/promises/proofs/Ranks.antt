@@ -2,24 +2,22 @@
 use Prim.Native.Nat.{ℕ, zero, suc, _+_, _≤_, _<_, suc-le-suc, zero-le}
 use native.Mathlib.Nat.{add-zero}
 use native.Mathlib.Omega.{arith}
-use mathlib.Core.Path.{_≡_, refl, sym, ap, ap₂, subst, _∙_}
-use mathlib.Core.Bool.{Bool, true, false, not, _&&_, _||_}
-use mathlib.Core.List.{List, [], _∷_, _++_, map}
+use mathlib.Core.Path.{_≡_, refl, sym, ap, subst, _∙_}
+use mathlib.Core.Bool.{Bool, true, false, not, _||_}
+use mathlib.Core.List.{List, [], _∷_, map}
 use mathlib.Core.Logic.{_⊎_, inl, inr}
 use mathlib.Core.Option.{Option, none, some}
 use borrow.Author.Tests.{eqb-true, eq-eqb}
 use lib.Dec.{T, eqb}
-use lib.IntN.{ℤ}
 use lib.ListN.{length, getD, length-map}
 use Rattle.laws.specs.Lists.{eqZ, some?, put, keep, flat}
 use Rattle.laws.proofs.Bools.{both-ways, not-passed, not-failed, and-left, and-right, and-both, or-true-right}
 use Rattle.laws.proofs.Every.{some-append, some-map}
 use Rattle.laws.proofs.Keep.{keep-none, keep-length}
 use Rattle.laws.proofs.Order.{eqZ-refl, eqZ-true}
-use Rattle.rules.specs.Sheet.{Book}
 use Rattle.rules.specs.Dispatch.{Row, Key, sameKey}
 use Rattle.rules.specs.Value.{World, Found, findRow}
-use Rattle.rules.specs.Fresh.{needsOf, needsAt, Leads, last, next, LeadsBack}
+use Rattle.rules.specs.Fresh.{needsOf, needsAt, Leads, last, next}
 use Rattle.promises.specs.NoMemory.{keyOf, keyAt, noRow, Needs, NoLoop}
 use Rattle.promises.proofs.NoMemorySteps.{Each}
 
