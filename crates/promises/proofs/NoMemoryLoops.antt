@@ -1,16 +1,16 @@
--- What the condition of no-memory rules out and lets in: on case L no attribute leads back to itself, and asks change what is
--- calculated first but no value; on document 01's A and B, which lead back to themselves, an ask changes both values.
+-- What the condition of no-memory lets in and rules out: on case L no attribute leads back to itself, and asks change what is
+-- calculated first but no value; on four sheets with a loop, one for each way to need an attribute, they or recording change one.
 use Prim.Native.Nat.{ℕ, _<_}
 use native.Mathlib.Omega.{arith}
 use mathlib.Core.Path.{_≡_, refl, sym, subst, _∙_}
 use mathlib.Core.Bool.{Bool, true, false, cond}
-use mathlib.Core.List.{List, [], _∷_}
+use mathlib.Core.List.{List, [], _∷_, map}
 use mathlib.Core.Option.{Option, some}
 use borrow.Author.Tests.{ltb-true}
 use lib.Dec.{eqb, ltb}
 use lib.IntN.{pos}
 use lib.Ieee.{Float, binary64, ofInt}
-use lib.ListN.{getD}
+use lib.ListN.{getD, set}
 use Rattle.laws.specs.Lists.{some?, every?, keep}
 use Rattle.laws.proofs.Bools.{both-ways}
 use Rattle.laws.proofs.Every.{every-at, some-flat, Place, some-place}
@@ -23,7 +23,7 @@ use Rattle.rules.specs.Fresh.{needsOf, needsAt, Leads, last, next, LeadsBack}
 use Rattle.rules.specs.declared.Refusal.the-variants.{Depth}
 use Rattle.rules.proofs.Everything.{everything}
 use Rattle.rules.proofs.Marked.{lent, caseL, looped}
-use Rattle.rules.proofs.Written.{ask}
+use Rattle.rules.proofs.Written.{whole, attribute, effect, modifier, typeEffect, object, hull, base, ask, sheet}
 use Rattle.promises.specs.NoMemory.{keyOf, noRow, Needs, NoLoop, SameButAsks, bookIn, fitIn, worldIn}
 use Rattle.promises.proofs.NoMemory.{same-values}
 use Rattle.promises.proofs.Ranks.{passed, same-key}
@@ -74,45 +74,73 @@ abbrev valuesOf : Res Done → List (Option Float)
 valuesOf (ok d) = d .values
 valuesOf (refused r) = []
 
-abbrev whole : ℕ → Option Float
-whole n = some (ofInt binary64 (pos n))
-
--- on case L the items' strengths, or as B before A
-abbrev strengthsFirst : List (List ℕ)
-strengthsFirst = ask 2 20 ∷ ask 3 20 ∷ []
-
-abbrev secondFirst : List (List ℕ)
-secondFirst = ask 0 37 ∷ []
-
--- the ship's 37 needs the two items' strengths
-abbrev shipLast : Key → ℕ
-shipLast a = cond (eqb (a .object) 0) 1 0
-
-abbrev A : Key
-A = record { object = 0; id = pos 20 }
-
-abbrev B : Key
-B = record { object = 0; id = pos 37 }
-
-pub record LoopMatters : Type 0 where
-  -- case L: at depth 1 it is done only with the strengths asked first
-  pub free : NoLoop (worldIn (caseL 2 []) lent)
-  pub walked-deep : outcome (caseL 1 []) lent ≡ refused (Depth 2)
-  -- and their values are those of the walk at depth 2
-  pub same : valuesOf (outcome (caseL 2 []) lent) ≡ valuesOf (outcome (caseL 1 strengthsFirst) lent)
-  -- A and B: each leads back to itself
-  pub loop-A : LeadsBack (worldIn (looped []) lent) A
-  pub loop-B : LeadsBack (worldIn (looped []) lent) B
-  -- sheets that differ in an ask alone
-  pub one-book : bookIn (looped []) ≡ bookIn (looped secondFirst)
-  pub one-fit : SameButAsks (fitIn (looped [])) (fitIn (looped secondFirst))
-  -- and both values differ
-  pub walked : valuesOf (outcome (looped []) lent) ≡ whole 21 ∷ whole 11 ∷ []
-  pub asked : valuesOf (outcome (looped secondFirst) lent) ≡ whole 11 ∷ whole 12 ∷ []
-
 abbrev done? : Res Done → Bool
 done? (ok d) = true
 done? (refused r) = false
+
+abbrev ofShip : ℕ → Key
+ofShip a = record { object = 0; id = pos a }
+
+-- on case L, the items' strengths go first
+abbrev strengthsFirst : List (List ℕ)
+strengthsFirst = ask 2 20 ∷ ask 3 20 ∷ []
+
+-- there the ship's attribute needs the two strengths, and nothing else needs anything
+abbrev shipLast : Key → ℕ
+shipLast a = cond (eqb (a .object) 0) 1 0
+
+-- the ship's 20 has its 37 as its least, and 37 has 20 as its most
+abbrev limiting : List (List ℕ) → List ℕ
+limiting asks =
+    sheet 2 (attribute 20 0 0 37 0 ∷ attribute 37 0 0 0 20 ∷ []) [] [] [] (hull 0 0 0 2 ∷ hull 2 0 0 0 ∷ []) (base 20 (whole 4) ∷ base 37 (whole 5) ∷ []) asks
+
+-- a projected object adds its 20 to the ship's 37, by the ship's resistance 50, and the ship adds 37 to 50
+abbrev resisting : List (List ℕ) → List ℕ
+resisting asks =
+    sheet 3 []
+    (effect 1 0 50 0 1 ∷ effect 2 0 0 1 1 ∷ [])
+    (modifier 4 5 3 20 37 0 ∷ modifier 4 0 3 37 50 0 ∷ [])
+    (typeEffect 8 2 ∷ [])
+    (hull 0 8 0 2 ∷ hull 2 0 0 0 ∷ object 6 0 0 0 1 0 1 2 1 ∷ [])
+    (base 37 (whole 2) ∷ base 50 (whole 1) ∷ base 20 (whole 5) ∷ [])
+    asks
+
+-- the ship adds 37 to 20 by an effect that does not run, then 50 to 20, and 20 to 37
+abbrev idling : List ℕ
+idling =
+    sheet 2 []
+    (effect 1 2 0 0 1 ∷ effect 2 0 0 1 2 ∷ [])
+    (modifier 4 0 3 37 20 0 ∷ modifier 4 0 3 50 20 0 ∷ modifier 4 0 3 20 37 0 ∷ [])
+    (typeEffect 8 1 ∷ typeEffect 8 2 ∷ [])
+    (hull 0 8 0 3 ∷ hull 2 0 0 0 ∷ [])
+    (base 20 (whole 10) ∷ base 37 (whole 1) ∷ base 50 (whole 100) ∷ [])
+    []
+
+-- the same sheet with sources recorded
+abbrev recorded : List ℕ → List ℕ
+recorded b = set b 96 1
+
+-- two sheets that differ in asks, depth and recording alone, on which an attribute leads back to itself, and their values
+pub record Changes (b c : List ℕ) (a : Key) (u v : List ℕ) : Type 0 where
+  pub loop : LeadsBack (worldIn b lent) a
+  pub one-book : bookIn b ≡ bookIn c
+  pub one-fit : SameButAsks (fitIn b) (fitIn c)
+  pub first : valuesOf (outcome b lent) ≡ map (λ n. some (ofInt binary64 (pos n))) u
+  pub second : valuesOf (outcome c lent) ≡ map (λ n. some (ofInt binary64 (pos n))) v
+
+pub record LoopMatters : Type 0 where
+  -- case L has no loop: at depth 1 it is done only with the strengths asked first, and its values are those of the walk at depth 2
+  pub free : NoLoop (worldIn (caseL 2 []) lent)
+  pub walked : outcome (caseL 1 []) lent ≡ refused (Depth 2)
+  pub asked : done? (outcome (caseL 1 strengthsFirst) lent) ≡ true
+  pub same : valuesOf (outcome (caseL 2 []) lent) ≡ valuesOf (outcome (caseL 1 strengthsFirst) lent)
+  -- document 01's A and B: "walk gives A 21, B 11; asked B first, A 11, B 12"
+  pub by-sources : Changes (looped []) (looped (ask 0 37 ∷ [])) (ofShip 20) (21 ∷ 11 ∷ []) (11 ∷ 12 ∷ [])
+  -- a loop through limits, and one through a resistance: an ask changes values
+  pub by-limits : Changes (limiting []) (limiting (ask 0 37 ∷ [])) (ofShip 20) (4 ∷ 4 ∷ []) (5 ∷ 5 ∷ [])
+  pub by-resistance : Changes (resisting []) (resisting (ask 0 50 ∷ [])) (ofShip 37) (17 ∷ 3 ∷ 5 ∷ []) (7 ∷ 8 ∷ 5 ∷ [])
+  -- a loop through an effect that does not run: recording changes a value
+  pub by-idle : Changes idling (recorded idling) (ofShip 20) (110 ∷ 111 ∷ 100 ∷ []) (110 ∷ 11 ∷ 100 ∷ [])
 
 -- two runs that are done, on sheets that differ in asks, depth and recording alone, where nothing leads back to itself
 values-agree : (b c : List ℕ) (l m : Lent) → bookIn b ≡ bookIn c → SameButAsks (fitIn b) (fitIn c) → NoLoop (worldIn b l) → done? (outcome b l) ≡ true → done? (outcome c m) ≡ true → valuesOf (outcome b l) ≡ valuesOf (outcome c m)
@@ -132,12 +160,39 @@ unfolding everything
 loop-matters =
     record {
       free = L-free;
-      walked-deep = refl;
-      same = values-agree (caseL 2 []) (caseL 1 strengthsFirst) lent lent refl (record { objects = refl; bases = refl; ids = refl; buffs = refl }) L-free refl refl;
-      loop-A = next {b = B} tt (last tt);
-      loop-B = next {b = A} tt (last tt);
-      one-book = refl;
-      one-fit = record { objects = refl; bases = refl; ids = refl; buffs = refl };
       walked = refl;
       asked = refl;
+      same = values-agree (caseL 2 []) (caseL 1 strengthsFirst) lent lent refl (record { objects = refl; bases = refl; ids = refl; buffs = refl }) L-free refl refl;
+      by-sources =
+          record {
+            loop = next {b = ofShip 37} tt (last tt);
+            one-book = refl;
+            one-fit = record { objects = refl; bases = refl; ids = refl; buffs = refl };
+            first = refl;
+            second = refl;
+          };
+      by-limits =
+          record {
+            loop = next {b = ofShip 37} tt (last tt);
+            one-book = refl;
+            one-fit = record { objects = refl; bases = refl; ids = refl; buffs = refl };
+            first = refl;
+            second = refl;
+          };
+      by-resistance =
+          record {
+            loop = next {b = ofShip 50} tt (last tt);
+            one-book = refl;
+            one-fit = record { objects = refl; bases = refl; ids = refl; buffs = refl };
+            first = refl;
+            second = refl;
+          };
+      by-idle =
+          record {
+            loop = next {b = ofShip 37} tt (last tt);
+            one-book = refl;
+            one-fit = record { objects = refl; bases = refl; ids = refl; buffs = refl };
+            first = refl;
+            second = refl;
+          };
     }
