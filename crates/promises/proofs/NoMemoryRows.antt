@@ -13,7 +13,7 @@ use lib.ListN.{length, getD}
 use lib.Signed.{ltZ}
 use Rattle.laws.specs.Lists.{eqZ, some?, every?, flat, ascends}
 use Rattle.laws.specs.Floats.{finite}
-use Rattle.laws.proofs.Bools.{and-left, and-right, or-false-left, or-false-right}
+use Rattle.laws.proofs.Bools.{and-false-right, and-left, and-right, or-false-left, or-false-right}
 use Rattle.laws.proofs.Every.{some-append, none-by, none-at}
 use Rattle.laws.proofs.Ascending.{ascends-head, ascends-tail}
 use Rattle.laws.proofs.Inserts.{ascends-insertAll}
@@ -57,6 +57,10 @@ distinct-append [] ys d e h = e
 distinct-append (x ∷ xs) ys d e h =
     (lacks-append (keyOf x) xs ys (d .0) (h zero (suc-le-suc zero-le)), distinct-append xs ys (d .1) e (λ j l. h (suc j) (suc-le-suc l)))
 
+-- an object's base attributes ascend
+abbrev ordered : Fit → Item → Bool
+ordered f o = ascends (map (λ r. r .«attribute_id») (basesOf f o))
+
 module _ (k : Book) (f : Fit) (ts : List Pass2Effect) where
   abbrev own : Item → List Row
   own o = map (rowOf k f ts o) (idsOf k f ts o)
@@ -67,11 +71,9 @@ module _ (k : Book) (f : Fit) (ts : List Pass2Effect) where
   unfolding rowOf
   later-lack o a [] h = refl
   later-lack o a (x ∷ l) h =
-      both-false _ _ (ap (λ (t : Bool). eqb (o .number) (o .number) && t) (ltZ-apart a x (and-left (ltZ a x) (every? (ltZ a) l) h)) ∙ and-no (eqb (o .number) (o .number))) (later-lack o a l (and-right (ltZ a x) (every? (ltZ a) l) h))
-    where
-      and-no : (t : Bool) → t && false ≡ false
-      and-no true = refl
-      and-no false = refl
+      both-false _ _
+      (ap (λ (t : Bool). eqb (o .number) (o .number) && t) (ltZ-apart a x (and-left (ltZ a x) (every? (ltZ a) l) h)) ∙ and-false-right (eqb (o .number) (o .number)))
+      (later-lack o a l (and-right (ltZ a x) (every? (ltZ a) l) h))
 
   ids-distinct : (o : Item) (l : List ℤ) → ascends l ≡ true → Distinct (map (rowOf k f ts o) l)
   ids-distinct o [] h = tt
@@ -87,7 +89,9 @@ module _ (k : Book) (f : Fit) (ts : List Pass2Effect) where
   pub absent : (a : Key) (os : List Item) → some? (λ o. eqb (a .object) (o .number)) os ≡ false → Lacks a (flat own os)
   absent a [] h = refl
   absent a (o ∷ os) h =
-      lacks-append a (own o) (flat own os) (others-lack a o (idsOf k f ts o) (or-false-left (eqb (a .object) (o .number)) (some? (λ p. eqb (a .object) (p .number)) os) h)) (absent a os (or-false-right (eqb (a .object) (o .number)) (some? (λ p. eqb (a .object) (p .number)) os) h))
+      let first = or-false-left (eqb (a .object) (o .number)) (some? (λ p. eqb (a .object) (p .number)) os) h in
+      let rest = or-false-right (eqb (a .object) (o .number)) (some? (λ p. eqb (a .object) (p .number)) os) h in
+      lacks-append a (own o) (flat own os) (others-lack a o (idsOf k f ts o) first) (absent a os rest)
 
   own-number : (o : Item) (l : List ℤ) (j : ℕ) → j < length (map (rowOf k f ts o) l) → getD (map (rowOf k f ts o) l) j noRow .object ≡ o .number
   unfolding rowOf
@@ -95,13 +99,13 @@ module _ (k : Book) (f : Fit) (ts : List Pass2Effect) where
   own-number o (x ∷ l) zero h = refl
   own-number o (x ∷ l) (suc j) h = own-number o l j (le-of-suc-le-suc h)
 
-  all-distinct : (s : ℕ) (os : List Item) → ((j : ℕ) → j < length os → getD os j noItem .number ≡ s + j) → every? (λ o. ascends (map (λ r. r .«attribute_id») (basesOf f o))) os ≡ true → Distinct (flat own os)
+  all-distinct : (s : ℕ) (os : List Item) → ((j : ℕ) → j < length os → getD os j noItem .number ≡ s + j) → every? (ordered f) os ≡ true → Distinct (flat own os)
   unfolding idsOf
   all-distinct s [] n b = tt
   all-distinct s (o ∷ os) n b =
       distinct-append (own o) (flat own os)
-      (ids-distinct o (idsOf k f ts o) (ascends-insertAll (map (λ t. t .«target_attribute_id») (hitsOn k f ts o)) (map (λ r. r .«attribute_id») (basesOf f o)) (and-left (ascends (map (λ r. r .«attribute_id») (basesOf f o))) (every? (λ p. ascends (map (λ r. r .«attribute_id») (basesOf f p))) os) b)))
-      (all-distinct (suc s) os (λ j l. n (suc j) (suc-le-suc l) ∙ omega arith) (and-right (ascends (map (λ r. r .«attribute_id») (basesOf f o))) (every? (λ p. ascends (map (λ r. r .«attribute_id») (basesOf f p))) os) b))
+      (ids-distinct o (idsOf k f ts o) (ascends-insertAll (map (λ t. t .«target_attribute_id») (hitsOn k f ts o)) (map (λ r. r .«attribute_id») (basesOf f o)) (and-left (ordered f o) (every? (ordered f) os) b)))
+      (all-distinct (suc s) os (λ j l. n (suc j) (suc-le-suc l) ∙ omega arith) (and-right (ordered f o) (every? (ordered f) os) b))
       (λ j l. absent (keyOf (getD (own o) j noRow)) os (none-by (λ p. eqb (getD (own o) j noRow .object) (p .number)) os noItem (λ i h. ne-eqb _ _ (λ e. apart j l i h e))))
     where
       apart : (j : ℕ) → j < length (own o) → (i : ℕ) → i < length os → getD (own o) j noRow .object ≡ getD os i noItem .number → ⊥
@@ -109,4 +113,4 @@ module _ (k : Book) (f : Fit) (ts : List Pass2Effect) where
 
   pub rows-distinct : Sound f → Distinct (rows k f ts)
   unfolding rows basesGood
-  rows-distinct s = all-distinct 0 (f .objects) (λ j l. s .numbered j l ∙ omega arith) (and-right (every? (λ r. finite (r .value)) (f .bases)) (every? (λ o. ascends (map (λ r. r .«attribute_id») (basesOf f o))) (f .objects)) (s .bases))
+  rows-distinct s = all-distinct 0 (f .objects) (λ j l. s .numbered j l ∙ omega arith) (and-right (every? (λ r. finite (r .value)) (f .bases)) (every? (ordered f) (f .objects)) (s .bases))
