@@ -1,11 +1,11 @@
 -- A row that has a value has all the source rows that are planned for it, unless it is under calculation.
-use Prim.Native.Nat.{ℕ, zero, suc, _+_, _<_}
+use Prim.Native.Nat.{ℕ, zero, suc, _<_}
 use native.Mathlib.Omega.{arith}
 use mathlib.Core.Path.{_≡_, refl, sym, ap, subst, _∙_}
-use mathlib.Core.Bool.{true, false, cond}
+use mathlib.Core.Bool.{cond}
 use mathlib.Core.List.{List, [], _∷_, _++_, map}
 use mathlib.Core.Logic.{inl, inr}
-use mathlib.Core.Option.{Option, none, some}
+use mathlib.Core.Option.{none, some}
 use borrow.Author.Tests.{eqb-true, eqb-false}
 use lib.Dec.{eqb}
 use lib.Ieee.{Float}
@@ -18,7 +18,7 @@ use Rattle.laws.proofs.Maps.{map-at}
 use Rattle.rules.specs.Answer.{ok}
 use Rattle.rules.specs.Dispatch.{Row}
 use Rattle.rules.specs.Outcome.{valued, blank}
-use Rattle.rules.specs.Value.{World, Mem, Read, ownSources, note, withOwn, setValue, calculate, valueOf}
+use Rattle.rules.specs.Value.{World, Mem, Read, ownSources, note, setValue, calculate, valueOf}
 use Rattle.rules.specs.declared.Ask.{Ask}
 use Rattle.rules.specs.declared.Source.{Source}
 use Rattle.reading.specs.Held.{noRow}
@@ -26,7 +26,7 @@ use Rattle.sources.specs.Planned.{plannedOf, countsOf}
 use Rattle.sources.proofs.Planning.{calculation-gives}
 use Rattle.memory.specs.Memory.{valueAt, Grows}
 use Rattle.memory.proofs.Growth.{calculate-grows, value-grows}
-use Rattle.whole.specs.Complete.{Long, Clean, Complete, Keeps}
+use Rattle.whole.specs.Complete.{Long, Clean, Complete, Whole, Keeps}
 use Rattle.whole.proofs.Keeps.{note-keeps, calculate-keeps, value-keeps, valued-keeps}
 use Rattle.whole.proofs.Starts.{calculated-valued, valued-grows}
 
@@ -95,12 +95,6 @@ module _ (w : World) (j : ℕ) where
           (subst (λ (x : ℕ). calculate w (valueOf w d) x (getD (w .rows) x noRow) m ≡ ok q) t e) k
 
 -- ---- all rows
-
--- each row is settled
-pub record Whole (w : World) (m : Mem) : Type 0 where
-  pub long : Long w m
-  pub clean : Clean m
-  pub complete : Complete w m
 
 module _ (w : World) where
   one : {m : Mem} → Whole w m → (j : ℕ) → Settled w j m

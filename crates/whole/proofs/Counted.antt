@@ -12,14 +12,14 @@ use Rattle.laws.proofs.Flat.{total}
 use Rattle.rules.specs.Answer.{ok}
 use Rattle.rules.specs.Dispatch.{Row}
 use Rattle.rules.specs.Outcome.{valued, blank}
-use Rattle.rules.specs.Value.{World, Mem, Read, ownSources, note, withOwn, setValue, calculate, valueOf}
+use Rattle.rules.specs.Value.{World, Mem, Read, ownSources, note, setValue, calculate, valueOf}
 use Rattle.rules.specs.declared.Ask.{Ask}
 use Rattle.rules.specs.declared.Source.{Source}
 use Rattle.reading.specs.Held.{noRow}
 use Rattle.memory.specs.Memory.{valueAt}
 use Rattle.whole.specs.Complete.{Long, UsedTotal, Keeps}
 use Rattle.whole.proofs.Keeps.{note-keeps, calculate-keeps, value-keeps, valued-keeps}
-use Rattle.whole.proofs.Completes.{Whole, blank-whole}
+use Rattle.whole.proofs.Completes.{blank-whole}
 
 -- one of the lists is another
 total-set : {A : Type 0} (qs : List (List A)) (i : ℕ) (q : List A) → i < length qs → total (map length (set qs i q)) + length (getD qs i []) ≡ total (map length qs) + length q

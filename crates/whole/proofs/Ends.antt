@@ -1,5 +1,5 @@
 -- Once every row has a value and its source rows, the columns hold what the memory has.
-use Prim.Native.Nat.{ℕ, zero, suc, _≤_, _<_}
+use Prim.Native.Nat.{ℕ, suc, _≤_, _<_}
 use native.Mathlib.Omega.{arith}
 use mathlib.Core.Path.{_≡_, refl, sym, ap, _∙_}
 use mathlib.Core.List.{List, [], _∷_, map}
@@ -12,15 +12,20 @@ use lib.ListN.{length, getD, length-map, List·getD-eq-default}
 use Rattle.laws.specs.Floats.{zeroF}
 use Rattle.laws.proofs.Bools.{true-or-false}
 use Rattle.laws.proofs.Flat.{total, flat-length}
+use Rattle.rules.specs.Answer.{ok}
 use Rattle.rules.specs.Columns.{sourceNumbers, sourceFloats}
-use Rattle.rules.specs.Dispatch.{Row}
+use Rattle.rules.specs.Outcome.{valued, blank}
 use Rattle.rules.specs.Value.{World, Mem, ownSources}
+use Rattle.rules.specs.declared.Ask.{Ask}
 use Rattle.rules.specs.declared.Source.{Source}
+use Rattle.reading.specs.Held.{RowsHeld}
 use Rattle.sources.specs.Planned.{countsOf}
 use Rattle.plan.proofs.Numbers.{planned-whole}
-use Rattle.memory.specs.Memory.{valueAt, valueColumn}
 use Rattle.memory.specs.Holding.{Holds}
-use Rattle.whole.specs.Complete.{AllValued, Complete, UsedTotal, allSources, Ended}
+use Rattle.whole.specs.Complete.{AllValued, Complete, UsedTotal, AllAsked, Ended}
+use Rattle.whole.proofs.Starts.{all-valued}
+use Rattle.whole.proofs.Completes.{blank-whole, complete-all}
+use Rattle.whole.proofs.Counted.{total-all}
 use Rattle.whole.proofs.Shows.{lengths-are, shown-column}
 
 -- there is a count for each row
@@ -74,3 +79,9 @@ module _ {w : World} {s₀ : List (List ℕ)} {f₀ : List (List Float)} {m : Me
         count = k .all ∙ u ∙ sym (flat-length (λ (x : List Source). x) (m .sources));
         rows = planned-whole (w .rows) (m .sources) (countsOf w) (lengths-are (m .sources) (countsOf w) long each) (omega (arith, few, small));
       }
+
+-- the starts went well from a blank memory, and they are all rows
+pub all-ended : {w : World} {c : List (List ℕ)} → RowsHeld (w .rows) c → (d : ℕ) (starts : List Ask) {s₀ : List (List ℕ)} {f₀ : List (List Float)} {m : Mem} {v : List Float} {s : List (List ℕ)} {f : List (List Float)} {used : ℕ}
+    → valued w d starts (blank (w .rows)) ≡ ok m → AllAsked w starts → Holds w s₀ f₀ m v s f used → w .room ≤ 4294967295 → w .room ≤ length s₀ → w .room ≤ length f₀ → Ended w s₀ f₀ m v s f used
+all-ended {w} H d starts {m = m} e asked holds =
+    ended holds (all-valued w H d starts (blank (w .rows)) m e (blank-whole w .long .values) asked) (complete-all w d starts m e) (total-all w d starts m e)

@@ -1,5 +1,6 @@
 pub mod Keeps
 pub mod Starts
+pub mod Asked
 pub mod Completes
 pub mod Counted
 pub mod Shows

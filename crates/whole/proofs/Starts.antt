@@ -8,7 +8,7 @@ use mathlib.Core.Option.{Option, none, some}
 use lib.Ieee.{Float}
 use lib.ListN.{length, getD, length-set}
 use lib.Seq.{getD-set-same}
-use Rattle.rules.specs.Answer.{Res, ok}
+use Rattle.rules.specs.Answer.{ok}
 use Rattle.rules.specs.Dispatch.{Row}
 use Rattle.rules.specs.Outcome.{valued}
 use Rattle.rules.specs.Value.{World, Mem, Read, Reader, setValue, calculate, valueOf}

@@ -44,6 +44,11 @@ Clean m = (i : ℕ) → valueAt m i ≡ none → ownSources i m ≡ []
 abbrev pub Complete : World → Mem → Type 0
 Complete w m = (i : ℕ) (v : Float) → valueAt m i ≡ some v → length (ownSources i m) ≡ getD (countsOf w) i 0
 
+pub record Whole (w : World) (m : Mem) : Type 0 where
+  pub long : Long w m
+  pub clean : Clean m
+  pub complete : Complete w m
+
 -- the source rows are counted
 abbrev pub UsedTotal : Mem → Type 0
 UsedTotal m = m .used ≡ total (map length (m .sources))
