@@ -8,9 +8,12 @@ use mathlib.Core.Option.{Option, none, some}
 use lib.Dec.{T}
 use lib.Ieee.{Float}
 use lib.IntN.{ℤ}
-use lib.ListN.{length, getD, take, drop, length-map, length-drop}
-use lib.Seq.{take-drop}
+use lib.Seq.{take-all}
+use lib.ListN.{length, getD, take, drop, length-map, length-drop, take-append-drop}
+
 use mir.Facts.{toZ-ofZ}
+use mir.Syntax.{w32}
+use mir.Val.{toZ}
 use Rattle.laws.specs.Floats.{finite}
 use Rattle.laws.proofs.Bools.{true-or-false}
 use Rattle.laws.proofs.Flat.{total}
@@ -20,7 +23,7 @@ use Rattle.rules.specs.Dispatch.{Row}
 use Rattle.rules.specs.Info.{getDogmaAttribute, highIsGood}
 use Rattle.rules.specs.Number.{numberAt}
 use Rattle.rules.specs.Operate.{hasPenalty, applied}
-use Rattle.rules.specs.Sheet.{Book}
+use Rattle.rules.specs.Sheet.{Book, bookOf}
 use Rattle.rules.specs.Value.{World, Mem, Read, Reader, Gathered, ownSources, nothing, gather, markedBy, operate, valueOf}
 use Rattle.rules.specs.declared.Effect.{Effect}
 use Rattle.rules.specs.declared.EffectOperator.{EffectOperator}
@@ -28,6 +31,7 @@ use Rattle.rules.specs.declared.Refusal.{Refusal}
 use Rattle.rules.specs.declared.Source.{Source}
 use Rattle.rules.specs.declared.Step.{Step}
 use Rattle.rules.specs.declared.Step.the-variants.{Finite, NotFinite}
+use Rattle.reading.specs.Held.{noRow}
 use Rattle.sources.specs.declared.Run.{Run}
 use Rattle.sources.specs.Planned.{countsOf, plannedOf, plannedFor, plannedBy, Started, Grown}
 use Rattle.sources.specs.Keeping.{Keeping, Begins}
@@ -68,12 +72,12 @@ reason y (Because z) = z
 -- how many rows are counted
 pub counts-long : (w : World) → length (countsOf w) ≡ length (w .rows)
 unfolding countsOf
-counts-long w = length-map (λ (r : Row). cond (w .recording) (total (map (plannedOf w) (r .entries))) 0) (w .rows)
+counts-long w = length-map (w .rows) (λ (r : Row). cond (w .recording) (total (map (plannedOf w) (r .entries))) 0)
 
 -- none is planned where none is recorded
 pub counts-off : (w : World) (i : ℕ) → w .recording ≡ false → i < length (w .rows) → getD (countsOf w) i 0 ≡ 0
 unfolding countsOf
-counts-off w i off t = map-at (λ (r : Row). cond (w .recording) (total (map (plannedOf w) (r .entries))) 0) (w .rows) i (rowAt w i) 0 t ∙ ap (λ (b : Bool). cond b _ 0) off
+counts-off w i off t = map-at (λ (r : Row). cond (w .recording) (total (map (plannedOf w) (r .entries))) 0) (w .rows) i noRow 0 t ∙ ap (λ (b : Bool). cond b (total (map (plannedOf w) (rowAt w i .entries))) 0) off
 
 no-length : {A : Type 0} (l : List A) → length l ≤ 0 → l ≡ []
 no-length [] h = refl
@@ -113,7 +117,7 @@ module _ {t : Tables} {run : Run} {v₀ : List Float} {s₁ : List (List ℕ)} {
     abbrev read : Reader
     read = valueOf w left
 
-    grown : valueAt (G .sofar .mem) i ≡ some (row .base)
+    pub grown : valueAt (G .sofar .mem) i ≡ some (row .base)
     grown = gather-grows i w row read (value-grows w left) op (take k (row .entries)) begin (G .sofar) (G .is) .value i (row .base) (h .begun)
 
     gives : Grown i m (G .sofar .mem) (cond (w .recording) (plannedFor w op (take k (row .entries))) 0)
@@ -127,9 +131,9 @@ module _ {t : Tables} {run : Run} {v₀ : List Float} {s₁ : List (List ℕ)} {
       next = take-next (row .entries) k noEntry inside
 
       split : row .entries ≡ take (k + 1) (row .entries) ++ drop (k + 1) (row .entries)
-      split = sym (take-drop (k + 1) (row .entries))
+      split = sym (take-append-drop (k + 1) (row .entries))
 
-      room-for : w .recording ≡ true → length (ownSources i (G .sofar .mem)) + plannedFor w op (e ∷ []) ≤ getD (countsOf w) i 0
+      pub room-for : w .recording ≡ true → length (ownSources i (G .sofar .mem)) + plannedFor w op (e ∷ []) ≤ getD (countsOf w) i 0
       room-for on =
           let parts : plannedFor w op (row .entries) ≡ plannedFor w op (take k (row .entries)) + plannedFor w op (e ∷ []) + plannedFor w op (drop (k + 1) (row .entries)) =
             ap (plannedFor w op) split ∙ planned-append w op (take (k + 1) (row .entries)) (drop (k + 1) (row .entries))
@@ -181,3 +185,55 @@ module _ {t : Tables} {run : Run} {v₀ : List Float} {s₁ : List (List ℕ)} {
             whole =
                 ap (λ (l : List Effect). gather w i row read op l begin) split ∙ gather-append w i row read op (take (k + 1) (row .entries)) (drop (k + 1) (row .entries)) begin
                 ∙ ap (λ (x : Res Gathered). x >>= λ g. gather w i row read op (drop (k + 1) (row .entries)) g) (stops (gather w i row read op (e ∷ []) (G .sofar)) one-more a)
+
+    -- all of them
+    module _ (all : length (row .entries) ≤ k) where
+      gathered-all : gather w i row read op (row .entries) begin ≡ ok (G .sofar)
+      gathered-all = ap (λ (l : List Effect). gather w i row read op l begin) (sym (take-all k (row .entries) all)) ∙ G .is
+
+      pub begins : {first : ℕ} → first ≡ getD (getD (t .rows) i []) 4 0 → Begins (countsOf w) i first
+      begins e = record { row = omega (arith, h .within, counts-long w); place = e ∙ h .ready .told .row i (h .within) .place }
+
+      pub all-fresh : w .recording ≡ true → Fresh (ownSources i (G .sofar .mem)) (G .sofar .values .positive ++ G .sofar .values .negative)
+      all-fresh on = gather-fresh w i row read op (row .entries) m (row .base) (G .sofar) on (value-grows w left) (h .begun) (started .there) gathered-all
+
+      pub none-recorded : w .recording ≡ false → ownSources i (G .sofar .mem) ≡ []
+      none-recorded off = no-length (ownSources i (G .sofar .mem)) (omega (arith, G .piled .keeping .fits i, counts-off w i off (h .within)))
+
+      pub all-plain : hasPenalty op ≡ false → (G .sofar .values .positive ≡ []) × (G .sofar .values .negative ≡ [])
+      all-plain e = gather-plain w i row read op (row .entries) m (G .sofar) e gathered-all
+
+      abbrev Applied : Res Read → Part → List (List ℕ) → List (List Float) → Type 0
+      Applied x r s′ f′ = AppliedAs (countsOf w) (w .room) s₀ f₀ i x r s′ f′
+
+      abbrev asked : Res Read
+      asked = operate w i row read (op ∷ []) (record { value = found; mem = m })
+
+      asked-is : high ≡ highIsGood (getDogmaAttribute (w .book) (row .id)) → asked ≡ applying row high op found i (G .sofar)
+      unfolding operate applying
+      asked-is z =
+          ap (λ (x : Res Gathered). x >>= λ g. numberAt (row .object) (applied (highIsGood (getDogmaAttribute (w .book) (row .id))) op found (g .values)) >>= λ n. ok (record { value = n; mem = markedBy i g })) gathered-all
+          ∙ ap (λ (b : Bool). numberAt (row .object) (applied b op found (G .sofar .values)) >>= λ n. ok (record { value = n; mem = markedBy i (G .sofar) })) (sym z)
+
+      -- what is applied keeps the values
+      marked-holds : {s′ : List (List ℕ)} {f′ : List (List Float)} {a b : ℕ} → Keeping (countsOf w) (w .room) s₀ f₀ i (markedBy i (G .sofar)) s′ f′ a b → Holds w s₀ f₀ (markedBy i (G .sofar)) v s′ f′ b
+      marked-holds kept =
+          let same = marked-values i (G .sofar) in
+          noted-holds (G .holds) i grown (markedBy i (G .sofar)) (same .0) (same .2) kept
+
+      pub gathering-applied : high ≡ highIsGood (getDogmaAttribute (w .book) (row .id)) → (r : Part) (s′ : List (List ℕ)) (f′ : List (List Float)) → Applied (applying row high op found i (G .sofar)) r s′ f′ → PartMeets w s₀ f₀ i asked r v s′ f′
+      unfolding applying numberAt
+      gathering-applied z r s′ f′ a = rw (asked-is z) (by (applied high op found (G .sofar .values)) r a)
+        where
+          by : (x : Step) (r : Part) → Applied (numberAt (row .object) x >>= λ n. ok (record { value = n; mem = markedBy i (G .sofar) })) r s′ f′ → PartMeets w s₀ f₀ i (numberAt (row .object) x >>= λ n. ok (record { value = n; mem = markedBy i (G .sofar) })) r v s′ f′
+          by (Finite n) (part.At y a b) q = (q .0, q .1, q .2 .mine, marked-holds (q .2))
+          by (Finite n) (part.Refused y) q = absurd q
+          by NotFinite (part.At y a b) q = absurd q
+          by NotFinite (part.Refused y) q = q
+
+-- a row's attribute by the numbers of list 2
+pub high-is : {t : Tables} {run : Run} {v : List Float} {s : List (List ℕ)} {f : List (List Float)} {used : ℕ} (h : Ready t run v s f used) (i : ℕ) → i < length (h .world .rows)
+    → highAt t i ≡ highIsGood (getDogmaAttribute (h .world .book) (rowAt (h .world) i .id))
+high-is {t} h i inside =
+    ap (λ (a : ℤ). highIsGood (getDogmaAttribute (bookOf (t .book) (t .pairs)) a)) (ap (toZ w32) (h .told .held .id i inside) ∙ toZ-ofZ (h .told .held .narrow i inside))
+    ∙ ap (λ (k : Book). highIsGood (getDogmaAttribute k (rowAt (h .world) i .id))) (sym (h .told .records))

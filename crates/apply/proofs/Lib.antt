@@ -4,3 +4,5 @@ pub mod Starts
 pub mod Finding
 pub mod Limiting
 pub mod Gathering
+pub mod Taking
+pub mod Operating

@@ -1,4 +1,3 @@
-// What the definition promises of every run: the crate's laws are in proofs/. A crate has a function.
 // What the definition promises: the crate's theorems are in proofs/. A crate has a function.
 ghost use mathlib.Core.Path.{_≡_};
 
