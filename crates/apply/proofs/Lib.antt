@@ -6,3 +6,4 @@ pub mod Limiting
 pub mod Gathering
 pub mod Taking
 pub mod Operating
+pub mod Falling
