@@ -1,5 +1,5 @@
 -- Made by `answers` from Proof.answers: edit that file.
--- `pass_3::calculate_value` meets its contract. Assumes nothing.
+-- The proof of the cycle: the measure is on the rows that are not started. Assumes nothing.
 use Prim.Native.Nat.{ℕ, _<_}
 use borrow.Fn.Kinds.{In}
 use borrow.Fn.PlainCycle.{Measures, is, falls, and}
@@ -46,42 +46,57 @@ use Rattle.reading.proofs.entries.is_running.Reads as is-running-reads
 use Rattle.reading.proofs.entries.operator_of.Reads as operator-of-reads
 use Rattle.stretches.proofs.find.Reads as find-reads
 use Rattle.stretches.proofs.is_limited.Reads as is-limited-reads
-use Rattle.pass_3.proofs.+calculate_value+calculated_value+evaluated+gathered+limited+operated+resisted+strength+with_entry.{
+use Rattle.pass_3.proofs.+calculate_value+calculated_value+evaluated+gathered+limited+operated+resisted+strength+with_entry.{statement}
+use Rattle.pass_3.proofs.+calculate_value+calculated_value+evaluated+gathered+limited+operated+resisted+strength+with_entry.Tie.{close}
 use borrow.Author.Needs.{needs}
 use native.Mathlib.Omega.{arith}
-
-  statement,
-}
-use Rattle.pass_3.proofs.+calculate_value+calculated_value+evaluated+gathered+limited+operated+resisted+strength+with_entry.Tie.{
-  close,
-}
+use Prim.Native.Nat.{_+_, _*_, _-_, _≤_}
+use mathlib.Core.Path.{_≡_, refl, sym, ap, _∙_}
+use mathlib.Core.List.{[], _∷_}
+use lib.ListN.{length, getD, length-set}
+use Rattle.laws.specs.Floats.{nans}
+use Rattle.laws.proofs.Signs.{same-bits, tested-apart}
+use Rattle.rules.specs.Codes.{operators}
+use Rattle.memory.specs.Holding.{tables, Busy}
+use mir.Facts.{toZ-ofZ}
+use Rattle.rules.specs.declared.DogmaAttribute.{DogmaAttribute}
+use Rattle.apply.proofs.Holdings.{value-long, ready-on, sources-long, floats-long}
+use Rattle.apply.proofs.Starts as starting
+use Rattle.apply.proofs.Finding as finding
+use Rattle.apply.proofs.Limiting as limiting
+use Rattle.apply.proofs.Taking as taking
+use Rattle.apply.proofs.Gathering as gathering
+use Rattle.apply.proofs.Operating as operating
+use Rattle.apply.proofs.Falling as falling
+use Rattle.apply.proofs.Gathering.{Gathering}
+use Rattle.apply.proofs.Operating.{Operating}
 
 abbrev μ-calculate-value : Measures 12 calculate-value-kinds.ps ℕ
-μ-calculate-value κs a = ?
+μ-calculate-value κs a = 8 * nans (a .0 .now)
 
 abbrev μ-calculated-value : Measures 12 calculated-value-kinds.ps ℕ
-μ-calculated-value κs a = ?
+μ-calculated-value κs a = 8 * nans (a .0 .now) + 1
 
 abbrev μ-evaluated : Measures 12 evaluated-kinds.ps ℕ
-μ-evaluated κs a = ?
+μ-evaluated κs a = 8 * nans (a .0 .now) + 7
 
 abbrev μ-gathered : Measures 12 gathered-kinds.ps ℕ
-μ-gathered κs a = ?
+μ-gathered κs a = 8 * nans (a .0 .now) + 5
 
 abbrev μ-limited : Measures 12 limited-kinds.ps ℕ
-μ-limited κs a = ?
+μ-limited κs a = 8 * nans (a .0 .now) + 2
 
 abbrev μ-operated : Measures 12 operated-kinds.ps ℕ
-μ-operated κs a = ?
+μ-operated κs a = 8 * nans (a .0 .now) + 6
 
 abbrev μ-resisted : Measures 12 resisted-kinds.ps ℕ
-μ-resisted κs a = ?
+μ-resisted κs a = 8 * nans (a .0 .now) + 2
 
 abbrev μ-strength : Measures 12 strength-kinds.ps ℕ
-μ-strength κs a = ?
+μ-strength κs a = 8 * nans (a .0 .now) + 3
 
 abbrev μ-with-entry : Measures 12 with-entry-kinds.ps ℕ
-μ-with-entry κs a = ?
+μ-with-entry κs a = 8 * nans (a .0 .now) + 4
 
 abbrev calculate-value-at : ℕ → In 12 calculate-value-kinds.ps
 calculate-value-at t =
@@ -174,13 +189,13 @@ calculate-value-slice-read-v : (t : ℕ) → calculate-value-lts.Need-slice-read
   evaluated-below t,
   evaluated.Post,
 ) (calculate-value-at t) calculate-value.Post
-calculate-value-slice-read-v t c = search needs
+calculate-value-slice-read-v t c = omega (arith, c .before .before .before .before .before .pre .1 .1, value-long (c .before .before .before .before .before .pre .1 .0 .holds), c .before .before .before .before .before .pre .1 .0 .told .held .long)
 
 calculate-value-returns : (t : ℕ) → calculate-value-lts.Need-returns (
   evaluated-below t,
   evaluated.Post,
 ) (calculate-value-at t) calculate-value.Post
-calculate-value-returns t c = search needs
+calculate-value-returns t c = λ h. starting.known-row h (c .before .before .before .before .before .before .args .row) (c .before .before .before .before .before .before .pre .1 .1) (c .before .before .before .before .before .before .args .left) (c .if1 .taken)
 
 calculate-value-mul-object : (t : ℕ) → calculate-value-lts.Need-mul-object (
   evaluated-below t,
@@ -204,7 +219,7 @@ calculate-value-returns-2 : (t : ℕ) → calculate-value-lts.Need-returns-2 (
   evaluated-below t,
   evaluated.Post,
 ) (calculate-value-at t) calculate-value.Post
-calculate-value-returns-2 t c = search needs
+calculate-value-returns-2 t c = λ h. starting.deep-row h (c .before .before .before .before .before .before .before .before .args .row) (c .before .before .before .before .before .before .before .before .pre .1 .1) (c .before .before .before .before .before .before .before .before .args .left) (c .before .if2 .taken) refl (c .before .before .if1 .left)
 
 calculate-value-mul-base : (t : ℕ) → calculate-value-lts.Need-mul-base (
   evaluated-below t,
@@ -228,7 +243,7 @@ calculate-value-slice-write-values : (t : ℕ) → calculate-value-lts.Need-slic
   evaluated-below t,
   evaluated.Post,
 ) (calculate-value-at t) calculate-value.Post
-calculate-value-slice-write-values t c = search needs
+calculate-value-slice-write-values t c = omega (arith, c .before .before .before .before .before .before .before .before .pre .1 .1, value-long (c .before .before .before .before .before .before .before .before .pre .1 .0 .holds), c .before .before .before .before .before .before .before .before .pre .1 .0 .told .held .long)
 
 calculate-value-sub-evaluated : (t : ℕ) → calculate-value-lts.Need-sub-evaluated (
   evaluated-below t,
@@ -240,7 +255,7 @@ calculate-value-evaluated-requires : (t : ℕ) → calculate-value-lts.Need-eval
   evaluated-below t,
   evaluated.Post,
 ) (calculate-value-at t) calculate-value.Post
-calculate-value-evaluated-requires t c κs = search needs
+calculate-value-evaluated-requires t c κs = (omega (arith, c .before .before .before .before .before .before .before .before .before .before .before .pre .0, starting.fewer (c .before .before .before .before .before .before .before .before .before .before .before .pre .1 .0) (c .before .before .before .before .before .before .before .before .before .before .before .args .row) (c .before .before .before .before .before .before .before .before .before .before .before .pre .1 .1) (c .before .before .before .before .before .if1 .left)), starting.starts (c .before .before .before .before .before .before .before .before .before .before .before .pre .1 .0) (c .before .before .before .before .before .before .before .before .before .before .before .args .row) (c .before .before .before .before .before .before .before .before .before .before .before .pre .1 .1) (c .before .before .before .before .before .if1 .left))
 
 calculate-value-enum-known-got : (t : ℕ) → calculate-value-lts.Need-enum-known-got (
   evaluated-below t,
@@ -252,13 +267,13 @@ calculate-value-mul-values-2 : (t : ℕ) → calculate-value-lts.Need-mul-values
   evaluated-below t,
   evaluated.Post,
 ) (calculate-value-at t) calculate-value.Post
-calculate-value-mul-values-2 t c = search needs
+calculate-value-mul-values-2 t c = let k = simp length-set at (c .before .before .before .before .before .before .before .evaluated .kept .0) in omega (arith, c .before .before .before .before .before .before .before .before .before .before .before .before .before .before .before .before .before .before .before .fits, c .before .before .before .before .before .before .before .before .before .before .before .before .before .before .before .before .before .before .before .good, c .before .before .before .before .before .before .before .before .before .before .before .before .before .before .before .before .before .before .before .pre .1 .1, value-long (c .before .before .before .before .before .before .before .before .before .before .before .before .before .before .before .before .before .before .before .pre .1 .0 .holds), c .before .before .before .before .before .before .before .before .before .before .before .before .before .before .before .before .before .before .before .pre .1 .0 .told .held .long)
 
 calculate-value-slice-write-values-2 : (t : ℕ) → calculate-value-lts.Need-slice-write-values-2 (
   evaluated-below t,
   evaluated.Post,
 ) (calculate-value-at t) calculate-value.Post
-calculate-value-slice-write-values-2 t c = search needs
+calculate-value-slice-write-values-2 t c = let k = simp length-set at (c .before .before .before .before .before .before .before .evaluated .kept .0) in omega (arith, c .before .before .before .before .before .before .before .before .before .before .before .before .before .before .before .before .before .before .before .fits, c .before .before .before .before .before .before .before .before .before .before .before .before .before .before .before .before .before .before .before .good, c .before .before .before .before .before .before .before .before .before .before .before .before .before .before .before .before .before .before .before .pre .1 .1, value-long (c .before .before .before .before .before .before .before .before .before .before .before .before .before .before .before .before .before .before .before .pre .1 .0 .holds), c .before .before .before .before .before .before .before .before .before .before .before .before .before .before .before .before .before .before .before .pre .1 .0 .told .held .long)
 
 calculate-value-enum-known-got-2 : (t : ℕ) → calculate-value-lts.Need-enum-known-got-2 (
   evaluated-below t,
@@ -270,7 +285,7 @@ calculate-value-same-length : (t : ℕ) → calculate-value-lts.Need-same-length
   evaluated-below t,
   evaluated.Post,
 ) (calculate-value-at t) calculate-value.Post
-calculate-value-same-length t c = search needs
+calculate-value-same-length t c = simp length-set (simp length-set at (c .before .before .before .before .before .before .before .evaluated .kept .0))
 
 calculate-value-same-length-2 : (t : ℕ) → calculate-value-lts.Need-same-length-2 (
   evaluated-below t,
@@ -288,13 +303,13 @@ calculate-value-returns-3 : (t : ℕ) → calculate-value-lts.Need-returns-3 (
   evaluated-below t,
   evaluated.Post,
 ) (calculate-value-at t) calculate-value.Post
-calculate-value-returns-3 t c = search needs
+calculate-value-returns-3 t c = λ h. starting.ends h (c .before .before .before .before .before .before .before .before .before .before .before .before .before .before .before .before .before .before .before .args .row) (c .before .before .before .before .before .before .before .before .before .before .before .before .before .before .before .before .before .before .before .pre .1 .1) (c .before .before .before .before .before .before .before .before .before .before .before .before .before .if1 .left) (c .before .before .before .before .before .before .before .before .before .before .before .before .before .before .before .before .before .before .before .args .left) (c .before .before .before .before .before .before .before .before .before .before .before .before .if2 .left) _ _ _ _ _ (rw (c .before .got .given .1) at (c .before .before .before .before .before .before .before .evaluated .ensures (starting.starts h (c .before .before .before .before .before .before .before .before .before .before .before .before .before .before .before .before .before .before .before .args .row) (c .before .before .before .before .before .before .before .before .before .before .before .before .before .before .before .before .before .before .before .pre .1 .1) (c .before .before .before .before .before .before .before .before .before .before .before .before .before .if1 .left))))
 
 calculate-value-same-length-4 : (t : ℕ) → calculate-value-lts.Need-same-length-4 (
   evaluated-below t,
   evaluated.Post,
 ) (calculate-value-at t) calculate-value.Post
-calculate-value-same-length-4 t c = search needs
+calculate-value-same-length-4 t c = simp length-set at (c .before .before .before .before .before .before .before .evaluated .kept .0)
 
 calculate-value-same-length-5 : (t : ℕ) → calculate-value-lts.Need-same-length-5 (
   evaluated-below t,
@@ -312,7 +327,7 @@ calculate-value-returns-4 : (t : ℕ) → calculate-value-lts.Need-returns-4 (
   evaluated-below t,
   evaluated.Post,
 ) (calculate-value-at t) calculate-value.Post
-calculate-value-returns-4 t c = search needs
+calculate-value-returns-4 t c = λ h. starting.ends-refused h (c .before .before .before .before .before .before .before .before .before .before .before .before .before .before .before .before .before .before .before .args .row) (c .before .before .before .before .before .before .before .before .before .before .before .before .before .before .before .before .before .before .before .pre .1 .1) (c .before .before .before .before .before .before .before .before .before .before .before .before .before .if1 .left) (c .before .before .before .before .before .before .before .before .before .before .before .before .before .before .before .before .before .before .before .args .left) (c .before .before .before .before .before .before .before .before .before .before .before .before .if2 .left) _ _ _ _ (rw (c .before .got2 .given .1) at (c .before .before .before .before .before .before .before .evaluated .ensures (starting.starts h (c .before .before .before .before .before .before .before .before .before .before .before .before .before .before .before .before .before .before .before .args .row) (c .before .before .before .before .before .before .before .before .before .before .before .before .before .before .before .before .before .before .before .pre .1 .1) (c .before .before .before .before .before .before .before .before .before .before .before .before .before .if1 .left))))
 
 calculated-value-find-requires : (t : ℕ) → calculated-value-lts.Need-find-requires (
   find-reads.Asked,
@@ -343,7 +358,7 @@ calculated-value-calculate-value-requires :
       get-dogma-attribute-reads.Asked,
       get-dogma-attribute-reads.Learnt,
     ) (calculated-value-at t) calculated-value.Post
-calculated-value-calculate-value-requires t c κs = search needs
+calculated-value-calculate-value-requires t c κs = (omega (arith, c .before .before .before .before .before .before .before .before .before .before .before .pre .0), (c .before .before .before .before .before .before .before .before .before .before .before .pre .1 .0, finding.found-inside (c .before .before .before .before .before .before .before .before .before .before .before .pre .1 .0) (c .before .before .before .before .before .before .before .before .before .before .before .args .object) (c .before .before .before .before .before .before .before .before .before .before .before .args .attribute) _ (rw (toZ-ofZ (c .before .before .before .before .before .before .before .before .before .before .before .fits .attribute), c .before .before .before .before .found .given .1) at (c .before .before .before .before .before .before .find .ensures (c .before .before .before .before .before .before .before .before .before .before .before .pre .1 .0 .world .rows) (c .before .before .before .before .before .before .before .before .before .before .before .pre .1 .0 .told .held) (c .before .before .before .before .before .before .before .before .before .before .before .pre .1 .0 .told .stretched)))))
 
 calculated-value-enum-told : (t : ℕ) → calculated-value-lts.Need-enum-told (
   find-reads.Asked,
@@ -404,7 +419,7 @@ calculated-value-returns : (t : ℕ) → calculated-value-lts.Need-returns (
   get-dogma-attribute-reads.Asked,
   get-dogma-attribute-reads.Learnt,
 ) (calculated-value-at t) calculated-value.Post
-calculated-value-returns t c = search needs
+calculated-value-returns t c = λ h. finding.found-meets h (c .before .before .before .before .before .before .before .before .before .before .before .before .before .before .before .before .args .object) (c .before .before .before .before .before .before .before .before .before .before .before .before .before .before .before .before .args .attribute) (c .before .before .before .before .before .before .before .before .before .before .before .before .before .before .before .before .args .left) _ (rw (toZ-ofZ (c .before .before .before .before .before .before .before .before .before .before .before .before .before .before .before .before .fits .attribute), c .before .before .before .before .before .before .before .before .before .found .given .1) at (c .before .before .before .before .before .before .before .before .before .before .before .find .ensures (h .world .rows) (h .told .held) (h .told .stretched))) _ _ _ _ (c .before .before .before .before .calculate-value .ensures h)
 
 calculated-value-returns-2 : (t : ℕ) → calculated-value-lts.Need-returns-2 (
   find-reads.Asked,
@@ -414,7 +429,7 @@ calculated-value-returns-2 : (t : ℕ) → calculated-value-lts.Need-returns-2 (
   get-dogma-attribute-reads.Asked,
   get-dogma-attribute-reads.Learnt,
 ) (calculated-value-at t) calculated-value.Post
-calculated-value-returns-2 t c = search needs
+calculated-value-returns-2 t c = λ h. finding.absent-meets h (c .before .before .before .before .before .before .before .before .args .object) (c .before .before .before .before .before .before .before .before .args .attribute) (c .before .before .before .before .before .before .before .before .args .left) (rw (toZ-ofZ (c .before .before .before .before .before .before .before .before .fits .attribute), c .before .enum-told .given .1) at (c .before .before .before .find .ensures (h .world .rows) (h .told .held) (h .told .stretched))) _ (ap (λ (r : DogmaAttribute). r .«default_value») (rw (toZ-ofZ (c .before .before .before .before .before .before .before .before .fits .attribute)) at (c .get-dogma-attribute .ensures)))
 
 evaluated-mul-signed : (t : ℕ) → evaluated-lts.Need-mul-signed (
   signed-reads.Asked,
@@ -893,10 +908,10 @@ evaluated-returns-4 : (t : ℕ) → evaluated-lts.Need-returns-4 (
 evaluated-returns-4 t c = search needs
 
 abbrev gathered-Inv-loop : gathered-lts.InvT-loop
-gathered-Inv-loop values₀ sources₀ floats₀ book pairs states stretches limits rows bases entries entry-values run row operator high left found own used count p₀ k₀ values sources floats p k = ?
+gathered-Inv-loop values₀ sources₀ floats₀ book pairs states stretches limits rows bases entries entry-values run row operator high left found own used count p₀ k₀ values sources floats p k = ((k ≤ count) × (length values ≡ length values₀) × (length sources ≡ length sources₀) × (length floats ≡ length floats₀)) × ((h : Busy (tables book pairs states stretches limits rows bases entries entry-values) run values₀ sources₀ floats₀ used row own (operator ∷ [])) → Gathering (h .ready .world) (h .ready .sources₀) (h .ready .floats₀) left row high operator found (h .ready .mem) k values sources floats p)
 
 abbrev gathered-μ-loop : gathered-lts.MeasureT-loop
-gathered-μ-loop values₀ sources₀ floats₀ book pairs states stretches limits rows bases entries entry-values run row operator high left found own used count p₀ k₀ values sources floats p k = ?
+gathered-μ-loop values₀ sources₀ floats₀ book pairs states stretches limits rows bases entries entry-values run row operator high left found own used count p₀ k₀ values sources floats p k = count - k
 
 gathered-mul-count : (t : ℕ) → gathered-lts.Need-mul-count (
   empty-reads.Asked,
@@ -1174,7 +1189,7 @@ limited-returns : (t : ℕ) → limited-lts.Need-returns (
   held-to-reads.Asked,
   held-to-reads.Learnt,
 ) (limited-at t) limited.Post
-limited-returns t c = search needs
+limited-returns t c = λ h. limiting.not-limited _ _ _ _ _ _ (c .before .before .before .before .before .args .object) _ (c .before .before .before .before .before .args .least) (c .before .before .before .before .before .args .limit) (c .before .before .before .before .before .args .v) _ (same-bits (c .before .before .before .before .before .fits .limit) (search needs) (c .if1 .taken)) (c .before .before .before .before .before .pre .1 .1 .1) (h .holds)
 
 limited-calculated-value-requires : (t : ℕ) → limited-lts.Need-calculated-value-requires (
   calculated-value-below t,
@@ -1230,7 +1245,7 @@ limited-returns-2 : (t : ℕ) → limited-lts.Need-returns-2 (
   held-to-reads.Asked,
   held-to-reads.Learnt,
 ) (limited-at t) limited.Post
-limited-returns-2 t c = search needs
+limited-returns-2 t c = λ h. limiting.limit-refused _ _ _ _ _ _ (c .before .before .before .before .before .before .before .before .before .before .before .before .before .before .before .args .object) _ (c .before .before .before .before .before .before .before .before .before .before .before .before .before .before .before .args .least) (c .before .before .before .before .before .before .before .before .before .before .before .before .before .before .before .args .limit) (c .before .before .before .before .before .before .before .before .before .before .before .before .before .before .before .args .v) _ (tested-apart (c .before .before .before .before .before .before .before .before .before .before .before .before .before .before .before .fits .limit) (search needs) (c .before .before .before .before .before .before .before .before .before .before .if1 .left)) _ _ (c .enum-told .given .1) (rw (toZ-ofZ (c .before .before .before .before .before .before .before .before .before .before .before .before .before .before .before .fits .limit)) at (c .before .before .before .before .before .before .calculated-value .ensures h))
 
 limited-held-to-requires : (t : ℕ) → limited-lts.Need-held-to-requires (
   calculated-value-below t,
@@ -1270,13 +1285,13 @@ limited-returns-3 : (t : ℕ) → limited-lts.Need-returns-3 (
   held-to-reads.Asked,
   held-to-reads.Learnt,
 ) (limited-at t) limited.Post
-limited-returns-3 t c = search needs
+limited-returns-3 t c = λ h. rw (c .held-to .ensures) (limiting.limit-held _ _ _ _ _ _ (c .before .before .before .before .before .before .before .before .before .before .before .before .before .before .before .before .before .args .object) _ (c .before .before .before .before .before .before .before .before .before .before .before .before .before .before .before .before .before .args .least) (c .before .before .before .before .before .before .before .before .before .before .before .before .before .before .before .before .before .args .limit) (c .before .before .before .before .before .before .before .before .before .before .before .before .before .before .before .before .before .args .v) _ (tested-apart (c .before .before .before .before .before .before .before .before .before .before .before .before .before .before .before .before .before .fits .limit) (search needs) (c .before .before .before .before .before .before .before .before .before .before .before .before .if1 .left)) _ _ (c .before .before .before .before .before .before .before .before .before .before .before .before .before .before .before .before .before .pre .1 .1 .1) (rw (toZ-ofZ (c .before .before .before .before .before .before .before .before .before .before .before .before .before .before .before .before .before .fits .limit), c .before .before .got .given .1) at (c .before .before .before .before .before .before .before .before .calculated-value .ensures h)))
 
 abbrev operated-Inv-loop : operated-lts.InvT-loop
-operated-Inv-loop values₀ sources₀ floats₀ book pairs states stretches limits rows bases entries entry-values run row high left used first end value₀ own₀ u₀ code₀ values sources floats value own u code = ?
+operated-Inv-loop values₀ sources₀ floats₀ book pairs states stretches limits rows bases entries entry-values run row high left used first end value₀ own₀ u₀ code₀ values sources floats value own u code = ((code ≤ 9) × (length values ≡ length values₀) × (length sources ≡ length sources₀) × (length floats ≡ length floats₀)) × ((h : Busy (tables book pairs states stretches limits rows bases entries entry-values) run values₀ sources₀ floats₀ used row 0 operators) → Operating (h .ready .world) (h .ready .sources₀) (h .ready .floats₀) left row (h .ready .mem) code values sources floats value own u)
 
 abbrev operated-μ-loop : operated-lts.MeasureT-loop
-operated-μ-loop values₀ sources₀ floats₀ book pairs states stretches limits rows bases entries entry-values run row high left used first end value₀ own₀ u₀ code₀ values sources floats value own u code = ?
+operated-μ-loop values₀ sources₀ floats₀ book pairs states stretches limits rows bases entries entry-values run row high left used first end value₀ own₀ u₀ code₀ values sources floats value own u code = 9 - code
 
 operated-mul-first : (t : ℕ) → operated-lts.Need-mul-first (
   operator-of-reads.Asked,
@@ -1648,7 +1663,7 @@ resisted-returns : (t : ℕ) → resisted-lts.Need-returns (
   product-reads.Asked,
   product-reads.Learnt,
 ) (resisted-at t) resisted.Post
-resisted-returns t c = search needs
+resisted-returns t c = λ h i row o. rw (c .before .before .before .before .before .before .before .before .before .before .before .resistance .given .1) (limiting.resist-refused _ _ _ _ _ _ i row _ (c .before .before .before .before .before .before .before .before .before .before .before .before .before .before .before .before .before .args .v) _ _ _ _ (c .enum-told2 .given .1) (rw (toZ-ofZ (c .before .before .before .before .before .before .before .before .before .before .known-told .given .0)) at (c .before .before .before .before .before .before .calculated-value .ensures h)))
 
 resisted-product-requires : (t : ℕ) → resisted-lts.Need-product-requires (
   calculated-value-below t,
@@ -1680,7 +1695,7 @@ resisted-returns-2 : (t : ℕ) → resisted-lts.Need-returns-2 (
   product-reads.Asked,
   product-reads.Learnt,
 ) (resisted-at t) resisted.Post
-resisted-returns-2 t c = search needs
+resisted-returns-2 t c = λ h i row o. rw (c .enum-told .given .1) (limiting.not-resisted _ _ _ _ _ _ i row _ (c .before .before .before .before .before .before .args .v) _ (c .before .before .before .before .before .before .pre .1 .1) (h .holds))
 
 resisted-same-length-4 : (t : ℕ) → resisted-lts.Need-same-length-4 (
   calculated-value-below t,
@@ -1712,7 +1727,7 @@ resisted-returns-3 : (t : ℕ) → resisted-lts.Need-returns-3 (
   product-reads.Asked,
   product-reads.Learnt,
 ) (resisted-at t) resisted.Post
-resisted-returns-3 t c = search needs
+resisted-returns-3 t c = λ h i row o. rw (c .before .before .before .before .before .before .before .before .before .before .before .before .before .before .before .before .resistance .given .1) (limiting.resist-made _ _ _ _ _ _ i row _ (c .before .before .before .before .before .before .before .before .before .before .before .before .before .before .before .before .before .before .before .before .before .before .args .v) _ _ _ _ (rw (toZ-ofZ (c .before .before .before .before .before .before .before .before .before .before .before .before .before .before .before .known-told .given .0), c .before .before .before .before .before .got .given .1) at (c .before .before .before .before .before .before .before .before .before .before .before .calculated-value .ensures h)) _ (sym (c .before .before .before .product .ensures) ∙ c .before .step .given .1) (limiting.product-good _ _ (sym (c .before .before .before .product .ensures) ∙ c .before .step .given .1)))
 
 resisted-same-length-7 : (t : ℕ) → resisted-lts.Need-same-length-7 (
   calculated-value-below t,
@@ -1744,7 +1759,7 @@ resisted-returns-4 : (t : ℕ) → resisted-lts.Need-returns-4 (
   product-reads.Asked,
   product-reads.Learnt,
 ) (resisted-at t) resisted.Post
-resisted-returns-4 t c = search needs
+resisted-returns-4 t c = λ h i row o. rw (c .before .before .before .before .before .before .before .before .before .before .before .before .before .before .before .resistance .given .1) (limiting.resist-not-finite _ _ _ _ _ _ i row _ (c .before .before .before .before .before .before .before .before .before .before .before .before .before .before .before .before .before .before .before .before .before .args .v) _ _ _ _ (rw (toZ-ofZ (c .before .before .before .before .before .before .before .before .before .before .before .before .before .before .known-told .given .0), c .before .before .before .before .got .given .1) at (c .before .before .before .before .before .before .before .before .before .before .calculated-value .ensures h)) (sym (c .before .before .product .ensures) ∙ c .enum-told3 .given .1) o)
 
 strength-enum-known-origin : (t : ℕ) → strength-lts.Need-enum-known-origin (
   calculated-value-below t,
