@@ -1,2 +1,4 @@
 pub mod All
 pub mod Bases
+pub mod Taken
+pub mod Entries
