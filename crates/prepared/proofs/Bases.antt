@@ -1,8 +1,8 @@
 -- Of a sound sheet every row's base is finite, and its attribute id has 32 bits.
-use Prim.Native.Nat.{ℕ, zero, suc, _<_}
+use Prim.Native.Nat.{ℕ, _<_}
 use mathlib.Core.Path.{_≡_, refl, sym, ap, subst, _∙_}
 use mathlib.Core.Bool.{Bool, true}
-use mathlib.Core.List.{List, [], _∷_, map}
+use mathlib.Core.List.{List, map}
 use mathlib.Core.Option.{Option, none, some, Option·getD}
 use lib.Dec.{T}
 use lib.IntN.{ℤ}
@@ -12,7 +12,7 @@ use lib.ListN.{length, getD, drop}
 use mir.Syntax.{w32}
 use mir.Val.{SFits}
 use Rattle.laws.specs.Floats.{finite}
-use Rattle.laws.specs.Lists.{eqZ, every?, first, flat, from, insertAll, ascends}
+use Rattle.laws.specs.Lists.{eqZ, every?, first, from, ascends}
 use Rattle.laws.proofs.Bools.{and-left}
 use Rattle.laws.proofs.Every.{every-take, every-drop}
 use Rattle.rules.specs.Bytes.{u32At, countOf, recordAt}
@@ -29,7 +29,7 @@ use Rattle.info.proofs.Defaults.{first-or-passes, defaults-finite}
 use Rattle.hits.proofs.Narrow.{signed-narrow}
 use Rattle.reading.specs.Held.{noRow}
 use Rattle.prepared.specs.SoundRows.{AllOf}
-use Rattle.prepared.proofs.All.{all-at, all-each, all-keep, all-take, all-drop, all-map, all-flat, all-weaker, all-inserted}
+use Rattle.prepared.proofs.All.{all-at, all-each, all-keep, all-take, all-drop, all-map, all-flat, all-inserted}
 
 -- what holds of each row that an object may have
 module _ (P : Row → Type 0) (k : Book) (f : Fit) (ts : List Pass2Effect) where

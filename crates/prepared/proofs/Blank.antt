@@ -9,12 +9,11 @@ use lib.ListN.{length, getD, take, replicate, length-map}
 use Rattle.rules.specs.Dispatch.{Row}
 use Rattle.rules.specs.Columns.{sourceNumbers, sourceFloats}
 use Rattle.rules.specs.Outcome.{blank}
-use Rattle.rules.specs.Value.{World, Mem, ownSources}
+use Rattle.rules.specs.Value.{World, ownSources}
 use Rattle.rules.specs.declared.Source.{Source}
 use Rattle.sources.specs.Shown.{filled, places, overlaid, shown}
 use Rattle.sources.specs.Planned.{countsOf}
-use Rattle.sources.specs.Keeping.{Keeping}
-use Rattle.memory.specs.Memory.{valueAt, valueColumn}
+use Rattle.memory.specs.Memory.{valueColumn}
 use Rattle.memory.specs.Holding.{Holds}
 use Rattle.prepared.specs.SoundRows.{AllOf}
 use Rattle.prepared.proofs.All.{all-append, all-take}

@@ -2,8 +2,8 @@
 use Prim.Native.Nat.{ℕ, zero, suc, _+_, _≤_, _<_}
 use native.Mathlib.Nat.{not-suc-le-zero, zero-add, add-assoc}
 use native.Mathlib.Omega.{arith}
-use mathlib.Core.Path.{_≡_, refl, sym, ap, subst, _∙_}
-use mathlib.Core.List.{List, [], _∷_, _++_, map}
+use mathlib.Core.Path.{_≡_, ap, _∙_}
+use mathlib.Core.List.{List, [], _∷_, map}
 use lib.IntN.{ℤ}
 use lib.ListN.{length, getD, take, length-append, List·getD-append}
 use lib.Seq.{getD-append-add}
@@ -14,7 +14,7 @@ use Rattle.rules.specs.Dispatch.{Row, entry, hit, hitsOn, idsOf, rowOf, rows}
 use Rattle.rules.specs.declared.Effect.{Effect}
 use Rattle.rules.specs.declared.Item.{Item}
 use Rattle.rules.specs.declared.Pass2Effect.{Pass2Effect}
-use Rattle.reading.specs.Held.{NarrowOrigin, NarrowId, Sourced, noRow}
+use Rattle.reading.specs.Held.{noRow}
 use Rattle.prepared.specs.SoundRows.{AllOf, Fair, Readable}
 use Rattle.prepared.proofs.All.{all-at, all-each, all-append, all-keep, all-map, all-weaker}
 use Rattle.prepared.proofs.Bases.{all-rows}
@@ -39,11 +39,6 @@ module _ (k : Book) (f : Fit) (ts : List Pass2Effect) (h : AllOf Fair ts) where
   pub entry-at : (i j : ℕ) (d : Effect) → i < length (rows k f ts) → j < length (getD (rows k f ts) i noRow .entries) → Readable (getD (getD (rows k f ts) i noRow .entries) j d)
   entry-at i j d l m = all-at Readable (getD (rows k f ts) i noRow .entries) (all-at (λ (r : Row). AllOf Readable (r .entries)) (rows k f ts) rows-readable i noRow l) j d m
 
--- all of them
-pub flat-readable : (rs : List Row) → AllOf (λ (r : Row). AllOf Readable (r .entries)) rs → AllOf Readable (flat (λ r. r .entries) rs)
-flat-readable [] a = tt
-flat-readable (r ∷ rs) a = all-append Readable (r .entries) (flat (λ x. x .entries) rs) (a .0) (flat-readable rs (a .1))
-
 -- ---- where those of row i stand
 
 abbrev pub before : List Row → ℕ → ℕ
@@ -51,6 +46,11 @@ before rs i = total (take i (map (λ r. length (r .entries)) rs))
 
 abbrev pub allOf : List Row → List Effect
 allOf rs = flat (λ r. r .entries) rs
+
+-- all of them
+pub flat-readable : (rs : List Row) → AllOf (λ (r : Row). AllOf Readable (r .entries)) rs → AllOf Readable (allOf rs)
+flat-readable [] a = tt
+flat-readable (r ∷ rs) a = all-append Readable (r .entries) (allOf rs) (a .0) (flat-readable rs (a .1))
 
 pub inside-all : (rs : List Row) (i : ℕ) → before rs i + length (getD rs i noRow .entries) ≤ length (allOf rs)
 inside-all [] zero = omega arith

@@ -5,4 +5,5 @@ pub mod Entries
 pub mod Sheets
 pub mod Running
 pub mod Blank
+pub mod Planning
 pub mod Told

@@ -7,7 +7,6 @@ use mathlib.Core.List.{List}
 use lib.Dec.{ltb}
 use lib.ListN.{length, getD}
 use borrow.Author.Tests.{ltb-true}
-use Rattle.laws.specs.Lists.{every?}
 use Rattle.laws.proofs.Every.{every-at}
 use Rattle.rules.specs.Sheet.{Book, Fit, bookOf, fitOf}
 use Rattle.rules.specs.Dispatch.{Row, rows}

@@ -1,16 +1,12 @@
 -- Of a sound sheet every collected effect may be an entry: its source is an object, its ids have 32 bits, and what a buff gives is finite.
 use Prim.Native.Nat.{ℕ, _<_, _≤_}
 use native.Mathlib.Omega.{arith}
-use mathlib.Core.Path.{_≡_, refl, sym, ap, subst, _∙_}
+use mathlib.Core.Path.{_≡_, sym, ap, subst, _∙_}
 use mathlib.Core.Bool.{true}
 use mathlib.Core.List.{List}
 use lib.Dec.{T}
-use lib.Ieee.{Float}
 use lib.ListN.{length, getD}
-use mir.Syntax.{w32}
-use mir.Val.{SFits}
 use Rattle.laws.specs.Floats.{finite, zeroF}
-use Rattle.laws.specs.Lists.{every?}
 use Rattle.laws.proofs.Every.{every-at}
 use Rattle.rules.specs.Sheet.{Book, Fit, bookOf, fitOf}
 use Rattle.rules.specs.Shape.{buffsGood}

@@ -2,7 +2,7 @@
 use Prim.Native.Nat.{ℕ, _+_, _≤_, _<_}
 use native.Mathlib.Omega.{arith}
 use mathlib.Core.Path.{_≡_, refl, sym, ap, subst, _∙_}
-use mathlib.Core.List.{List, [], _∷_, map}
+use mathlib.Core.List.{List, [], map}
 use lib.Ieee.{Float, nan}
 use lib.ListN.{length, getD, take, drop, length-map, length-append}
 use lib.Seq.{getD-take, length-take-le}
@@ -11,7 +11,6 @@ use Rattle.rules.specs.Sheet.{bookOf, fitOf}
 use Rattle.rules.specs.Dispatch.{Row}
 use Rattle.rules.specs.Columns.{entryNumbers, originValue}
 use Rattle.rules.specs.Outcome.{rowsIn, worldOf}
-use Rattle.rules.specs.States.{statesOf}
 use Rattle.rules.specs.Value.{World, stateOf}
 use Rattle.rules.specs.declared.Effect.{Effect}
 use Rattle.info.specs.Sound.{SoundBook, SoundFit}
@@ -27,7 +26,7 @@ use Rattle.plan.proofs.Numbers.{planned-long, planned-first, planned-entries, p
 use Rattle.memory.specs.Holding.{Tables, tables, RowTold, Told}
 use Rattle.prepared.specs.SoundRows.{SoundRows}
 use Rattle.prepared.proofs.Entries.{before, allOf, inside-all, flat-at}
-use Rattle.prepared.proofs.Running.{state-at}
+use Rattle.prepared.proofs.Running.{states-agree}
 use Rattle.prepared.proofs.Sheets.{sound-rows}
 
 -- in any world with such rows
@@ -112,4 +111,4 @@ module _ (book fit : List ℕ) (pairs : List (List ℕ)) (sb : SoundBook book pa
   unfolding worldOf
   told r′ {st = st} {stretches} {limits} L states P run a c s l =
       told-in (worldOf (bookOf book pairs) (fitOf fit pairs) room) book pairs st stretches limits r′ (sound-rows book fit pairs sb sf) L P sb refl run a c s l
-      (λ o h. ap (λ (x : List (List ℕ)). getD (getD x o []) 0 0) states ∙ state-at (map (statesOf (bookOf book pairs) (fitOf fit pairs)) (fitOf fit pairs .objects)) o h)
+      (states-agree (bookOf book pairs) (fitOf fit pairs) room st states)
