@@ -1,0 +1,30 @@
+-- Made by `answers` from Proof.answers: edit that file.
+-- `zero_10` meets its contract. Assumes nothing.
+use Rattle.clear.proofs.zero_10.Statement.{statement}
+use Rattle.clear.proofs.zero_10.Tie as tie
+use borrow.Author.Needs.{needs}
+use Prim.Native.Nat.{_-_}
+use mathlib.Core.Path.{refl}
+use lib.ListN.{replicate}
+use Rattle.clear.proofs.Zeros.{Clearing, clearing-none, clearing-next, clearing-end}
+
+abbrev Inv-loop : tie.InvT-loop
+Inv-loop c₀ from n i₀ c i = Clearing (replicate 10 0) from c₀ c i
+
+abbrev μ-loop : tie.MeasureT-loop
+μ-loop c₀ from n i₀ c i = n - i
+
+pub zero-10-spec : {M : Type 1} → statement M
+zero-10-spec =
+    tie.close
+    (tie.spec
+    Inv-loop
+    μ-loop
+    (λ c. clearing-none (replicate 10 0) _ _)
+    (λ c. search needs)
+    (λ c. search needs)
+    (λ c. search needs)
+    (λ c. search needs)
+    (λ c. clearing-next (replicate 10 0) (c .before .loop .inv) (c .loop-test .taken) refl)
+    (λ c. c .before .loop .inv .long)
+    (λ c. clearing-end (replicate 10 0) (c .before .loop .inv) (c .loop-test .left)))

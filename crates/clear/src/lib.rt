@@ -1,0 +1,159 @@
+// Unused ends are zero: every column that is lent, and the states, cleared behind the counts in one pass. With counts of 0 all is zero.
+ghost use mathlib.Core.Path.{_≡_};
+ghost use lib.ListN.{length, replicate};
+ghost use Rattle.laws.specs.Floats.{zeroF};
+ghost use Rattle.clear.specs.Ends.{cleared};
+
+// ---- one column: zero from a place on; a place past the end changes nothing
+
+fn zero_14(c: &mut [[u32; 14]], from: usize)
+    ensures { λ _. ⌜ now (c .exit) ≡ cleared (replicate 14 0) from (now (c .entry)) ⌝ }
+{
+    let n = c.len();
+    let mut i = from;
+    while i < n {
+        c[i] = [0; 14];
+        i += 1;
+    }
+}
+
+fn zero_11(c: &mut [[u32; 11]], from: usize)
+    ensures { λ _. ⌜ now (c .exit) ≡ cleared (replicate 11 0) from (now (c .entry)) ⌝ }
+{
+    let n = c.len();
+    let mut i = from;
+    while i < n {
+        c[i] = [0; 11];
+        i += 1;
+    }
+}
+
+fn zero_10(c: &mut [[u32; 10]], from: usize)
+    ensures { λ _. ⌜ now (c .exit) ≡ cleared (replicate 10 0) from (now (c .entry)) ⌝ }
+{
+    let n = c.len();
+    let mut i = from;
+    while i < n {
+        c[i] = [0; 10];
+        i += 1;
+    }
+}
+
+fn zero_6(c: &mut [[u32; 6]], from: usize)
+    ensures { λ _. ⌜ now (c .exit) ≡ cleared (replicate 6 0) from (now (c .entry)) ⌝ }
+{
+    let n = c.len();
+    let mut i = from;
+    while i < n {
+        c[i] = [0; 6];
+        i += 1;
+    }
+}
+
+fn zero_2(c: &mut [[u32; 2]], from: usize)
+    ensures { λ _. ⌜ now (c .exit) ≡ cleared (replicate 2 0) from (now (c .entry)) ⌝ }
+{
+    let n = c.len();
+    let mut i = from;
+    while i < n {
+        c[i] = [0; 2];
+        i += 1;
+    }
+}
+
+fn zero_floats(c: &mut [f64], from: usize)
+    ensures { λ _. ⌜ now (c .exit) ≡ cleared zeroF from (now (c .entry)) ⌝ }
+{
+    let n = c.len();
+    let mut i = from;
+    while i < n {
+        c[i] = 0.0;
+        i += 1;
+    }
+}
+
+fn zero_pairs(c: &mut [[f64; 2]], from: usize)
+    ensures { λ _. ⌜ now (c .exit) ≡ cleared (replicate 2 zeroF) from (now (c .entry)) ⌝ }
+{
+    let n = c.len();
+    let mut i = from;
+    while i < n {
+        c[i] = [0.0; 2];
+        i += 1;
+    }
+}
+
+fn states_zeroed(given: [[u32; 2]; 1024], from: usize) -> [[u32; 2]; 1024]
+    ensures { λ r. ⌜ r ≡ cleared (replicate 2 0) from given ⌝ }
+    ensures { λ r. ⌜ length given ≡ 1024 ⌝ }
+{
+    let mut c = given;
+    let mut i = from;
+    while i < 1024 {
+        c[i] = [0; 2];
+        i += 1;
+    }
+    c
+}
+
+// A lent array is handed on by value: its length is told there alone.
+fn zero_states(c: &mut [[u32; 2]; 1024], from: usize)
+    ensures { λ _. ⌜ now (c .exit) ≡ cleared (replicate 2 0) from (now (c .entry)) ⌝ }
+    ensures { λ _. ⌜ length (now (c .entry)) ≡ 1024 ⌝ }
+{
+    let given = *c;
+    *c = states_zeroed(given, from);
+}
+
+// ---- all columns
+
+// How many elements of each list stay.
+pub struct Counts {
+    pub objects: usize,
+    pub collected: usize,
+    pub rows: usize,
+    pub entries: usize,
+    pub plain: usize,
+    pub sources: usize,
+}
+
+// Every column behind its count is zero.
+pub fn clear(
+    states: &mut [[u32; 2]; 1024],
+    collected: &mut [[u32; 14]],
+    collected_values: &mut [f64],
+    rows: &mut [[u32; 6]],
+    bases: &mut [f64],
+    values: &mut [f64],
+    entries: &mut [[u32; 11]],
+    entry_values: &mut [f64],
+    plain: &mut [[u32; 2]],
+    sources: &mut [[u32; 10]],
+    source_values: &mut [[f64; 2]],
+    counts: Counts,
+)
+    ensures { λ _. ⌜ now (collected .exit) ≡ cleared (replicate 14 0) (counts .collected) (now (collected .entry)) ⌝ }
+    ensures { λ _. ⌜ now («collected_values» .exit) ≡ cleared zeroF (counts .collected) (now («collected_values» .entry)) ⌝ }
+    ensures { λ _. ⌜ now (rows .exit) ≡ cleared (replicate 6 0) (counts .rows) (now (rows .entry)) ⌝ }
+    ensures { λ _. ⌜ now (bases .exit) ≡ cleared zeroF (counts .rows) (now (bases .entry)) ⌝ }
+    ensures { λ _. ⌜ now (values .exit) ≡ cleared zeroF (counts .rows) (now (values .entry)) ⌝ }
+    ensures { λ _. ⌜ now (entries .exit) ≡ cleared (replicate 11 0) (counts .entries) (now (entries .entry)) ⌝ }
+    ensures { λ _. ⌜ now («entry_values» .exit) ≡ cleared zeroF (counts .entries) (now («entry_values» .entry)) ⌝ }
+    ensures { λ _. ⌜ now (plain .exit) ≡ cleared (replicate 2 0) (counts .plain) (now (plain .entry)) ⌝ }
+    ensures { λ _. ⌜ now (sources .exit) ≡ cleared (replicate 10 0) (counts .sources) (now (sources .entry)) ⌝ }
+    ensures { λ _. ⌜ now («source_values» .exit) ≡ cleared (replicate 2 zeroF) (counts .sources) (now («source_values» .entry)) ⌝ }
+    ensures { λ _. ⌜ now (states .exit) ≡ cleared (replicate 2 0) (counts .objects) (now (states .entry)) ⌝ }
+    ensures { λ _. ⌜ length (now (states .entry)) ≡ 1024 ⌝ }
+{
+    zero_14(collected, counts.collected);
+    zero_floats(collected_values, counts.collected);
+    zero_6(rows, counts.rows);
+    zero_floats(bases, counts.rows);
+    zero_floats(values, counts.rows);
+    zero_11(entries, counts.entries);
+    zero_floats(entry_values, counts.entries);
+    zero_2(plain, counts.plain);
+    zero_10(sources, counts.sources);
+    zero_pairs(source_values, counts.sources);
+    zero_states(states, counts.objects);
+}
