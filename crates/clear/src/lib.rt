@@ -6,79 +6,79 @@ ghost use Rattle.clear.specs.Ends.{cleared};
 
 // ---- one column: zero from a place on; a place past the end changes nothing
 
-fn zero_14(c: &mut [[u32; 14]], from: usize)
-    ensures { λ _. ⌜ now (c .exit) ≡ cleared (replicate 14 0) from (now (c .entry)) ⌝ }
+fn zero_14(collected: &mut [[u32; 14]], from: usize)
+    ensures { λ _. ⌜ now (collected .exit) ≡ cleared (replicate 14 0) from (now (collected .entry)) ⌝ }
 {
-    let n = c.len();
+    let n = collected.len();
     let mut i = from;
     while i < n {
-        c[i] = [0; 14];
+        collected[i] = [0; 14];
         i += 1;
     }
 }
 
-fn zero_11(c: &mut [[u32; 11]], from: usize)
-    ensures { λ _. ⌜ now (c .exit) ≡ cleared (replicate 11 0) from (now (c .entry)) ⌝ }
+fn zero_11(entries: &mut [[u32; 11]], from: usize)
+    ensures { λ _. ⌜ now (entries .exit) ≡ cleared (replicate 11 0) from (now (entries .entry)) ⌝ }
 {
-    let n = c.len();
+    let n = entries.len();
     let mut i = from;
     while i < n {
-        c[i] = [0; 11];
+        entries[i] = [0; 11];
         i += 1;
     }
 }
 
-fn zero_10(c: &mut [[u32; 10]], from: usize)
-    ensures { λ _. ⌜ now (c .exit) ≡ cleared (replicate 10 0) from (now (c .entry)) ⌝ }
+fn zero_10(sources: &mut [[u32; 10]], from: usize)
+    ensures { λ _. ⌜ now (sources .exit) ≡ cleared (replicate 10 0) from (now (sources .entry)) ⌝ }
 {
-    let n = c.len();
+    let n = sources.len();
     let mut i = from;
     while i < n {
-        c[i] = [0; 10];
+        sources[i] = [0; 10];
         i += 1;
     }
 }
 
-fn zero_6(c: &mut [[u32; 6]], from: usize)
-    ensures { λ _. ⌜ now (c .exit) ≡ cleared (replicate 6 0) from (now (c .entry)) ⌝ }
+fn zero_6(rows: &mut [[u32; 6]], from: usize)
+    ensures { λ _. ⌜ now (rows .exit) ≡ cleared (replicate 6 0) from (now (rows .entry)) ⌝ }
 {
-    let n = c.len();
+    let n = rows.len();
     let mut i = from;
     while i < n {
-        c[i] = [0; 6];
+        rows[i] = [0; 6];
         i += 1;
     }
 }
 
-fn zero_2(c: &mut [[u32; 2]], from: usize)
-    ensures { λ _. ⌜ now (c .exit) ≡ cleared (replicate 2 0) from (now (c .entry)) ⌝ }
+fn zero_2(plain: &mut [[u32; 2]], from: usize)
+    ensures { λ _. ⌜ now (plain .exit) ≡ cleared (replicate 2 0) from (now (plain .entry)) ⌝ }
 {
-    let n = c.len();
+    let n = plain.len();
     let mut i = from;
     while i < n {
-        c[i] = [0; 2];
+        plain[i] = [0; 2];
         i += 1;
     }
 }
 
-fn zero_floats(c: &mut [f64], from: usize)
-    ensures { λ _. ⌜ now (c .exit) ≡ cleared zeroF from (now (c .entry)) ⌝ }
+fn zero_floats(floats: &mut [f64], from: usize)
+    ensures { λ _. ⌜ now (floats .exit) ≡ cleared zeroF from (now (floats .entry)) ⌝ }
 {
-    let n = c.len();
+    let n = floats.len();
     let mut i = from;
     while i < n {
-        c[i] = 0.0;
+        floats[i] = 0.0;
         i += 1;
     }
 }
 
-fn zero_pairs(c: &mut [[f64; 2]], from: usize)
-    ensures { λ _. ⌜ now (c .exit) ≡ cleared (replicate 2 zeroF) from (now (c .entry)) ⌝ }
+fn zero_pairs(pairs: &mut [[f64; 2]], from: usize)
+    ensures { λ _. ⌜ now (pairs .exit) ≡ cleared (replicate 2 zeroF) from (now (pairs .entry)) ⌝ }
 {
-    let n = c.len();
+    let n = pairs.len();
     let mut i = from;
     while i < n {
-        c[i] = [0.0; 2];
+        pairs[i] = [0.0; 2];
         i += 1;
     }
 }
@@ -87,22 +87,22 @@ fn states_zeroed(given: [[u32; 2]; 1024], from: usize) -> [[u32; 2]; 1024]
     ensures { λ r. ⌜ r ≡ cleared (replicate 2 0) from given ⌝ }
     ensures { λ r. ⌜ length given ≡ 1024 ⌝ }
 {
-    let mut c = given;
-    let mut i = from;
-    while i < 1024 {
-        c[i] = [0; 2];
-        i += 1;
+    let mut states = given;
+    let mut o = from;
+    while o < 1024 {
+        states[o] = [0; 2];
+        o += 1;
     }
-    c
+    states
 }
 
 // A lent array is handed on by value: its length is told there alone.
-fn zero_states(c: &mut [[u32; 2]; 1024], from: usize)
-    ensures { λ _. ⌜ now (c .exit) ≡ cleared (replicate 2 0) from (now (c .entry)) ⌝ }
-    ensures { λ _. ⌜ length (now (c .entry)) ≡ 1024 ⌝ }
+fn zero_states(states: &mut [[u32; 2]; 1024], from: usize)
+    ensures { λ _. ⌜ now (states .exit) ≡ cleared (replicate 2 0) from (now (states .entry)) ⌝ }
+    ensures { λ _. ⌜ length (now (states .entry)) ≡ 1024 ⌝ }
 {
-    let given = *c;
-    *c = states_zeroed(given, from);
+    let given = *states;
+    *states = states_zeroed(given, from);
 }
 
 // ---- all columns

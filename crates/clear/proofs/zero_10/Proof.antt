@@ -9,10 +9,10 @@ use lib.ListN.{replicate}
 use Rattle.clear.proofs.Zeros.{Clearing, clearing-none, clearing-next, clearing-end}
 
 abbrev Inv-loop : tie.InvT-loop
-Inv-loop c₀ from n i₀ c i = Clearing (replicate 10 0) from c₀ c i
+Inv-loop sources₀ from n i₀ sources i = Clearing (replicate 10 0) from sources₀ sources i
 
 abbrev μ-loop : tie.MeasureT-loop
-μ-loop c₀ from n i₀ c i = n - i
+μ-loop sources₀ from n i₀ sources i = n - i
 
 pub zero-10-spec : {M : Type 1} → statement M
 zero-10-spec =

@@ -9,10 +9,10 @@ use lib.ListN.{replicate}
 use Rattle.clear.proofs.Zeros.{Clearing, clearing-none, clearing-next, clearing-end}
 
 abbrev Inv-loop : tie.InvT-loop
-Inv-loop c₀ from n i₀ c i = Clearing (replicate 11 0) from c₀ c i
+Inv-loop entries₀ from n i₀ entries i = Clearing (replicate 11 0) from entries₀ entries i
 
 abbrev μ-loop : tie.MeasureT-loop
-μ-loop c₀ from n i₀ c i = n - i
+μ-loop entries₀ from n i₀ entries i = n - i
 
 pub zero-11-spec : {M : Type 1} → statement M
 zero-11-spec =

@@ -9,10 +9,10 @@ use lib.ListN.{replicate}
 use Rattle.clear.proofs.Zeros.{Clearing, clearing-none, clearing-next, clearing-end}
 
 abbrev Inv-loop : tie.InvT-loop
-Inv-loop c₀ from n i₀ c i = Clearing (replicate 14 0) from c₀ c i
+Inv-loop collected₀ from n i₀ collected i = Clearing (replicate 14 0) from collected₀ collected i
 
 abbrev μ-loop : tie.MeasureT-loop
-μ-loop c₀ from n i₀ c i = n - i
+μ-loop collected₀ from n i₀ collected i = n - i
 
 pub zero-14-spec : {M : Type 1} → statement M
 zero-14-spec =

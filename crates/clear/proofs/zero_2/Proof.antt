@@ -9,10 +9,10 @@ use lib.ListN.{replicate}
 use Rattle.clear.proofs.Zeros.{Clearing, clearing-none, clearing-next, clearing-end}
 
 abbrev Inv-loop : tie.InvT-loop
-Inv-loop c₀ from n i₀ c i = Clearing (replicate 2 0) from c₀ c i
+Inv-loop plain₀ from n i₀ plain i = Clearing (replicate 2 0) from plain₀ plain i
 
 abbrev μ-loop : tie.MeasureT-loop
-μ-loop c₀ from n i₀ c i = n - i
+μ-loop plain₀ from n i₀ plain i = n - i
 
 pub zero-2-spec : {M : Type 1} → statement M
 zero-2-spec =

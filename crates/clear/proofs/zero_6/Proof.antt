@@ -9,10 +9,10 @@ use lib.ListN.{replicate}
 use Rattle.clear.proofs.Zeros.{Clearing, clearing-none, clearing-next, clearing-end}
 
 abbrev Inv-loop : tie.InvT-loop
-Inv-loop c₀ from n i₀ c i = Clearing (replicate 6 0) from c₀ c i
+Inv-loop rows₀ from n i₀ rows i = Clearing (replicate 6 0) from rows₀ rows i
 
 abbrev μ-loop : tie.MeasureT-loop
-μ-loop c₀ from n i₀ c i = n - i
+μ-loop rows₀ from n i₀ rows i = n - i
 
 pub zero-6-spec : {M : Type 1} → statement M
 zero-6-spec =

@@ -10,10 +10,10 @@ use Rattle.laws.specs.Floats.{zeroF}
 use Rattle.clear.proofs.Zeros.{Clearing, clearing-none, clearing-next, clearing-end}
 
 abbrev Inv-loop : tie.InvT-loop
-Inv-loop c₀ from n i₀ c i = Clearing zeroF from c₀ c i
+Inv-loop floats₀ from n i₀ floats i = Clearing zeroF from floats₀ floats i
 
 abbrev μ-loop : tie.MeasureT-loop
-μ-loop c₀ from n i₀ c i = n - i
+μ-loop floats₀ from n i₀ floats i = n - i
 
 pub zero-floats-spec : {M : Type 1} → statement M
 unfolding ofBits

@@ -11,10 +11,10 @@ use Rattle.laws.specs.Floats.{zeroF}
 use Rattle.clear.proofs.Zeros.{Clearing, clearing-none, clearing-next, clearing-end}
 
 abbrev Inv-loop : tie.InvT-loop
-Inv-loop c₀ from n i₀ c i = Clearing (replicate 2 zeroF) from c₀ c i
+Inv-loop pairs₀ from n i₀ pairs i = Clearing (replicate 2 zeroF) from pairs₀ pairs i
 
 abbrev μ-loop : tie.MeasureT-loop
-μ-loop c₀ from n i₀ c i = n - i
+μ-loop pairs₀ from n i₀ pairs i = n - i
 
 pub zero-pairs-spec : {M : Type 1} → statement M
 unfolding ofBits
