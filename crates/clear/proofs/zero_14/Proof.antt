@@ -3,6 +3,7 @@
 use Rattle.clear.proofs.zero_14.Statement.{statement}
 use Rattle.clear.proofs.zero_14.Tie as tie
 use borrow.Author.Needs.{needs}
+use native.Mathlib.Omega.{arith}
 use Prim.Native.Nat.{_-_}
 use mathlib.Core.Path.{refl}
 use lib.ListN.{replicate}
@@ -25,6 +26,6 @@ zero-14-spec =
     (λ c. search needs)
     (λ c. search needs)
     (λ c. search needs)
-    (λ c. clearing-next (replicate 14 0) (c .before .loop .inv) (c .loop-test .taken) refl)
+    (λ c. clearing-next (replicate 14 0) (c .before .loop .inv) (omega (arith, c .loop-test .taken)) refl)
     (λ c. c .before .loop .inv .long)
     (λ c. clearing-end (replicate 14 0) (c .before .loop .inv) (c .loop-test .left)))
