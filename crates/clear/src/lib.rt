@@ -83,26 +83,22 @@ fn zero_pairs(pairs: &mut [[f64; 2]], from: usize)
     }
 }
 
-fn states_zeroed(given: [[u32; 2]; 1024], from: usize) -> [[u32; 2]; 1024]
-    ensures { λ r. ⌜ r ≡ cleared (replicate 2 0) from given ⌝ }
-    ensures { λ r. ⌜ length given ≡ 1024 ⌝ }
-{
-    let mut states = given;
-    let mut o = from;
-    while o < 1024 {
-        states[o] = [0; 2];
-        o += 1;
-    }
-    states
-}
+// A lent array's length is told where it is handed on by value; the compiler drops the copy.
+fn full(given: [[u32; 2]; 1024])
+    ensures { λ _. ⌜ length given ≡ 1024 ⌝ }
+{}
 
-// A lent array is handed on by value: its length is told there alone.
 fn zero_states(states: &mut [[u32; 2]; 1024], from: usize)
     ensures { λ _. ⌜ now (states .exit) ≡ cleared (replicate 2 0) from (now (states .entry)) ⌝ }
     ensures { λ _. ⌜ length (now (states .entry)) ≡ 1024 ⌝ }
 {
     let given = *states;
-    *states = states_zeroed(given, from);
+    full(given);
+    let mut o = from;
+    while o < 1024 {
+        states[o] = [0; 2];
+        o += 1;
+    }
 }
 
 // ---- all columns
