@@ -51,7 +51,7 @@ use Rattle.memory.proofs.Counting.{planned-append}
 use Rattle.apply.specs.Answers.{AppliedAs, PartMeets, applying}
 use Rattle.apply.specs.declared.Part.{Part}
 use Rattle.apply.specs.declared.Part.the-variants as part
-use Rattle.apply.proofs.Holdings.{ready-on, some-none, noted-holds}
+use Rattle.apply.proofs.Holdings.{ready-on, some-none, noted-holds, floats-long}
 
 -- what the first k entries of row i gave operator op, which found the value `found`, from memory m on
 pub record Gathering (w : World) (s₀ : List (List ℕ)) (f₀ : List (List Float)) (left i : ℕ) (high : Bool) (op : EffectOperator) (found : Float) (m : Mem) (k : ℕ) (v : List Float) (s : List (List ℕ)) (f : List (List Float)) (p : Pile) : Type 0 where
@@ -173,9 +173,9 @@ module _ {t : Tables} {run : Run} {v₀ : List Float} {s₁ : List (List ℕ)} {
             by (ok g) q b = record { sofar = g; is = q; going = b .0; piled = b .1; holds = b .2 }
             by (refused y) q b = absurd (subst Stopped (sym b ∙ z) tt)
 
-        pub gathering-refused : (y : Refusal) → Answer (gather w i row read op (e ∷ []) (G .sofar)) → p′ .stop ≡ Because y → operate w i row read (op ∷ []) (record { value = found; mem = m }) ≡ refused y
+        operate-refused : (y : Refusal) → Answer (gather w i row read op (e ∷ []) (G .sofar)) → p′ .stop ≡ Because y → operate w i row read (op ∷ []) (record { value = found; mem = m }) ≡ refused y
         unfolding operate
-        gathering-refused y a z = ap (λ (x : Res Gathered). x >>= λ g. numberAt (row .object) (applied (highIsGood (getDogmaAttribute (w .book) (row .id))) op found (g .values)) >>= λ n. ok (record { value = n; mem = markedBy i g })) whole
+        operate-refused y a z = ap (λ (x : Res Gathered). x >>= λ g. numberAt (row .object) (applied (highIsGood (getDogmaAttribute (w .book) (row .id))) op found (g .values)) >>= λ n. ok (record { value = n; mem = markedBy i g })) whole
           where
             stops : (x : Res Gathered) → gather w i row read op (take (k + 1) (row .entries)) begin ≡ x → Answer x → gather w i row read op (take (k + 1) (row .entries)) begin ≡ refused y
             stops (ok g) q b = absurd (subst Stopped (sym z ∙ b .0) tt)
@@ -185,6 +185,12 @@ module _ {t : Tables} {run : Run} {v₀ : List Float} {s₁ : List (List ℕ)} {
             whole =
                 ap (λ (l : List Effect). gather w i row read op l begin) split ∙ gather-append w i row read op (take (k + 1) (row .entries)) (drop (k + 1) (row .entries)) begin
                 ∙ ap (λ (x : Res Gathered). x >>= λ g. gather w i row read op (drop (k + 1) (row .entries)) g) (stops (gather w i row read op (e ∷ []) (G .sofar)) one-more a)
+
+        pub gathering-refused : (y : Refusal) → Answer (gather w i row read op (e ∷ []) (G .sofar)) → p′ .stop ≡ Because y → PartMeets w s₀ f₀ i (operate w i row read (op ∷ []) (record { value = found; mem = m })) (part.Refused y) v′ s′ f′
+        gathering-refused y a z = rw (operate-refused y a z) refl
+
+    pub floats-there : run .room ≤ length f
+    floats-there = omega (arith, floats-long (G .holds) (h .ready .told .roomy .1), h .ready .told .recorded .room)
 
     -- all of them
     module _ (all : length (row .entries) ≤ k) where

@@ -133,3 +133,11 @@ module _ (w : World) (s₀ : List (List ℕ)) (f₀ : List (List Float)) (v : Li
 
   pub meets-same : (x y : Res Read) (r : Got) → x ≡ y → Meets w s₀ f₀ y r v s f → Meets w s₀ f₀ x r v s f
   meets-same x y r e h = rw e h
+
+-- after an answer with a value
+module _ {t : Tables} {run : Run} {v : List Float} {s : List (List ℕ)} {f : List (List Float)} {used : ℕ} (h : Ready t run v s f used) (x : Res Read) (y : Float) (more : ℕ) (v′ : List Float) (s′ : List (List ℕ)) (f′ : List (List Float)) (k : Meets (h .world) (h .sources₀) (h .floats₀) x (got.Value y more) v′ s′ f′) where
+  abbrev pub goes-on-from : Ready t run v′ s′ f′ more
+  goes-on-from = ready-on h (met (h .world) (h .sources₀) (h .floats₀) v′ s′ f′ x y more k .read .mem) (met (h .world) (h .sources₀) (h .floats₀) v′ s′ f′ x y more k .holds)
+
+  pub number-of : T (finite y)
+  number-of = met (h .world) (h .sources₀) (h .floats₀) v′ s′ f′ x y more k .number

@@ -7,3 +7,5 @@ pub mod Gathering
 pub mod Taking
 pub mod Operating
 pub mod Falling
+pub mod Evaluating
+pub mod Fitting

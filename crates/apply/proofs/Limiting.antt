@@ -117,18 +117,18 @@ module _ (w : World) (s₀ : List (List ℕ)) (f₀ : List (List Float)) (v′ :
 
   -- an entry's strength
   module _ (i : ℕ) (row : Row) (read : Reader) (e : Effect) (m : Mem) where
-    pub buff-strength : (b : ℤ) (x : Float) {used : ℕ} → T (finite x) → Holds w s₀ f₀ m v′ s′ f′ used → Meets w s₀ f₀ (strengthOf w read i row e (origin.Buff b x) m) (got.Value x used) v′ s′ f′
+    pub buff-strength : (b : ℤ) (x : Float) {used : ℕ} → e .origin ≡ origin.Buff b x → T (finite x) → Holds w s₀ f₀ m v′ s′ f′ used → Meets w s₀ f₀ (strengthOf w read i row e (e .origin) m) (got.Value x used) v′ s′ f′
     unfolding strengthOf
-    buff-strength b x good h = (refl, good, h)
+    buff-strength b x {used} is good h = subst (λ (o : Origin). Meets w s₀ f₀ (strengthOf w read i row e o m) (got.Value x used) v′ s′ f′) (sym is) (refl, good, h)
 
     -- one that is read off its source
-    module _ (b : ℤ) (source : ℕ) (c : EffectCategory) (a : ℤ) where
+    module _ (b : ℤ) (source : ℕ) (c : EffectCategory) (a : ℤ) (is : e .origin ≡ origin.Effect b source c a) where
       abbrev strong : Res Read
-      strong = strengthOf w read i row e (origin.Effect b source c a) m
+      strong = strengthOf w read i row e (e .origin) m
 
       strength-read : strong ≡ (read source a m >>= λ r. resisted w i row read (e .resistance) r)
       unfolding strengthOf
-      strength-read = refl
+      strength-read = ap (λ (o : Origin). strengthOf w read i row e o m) is
 
       pub strength-refused : (r : Got) (z : Refusal) → r ≡ got.Refused z → Meets w s₀ f₀ (read source a m) r v′ s′ f′ → Meets w s₀ f₀ strong r v′ s′ f′
       strength-refused r z p h = rw strength-read (passed-on (read source a m) (λ r. resisted w i row read (e .resistance) r) r z p h)
@@ -162,22 +162,22 @@ module _ (w : World) (s₀ : List (List ℕ)) (f₀ : List (List Float)) (v′ :
       abbrev pub operated-mem : Mem
       operated-mem = met w s₀ f₀ v′ s′ f′ operating x used h .read .mem
 
-      pub raise-refused : (r : Got) (z : Refusal) → r ≡ got.Refused z → (v″ : List Float) (s″ : List (List ℕ)) (f″ : List (List Float)) → Meets w s₀ f₀ (raised (record { value = x; mem = operated-mem })) r v″ s″ f″ → Meets w s₀ f₀ evaluating r v″ s″ f″
-      raise-refused r z e v″ s″ f″ k = rw evaluation-is (goes-on operating (λ a. raised a >>= λ b. lowered b) x used h r v″ s″ f″ (rw e (stays (raised (record { value = x; mem = operated-mem })) z (rw e at k))))
-        where
-          stays : (y : Res Read) (z : Refusal) → Meets w s₀ f₀ y (got.Refused z) v″ s″ f″ → Meets w s₀ f₀ (y >>= λ b. lowered b) (got.Refused z) v″ s″ f″
-          stays (ok q) z k = absurd k
-          stays (refused q) z k = k
+      module _ (z : Res Read) (same : raised (record { value = x; mem = operated-mem }) ≡ z) where
+        pub raise-refused : (r : Got) (y : Refusal) → r ≡ got.Refused y → (v″ : List Float) (s″ : List (List ℕ)) (f″ : List (List Float)) → Meets w s₀ f₀ z r v″ s″ f″ → Meets w s₀ f₀ evaluating r v″ s″ f″
+        raise-refused r y e v″ s″ f″ k = rw evaluation-is (goes-on operating (λ a. raised a >>= λ b. lowered b) x used h r v″ s″ f″ (rw (same, e) (stays z (rw e at k))))
+          where
+            stays : (u : Res Read) → Meets w s₀ f₀ u (got.Refused y) v″ s″ f″ → Meets w s₀ f₀ (u >>= λ b. lowered b) (got.Refused y) v″ s″ f″
+            stays (ok q) k = absurd k
+            stays (refused q) k = k
 
-      pub lowers : (y : Float) (more : ℕ) (v″ : List Float) (s″ : List (List ℕ)) (f″ : List (List Float)) (k : Meets w s₀ f₀ (raised (record { value = x; mem = operated-mem })) (got.Value y more) v″ s″ f″)
-          (r : Got) (v‴ : List Float) (s‴ : List (List ℕ)) (f‴ : List (List Float))
-          → Meets w s₀ f₀ (lowered (record { value = y; mem = met w s₀ f₀ v″ s″ f″ (raised (record { value = x; mem = operated-mem })) y more k .read .mem })) r v‴ s‴ f‴ → Meets w s₀ f₀ evaluating r v‴ s‴ f‴
-      unfolding met
-      lowers y more v″ s″ f″ k r v‴ s‴ f‴ l = rw evaluation-is (goes-on operating (λ a. raised a >>= λ b. lowered b) x used h r v‴ s‴ f‴ (follows (raised (record { value = x; mem = operated-mem })) k l))
-        where
-          follows : (z : Res Read) (k : Meets w s₀ f₀ z (got.Value y more) v″ s″ f″) → Meets w s₀ f₀ (lowered (record { value = y; mem = met w s₀ f₀ v″ s″ f″ z y more k .read .mem })) r v‴ s‴ f‴ → Meets w s₀ f₀ (z >>= λ b. lowered b) r v‴ s‴ f‴
-          follows (refused q) k l = absurd k
-          follows (ok q) k l = subst (λ (n : Float). Meets w s₀ f₀ (lowered (record { value = n; mem = q .mem })) r v‴ s‴ f‴) (k .0) l
+        pub lowers : (y : Float) (more : ℕ) (v″ : List Float) (s″ : List (List ℕ)) (f″ : List (List Float)) (k : Meets w s₀ f₀ z (got.Value y more) v″ s″ f″) (u : Res Read) → lowered (record { value = y; mem = met w s₀ f₀ v″ s″ f″ z y more k .read .mem }) ≡ u
+            → (r : Got) (v‴ : List Float) (s‴ : List (List ℕ)) (f‴ : List (List Float)) → Meets w s₀ f₀ u r v‴ s‴ f‴ → Meets w s₀ f₀ evaluating r v‴ s‴ f‴
+        unfolding met
+        lowers y more v″ s″ f″ k u last r v‴ s‴ f‴ l = rw evaluation-is (goes-on operating (λ a. raised a >>= λ b. lowered b) x used h r v‴ s‴ f‴ (rw same (follows z k (rw last l))))
+          where
+            follows : (z : Res Read) (k : Meets w s₀ f₀ z (got.Value y more) v″ s″ f″) → Meets w s₀ f₀ (lowered (record { value = y; mem = met w s₀ f₀ v″ s″ f″ z y more k .read .mem })) r v‴ s‴ f‴ → Meets w s₀ f₀ (z >>= λ b. lowered b) r v‴ s‴ f‴
+            follows (refused q) k l = absurd k
+            follows (ok q) k l = subst (λ (n : Float). Meets w s₀ f₀ (lowered (record { value = n; mem = q .mem })) r v‴ s‴ f‴) (k .0) l
 
     -- no entry, and no limit
     pub plain-row : {used : ℕ} {x : Float} → row .entries ≡ [] → getDogmaAttribute (w .book) (row .id) .«min_attribute_id» ≡ pos 0 → getDogmaAttribute (w .book) (row .id) .«max_attribute_id» ≡ pos 0

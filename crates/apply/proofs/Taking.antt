@@ -1,5 +1,5 @@
 -- One entry goes to an operator's pile: another operator's and an idle one change nothing; else its strength is read, and it is added.
-use Prim.Native.Nat.{ℕ, _+_, _≤_, _<_, min}
+use Prim.Native.Nat.{ℕ, _+_, _≤_, _<_, _^_, min}
 use native.Mathlib.Omega.{arith}
 use mathlib.Core.Path.{_≡_, refl, sym, ap, ap₂, subst, _∙_}
 use mathlib.Core.Bool.{Bool, true, false, _&&_, _||_, cond}
@@ -9,6 +9,8 @@ use borrow.Author.Tests.{eq-eqb, ne-eqb}
 use lib.Dec.{T, eqb}
 use lib.Ieee.{Float, nan}
 use lib.ListN.{length, getD}
+use mir.Syntax.{w64}
+use mir.Val.{Fits}
 use Rattle.laws.specs.Floats.{finite}
 use Rattle.rules.specs.Answer.{Res, ok, refused, _>>=_}
 use Rattle.rules.specs.Codes.{operatorCode, sameOperator}
@@ -26,7 +28,7 @@ use Rattle.rules.specs.declared.Refusal.{Refusal}
 use Rattle.reading.specs.Held.{EntryHeld, Sourced, isRunning}
 use Rattle.sources.specs.declared.Run.{Run}
 use Rattle.sources.specs.Planned.{countsOf, plannedOf, plannedIf, plannedFor, runsIn}
-use Rattle.sources.specs.Keeping.{Keeping}
+use Rattle.sources.specs.Keeping.{Keeping, Begins}
 use Rattle.gather.specs.declared.Pile.{Pile}
 use Rattle.gather.specs.declared.Stop.the-variants.{No, Because}
 use Rattle.gather.specs.Piles.{PileOf, PiledAs, entered, enteredCount}
@@ -35,10 +37,12 @@ use Rattle.memory.specs.Steps.{rowAt, entryAt, noEntry, strengthOf}
 use Rattle.memory.specs.Holding.{Tables, Good, RowTold, Told, Holds, Ready, Piling, PileMeets, entriesFrom}
 use Rattle.memory.proofs.Growth.{value-grows}
 use Rattle.memory.proofs.Gathers.{gather-one, gather-other, from-idle, from-read, strength-grows}
-use Rattle.memory.proofs.Entering.{entered-values}
+use Rattle.memory.proofs.Entering.{entered-values, same-operator}
 use Rattle.apply.specs.Answers.{Meets}
 use Rattle.apply.specs.declared.Got.the-variants as got
-use Rattle.apply.proofs.Holdings.{Met, met, missed, noted-holds}
+use Rattle.apply.proofs.Fitting.{fits-below}
+use Rattle.apply.proofs.Gathering.{counts-long}
+use Rattle.apply.proofs.Holdings.{Met, met, missed, noted-holds, sources-long, floats-long}
 
 -- the code of an entry's operator is its seventh number
 code-at : (e : Effect) → getD (entryNumbers e) 6 0 ≡ operatorCode (e .operator)
@@ -89,8 +93,18 @@ module _ {t : Tables} {run : Run} {v : List Float} {s : List (List ℕ)} {f : Li
   pub place-inside : (place < length (t .entries)) × (place < length (t .values))
   place-inside = (omega (arith, place-is, told .inside .0, h .inside), omega (arith, place-is, told .inside .1, h .inside))
 
+  pub place-fits : length (t .entries) < 2 ^ 64 → Fits w64 place
+  place-fits short = fits-below place (length (t .entries)) (omega (arith, place-inside .0)) short
+
   pub entry-held : EntryHeld (entryAt w i k) (getD (t .entries) place []) (getD (t .values) place nan)
   entry-held = rw place-is (told .entry k noEntry (h .inside))
+
+  -- the row's places in list 5, and its object
+  pub entry-begins : {first : ℕ} → first ≡ getD (getD (t .rows) i []) 4 0 → Begins (countsOf w) i first
+  entry-begins e = record { row = omega (arith, h .within, counts-long w); place = e ∙ told .place }
+
+  pub entry-object : {object : ℕ} → object ≡ getD (getD (t .rows) i []) 0 0 → row .object ≡ object
+  entry-object e = sym (e ∙ h .ready .told .held .object i (h .within))
 
   abbrev Answer : Res Gathered → Pile → List Float → List (List ℕ) → List (List Float) → Type 0
   Answer x r v′ s′ f′ = PileMeets w s₀ f₀ i high op (h .found) x r v′ s′ f′
@@ -118,6 +132,9 @@ module _ {t : Tables} {run : Run} {v : List Float} {s : List (List ℕ)} {f : Li
 
       same : sameOperator (x .operator) op ≡ true
       same = eq-eqb (operatorCode (x .operator)) (operatorCode op) (ap (λ (e : Effect). operatorCode (e .operator)) is ∙ sym same-code ∙ code)
+
+      pub entry-operator : x .operator ≡ op
+      entry-operator = same-operator (x .operator) op same
 
       pub runs-is : isRunning (t .states) (x .origin) ≡ runsIn w (x .origin)
       runs-is = running-is w (t .states) (x .origin) (h .ready .told .running) (entry-good .sourced)
@@ -174,6 +191,14 @@ module _ {t : Tables} {run : Run} {v : List Float} {s : List (List ℕ)} {f : Li
                 positive = rw b (h .piled .positive);
                 negative = rw c (h .piled .negative);
               }
+
+          pub entry-lengths : (r : Pile) → r .own ≡ p .own → r .used ≡ more → (run .room ≤ length s′) × (run .room ≤ length f′) × (r .own ≤ r .used)
+          entry-lengths r own used =
+              (
+                omega (arith, sources-long (q .holds) (h .ready .told .roomy .0), h .ready .told .recorded .room),
+                omega (arith, floats-long (q .holds) (h .ready .told .roomy .1), h .ready .told .recorded .room),
+                omega (arith, own, used, h .piled .keeping .mine, ap length own-same, q .holds .sources i .few i, q .holds .sources i .all),
+              )
 
           pub entry-room : w .recording ≡ true → length (ownSources i (after .mem)) + enteredCount runs x ≤ getD (countsOf w) i 0
           entry-room on =

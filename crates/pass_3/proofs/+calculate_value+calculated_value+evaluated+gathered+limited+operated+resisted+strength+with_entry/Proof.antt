@@ -50,17 +50,30 @@ use Rattle.pass_3.proofs.+calculate_value+calculated_value+evaluated+ga
 use Rattle.pass_3.proofs.+calculate_value+calculated_value+evaluated+gathered+limited+operated+resisted+strength+with_entry.Tie.{close}
 use borrow.Author.Needs.{needs}
 use native.Mathlib.Omega.{arith}
-use Prim.Native.Nat.{_+_, _*_, _-_, _≤_}
-use mathlib.Core.Path.{_≡_, refl, sym, ap, _∙_}
+use Prim.Native.Nat.{_+_, _*_, _-_, _≤_, _<_}
+use mathlib.Core.Path.{_≡_, refl, sym, ap, subst, _∙_}
 use mathlib.Core.List.{[], _∷_}
 use lib.ListN.{length, getD, length-set}
 use Rattle.laws.specs.Floats.{nans}
 use Rattle.laws.proofs.Signs.{same-bits, tested-apart}
 use Rattle.rules.specs.Codes.{operators}
+use Rattle.rules.specs.Info.{getDogmaAttribute, highIsGood}
+use Rattle.rules.specs.Sheet.{bookOf}
+use Rattle.rules.specs.Value.{valueOf}
+use Rattle.memory.specs.Steps.{rowAt}
 use Rattle.memory.specs.Holding.{tables, Busy}
 use mir.Facts.{toZ-ofZ}
 use Rattle.rules.specs.declared.DogmaAttribute.{DogmaAttribute}
 use Rattle.apply.proofs.Holdings.{value-long, ready-on, sources-long, floats-long}
+use borrow.Author.Needs.{sfits-of, scaled-fits}
+use mathlib.Core.Bool.{Bool, true, false, not, _||_}
+use mir.Syntax.{w32}
+use mir.Val.{toZ, ofZ}
+use lib.IntN.{ℤ, pos}
+use Rattle.laws.proofs.Bools.{not-not, or-false-left, or-false-right}
+use Rattle.apply.proofs.Holdings.{goes-on-from, number-of}
+use Rattle.apply.proofs.Fitting.{fits-below, row-inside, first-and-count, first-fits, count-fits, end-fits}
+use Rattle.apply.proofs.Evaluating as evaluating
 use Rattle.apply.proofs.Starts as starting
 use Rattle.apply.proofs.Finding as finding
 use Rattle.apply.proofs.Limiting as limiting
@@ -583,7 +596,9 @@ evaluated-returns : (t : ℕ) → evaluated-lts.Need-returns (
   limited-below t,
   limited.Post,
 ) (evaluated-at t) evaluated.Post
-evaluated-returns t c = search needs
+evaluated-returns t c =
+    let id : (c .before .before .before .before .before .signed .result) ≡ toZ w32 (getD (getD (c .before .before .before .before .before .before .before .before .before .before .before .args .rows .now) (c .before .before .before .before .before .before .before .before .before .before .before .args .row) []) 1 0) = c .before .before .before .before .before .signed .ensures .0 in
+    λ h. evaluating.plain-meets h (c .before .before .before .before .before .before .before .before .before .before .before .args .left) (c .before .before .before .if1 .taken) (λ k l. subst (λ (a : ℤ). (getDogmaAttribute k a .«min_attribute_id» ≡ pos 0) × (getDogmaAttribute k a .«max_attribute_id» ≡ pos 0)) (toZ-ofZ (sfits-of (c .before .before .before .before .before .signed .ok)) ∙ id) (c .before .before .is-limited .ensures k l (sym (not-not (c .before .before .is-limited .result)) ∙ ap not (c .before .if2 .taken))))
 
 evaluated-get-dogma-attribute-requires : (t : ℕ) → evaluated-lts.Need-get-dogma-attribute-requires (
   signed-reads.Asked,
@@ -611,7 +626,7 @@ evaluated-mul-object : (t : ℕ) → evaluated-lts.Need-mul-object (
   limited-below t,
   limited.Post,
 ) (evaluated-at t) evaluated.Post
-evaluated-mul-object t c = search needs
+evaluated-mul-object t c = scaled-fits _ _ _ (row-inside (c .before .before .before .before .before .before .before .before .before .before .before .before .pre .1 .ready) (c .before .before .before .before .before .before .before .before .before .before .before .before .args .row) (c .before .before .before .before .before .before .before .before .before .before .before .before .pre .1 .within)) (c .before .before .before .before .before .before .before .before .before .before .before .before .good .1 .1 .1 .1 .1 .1 .1 .1 .0 .1)
 
 evaluated-index-1-object : (t : ℕ) → evaluated-lts.Need-index-1-object (
   signed-reads.Asked,
@@ -625,7 +640,7 @@ evaluated-index-1-object : (t : ℕ) → evaluated-lts.Need-index-1-object (
   limited-below t,
   limited.Post,
 ) (evaluated-at t) evaluated.Post
-evaluated-index-1-object t c = search needs
+evaluated-index-1-object t c = row-inside (c .before .before .before .before .before .before .before .before .before .before .before .before .pre .1 .ready) (c .before .before .before .before .before .before .before .before .before .before .before .before .args .row) (c .before .before .before .before .before .before .before .before .before .before .before .before .pre .1 .within)
 
 evaluated-index-2-object : (t : ℕ) → evaluated-lts.Need-index-2-object (
   signed-reads.Asked,
@@ -653,7 +668,9 @@ evaluated-operated-requires : (t : ℕ) → evaluated-lts.Need-operated-requires
   limited-below t,
   limited.Post,
 ) (evaluated-at t) evaluated.Post
-evaluated-operated-requires t c κs = search needs
+evaluated-operated-requires t c κs =
+    let id : (c .before .before .before .before .before .before .before .before .before .before .signed .result) ≡ toZ w32 (getD (getD (c .before .before .before .before .before .before .before .before .before .before .before .before .before .before .before .before .args .rows .now) (c .before .before .before .before .before .before .before .before .before .before .before .before .before .before .before .before .args .row) []) 1 0) = c .before .before .before .before .before .before .before .before .before .before .signed .ensures .0 in
+    (omega (arith, c .before .before .before .before .before .before .before .before .before .before .before .before .before .before .before .before .pre .0), (c .before .before .before .before .before .before .before .before .before .before .before .before .before .before .before .before .pre .1, ap highIsGood (c .before .before .before .before .before .before .before .get-dogma-attribute .ensures ∙ ap (λ (a : ℤ). getDogmaAttribute (bookOf (c .before .before .before .before .before .before .before .before .before .before .before .before .before .before .before .before .args .book .now) (c .before .before .before .before .before .before .before .before .before .before .before .before .before .before .before .before .args .pairs .now)) a) (toZ-ofZ (sfits-of (c .before .before .before .before .before .before .before .before .before .before .signed .ok)) ∙ id))))
 
 evaluated-enum-known-got : (t : ℕ) → evaluated-lts.Need-enum-known-got (
   signed-reads.Asked,
@@ -737,7 +754,7 @@ evaluated-returns-2 : (t : ℕ) → evaluated-lts.Need-returns-2 (
   limited-below t,
   limited.Post,
 ) (evaluated-at t) evaluated.Post
-evaluated-returns-2 t c = search needs
+evaluated-returns-2 t c = λ h. limiting.evaluate-refused _ _ _ _ _ _ _ (c .before .before .before .before .before .before .before .before .before .before .before .before .before .before .before .before .before .before .before .before .before .before .before .args .row) _ _ _ _ (c .enum-told .given .1) (c .before .before .before .before .before .before .operated .ensures h)
 
 evaluated-limited-requires : (t : ℕ) → evaluated-lts.Need-limited-requires (
   signed-reads.Asked,
@@ -751,7 +768,9 @@ evaluated-limited-requires : (t : ℕ) → evaluated-lts.Need-limited-requires (
   limited-below t,
   limited.Post,
 ) (evaluated-at t) evaluated.Post
-evaluated-limited-requires t c κs = search needs
+evaluated-limited-requires t c κs =
+    let k = rw (c .before .before .before .before .got .given .1) at (c .before .before .before .before .before .before .before .before .before .before .operated .ensures (c .before .before .before .before .before .before .before .before .before .before .before .before .before .before .before .before .before .before .before .before .before .before .before .before .before .before .before .pre .1)) in
+    (omega (arith, c .before .before .before .before .before .before .before .before .before .before .before .before .before .before .before .before .before .before .before .before .before .before .before .before .before .before .before .pre .0, evaluating.operated-falls (c .before .before .before .before .before .before .before .before .before .before .before .before .before .before .before .before .before .before .before .before .before .before .before .before .before .before .before .pre .1) (c .before .before .before .before .before .before .before .before .before .before .before .before .before .before .before .before .before .before .before .before .before .before .before .before .before .before .before .args .left) (c .before .before .before .before .got .given .0 .0) (c .before .before .before .before .got .given .0 .1 .0) (c .before .before .before .before .before .before .before .before .before .before .operated .last .0) (c .before .before .before .before .before .before .before .before .before .before .operated .last .1 .0) (c .before .before .before .before .before .before .before .before .before .before .operated .last .1 .1 .0) k), (evaluating.operated-on (c .before .before .before .before .before .before .before .before .before .before .before .before .before .before .before .before .before .before .before .before .before .before .before .before .before .before .before .pre .1) (c .before .before .before .before .before .before .before .before .before .before .before .before .before .before .before .before .before .before .before .before .before .before .before .before .before .before .before .args .left) (c .before .before .before .before .got .given .0 .0) (c .before .before .before .before .got .given .0 .1 .0) (c .before .before .before .before .before .before .before .before .before .before .operated .last .0) (c .before .before .before .before .before .before .before .before .before .before .operated .last .1 .0) (c .before .before .before .before .before .before .before .before .before .before .operated .last .1 .1 .0) k, (evaluating.object-few (c .before .before .before .before .before .before .before .before .before .before .before .before .before .before .before .before .before .before .before .before .before .before .before .before .before .before .before .pre .1), evaluating.operated-good (c .before .before .before .before .before .before .before .before .before .before .before .before .before .before .before .before .before .before .before .before .before .before .before .before .before .before .before .pre .1) (c .before .before .before .before .before .before .before .before .before .before .before .before .before .before .before .before .before .before .before .before .before .before .before .before .before .before .before .args .left) (c .before .before .before .before .got .given .0 .0) (c .before .before .before .before .got .given .0 .1 .0) (c .before .before .before .before .before .before .before .before .before .before .operated .last .0) (c .before .before .before .before .before .before .before .before .before .before .operated .last .1 .0) (c .before .before .before .before .before .before .before .before .before .before .operated .last .1 .1 .0) k)))
 
 evaluated-enum-known-low : (t : ℕ) → evaluated-lts.Need-enum-known-low (
   signed-reads.Asked,
@@ -835,7 +854,9 @@ evaluated-returns-3 : (t : ℕ) → evaluated-lts.Need-returns-3 (
   limited-below t,
   limited.Post,
 ) (evaluated-at t) evaluated.Post
-evaluated-returns-3 t c = search needs
+evaluated-returns-3 t c =
+    let id : (c .before .before .before .before .before .before .before .before .before .before .before .before .before .before .before .before .before .before .before .before .before .before .before .before .before .before .before .before .signed .result) ≡ toZ w32 (getD (getD (c .before .before .before .before .before .before .before .before .before .before .before .before .before .before .before .before .before .before .before .before .before .before .before .before .before .before .before .before .before .before .before .before .before .before .args .rows .now) (c .before .before .before .before .before .before .before .before .before .before .before .before .before .before .before .before .before .before .before .before .before .before .before .before .before .before .before .before .before .before .before .before .before .before .args .row) []) 1 0) = c .before .before .before .before .before .before .before .before .before .before .before .before .before .before .before .before .before .before .before .before .before .before .before .before .before .before .before .before .signed .ensures .0 in
+    λ h. let k = rw (c .before .before .before .before .before .before .before .before .before .before .before .got .given .1) at (c .before .before .before .before .before .before .before .before .before .before .before .before .before .before .before .before .before .operated .ensures h) in evaluating.low-refused h (c .before .before .before .before .before .before .before .before .before .before .before .before .before .before .before .before .before .before .before .before .before .before .before .before .before .before .before .before .before .before .before .before .before .before .args .left) (c .before .before .before .before .before .before .before .before .before .before .before .got .given .0 .0) (c .before .before .before .before .before .before .before .before .before .before .before .got .given .0 .1 .0) (c .before .before .before .before .before .before .before .before .before .before .before .before .before .before .before .before .before .operated .last .0) (c .before .before .before .before .before .before .before .before .before .before .before .before .before .before .before .before .before .operated .last .1 .0) (c .before .before .before .before .before .before .before .before .before .before .before .before .before .before .before .before .before .operated .last .1 .1 .0) k (getD (getD (c .before .before .before .before .before .before .before .before .before .before .before .before .before .before .before .before .before .before .before .before .before .before .before .before .before .before .before .before .before .before .before .before .before .before .args .rows .now) (c .before .before .before .before .before .before .before .before .before .before .before .before .before .before .before .before .before .before .before .before .before .before .before .before .before .before .before .before .before .before .before .before .before .before .args .row) []) 0 0) (c .before .before .before .before .before .before .before .before .before .before .before .before .before .before .before .before .before .before .before .before .before .before .before .before .before .get-dogma-attribute .result .«min_attribute_id») refl (ap (λ (r : DogmaAttribute). r .«min_attribute_id») (c .before .before .before .before .before .before .before .before .before .before .before .before .before .before .before .before .before .before .before .before .before .before .before .before .before .get-dogma-attribute .ensures ∙ ap (λ (a : ℤ). getDogmaAttribute (bookOf (c .before .before .before .before .before .before .before .before .before .before .before .before .before .before .before .before .before .before .before .before .before .before .before .before .before .before .before .before .before .before .before .before .before .before .args .book .now) (c .before .before .before .before .before .before .before .before .before .before .before .before .before .before .before .before .before .before .before .before .before .before .before .before .before .before .before .before .before .before .before .before .before .before .args .pairs .now)) a) (toZ-ofZ (sfits-of (c .before .before .before .before .before .before .before .before .before .before .before .before .before .before .before .before .before .before .before .before .before .before .before .before .before .before .before .before .signed .ok)) ∙ id))) _ _ (c .enum-told2 .given .1) _ _ _ (rw (toZ-ofZ (sfits-of (c .before .before .before .before .before .before .before .before .before .before .before .before .before .before .before .before .before .before .before .before .before .before .before .struct-told .given .1 .1 .1 .0 .1))) at (c .before .before .before .before .before .before .limited .ensures (evaluating.operated-on h (c .before .before .before .before .before .before .before .before .before .before .before .before .before .before .before .before .before .before .before .before .before .before .before .before .before .before .before .before .before .before .before .before .before .before .args .left) (c .before .before .before .before .before .before .before .before .before .before .before .got .given .0 .0) (c .before .before .before .before .before .before .before .before .before .before .before .got .given .0 .1 .0) (c .before .before .before .before .before .before .before .before .before .before .before .before .before .before .before .before .before .operated .last .0) (c .before .before .before .before .before .before .before .before .before .before .before .before .before .before .before .before .before .operated .last .1 .0) (c .before .before .before .before .before .before .before .before .before .before .before .before .before .before .before .before .before .operated .last .1 .1 .0) k)))
 
 evaluated-limited-requires-2 : (t : ℕ) → evaluated-lts.Need-limited-requires-2 (
   signed-reads.Asked,
@@ -849,7 +870,10 @@ evaluated-limited-requires-2 : (t : ℕ) → evaluated-lts.Need-limited-requires
   limited-below t,
   limited.Post,
 ) (evaluated-at t) evaluated.Post
-evaluated-limited-requires-2 t c κs = search needs
+evaluated-limited-requires-2 t c κs =
+    let id : (c .before .before .before .before .before .before .before .before .before .before .before .before .before .before .before .before .before .before .before .before .before .before .before .before .before .before .before .before .before .before .before .before .signed .result) ≡ toZ w32 (getD (getD (c .before .before .before .before .before .before .before .before .before .before .before .before .before .before .before .before .before .before .before .before .before .before .before .before .before .before .before .before .before .before .before .before .before .before .before .before .before .before .args .rows .now) (c .before .before .before .before .before .before .before .before .before .before .before .before .before .before .before .before .before .before .before .before .before .before .before .before .before .before .before .before .before .before .before .before .before .before .before .before .before .before .args .row) []) 1 0) = c .before .before .before .before .before .before .before .before .before .before .before .before .before .before .before .before .before .before .before .before .before .before .before .before .before .before .before .before .before .before .before .before .signed .ensures .0 in
+    let k = rw (c .before .before .before .before .before .before .before .before .before .before .before .before .before .before .before .got .given .1) at (c .before .before .before .before .before .before .before .before .before .before .before .before .before .before .before .before .before .before .before .before .before .operated .ensures (c .before .before .before .before .before .before .before .before .before .before .before .before .before .before .before .before .before .before .before .before .before .before .before .before .before .before .before .before .before .before .before .before .before .before .before .before .before .before .pre .1)) in let l = rw (toZ-ofZ (sfits-of (c .before .before .before .before .before .before .before .before .before .before .before .before .before .before .before .before .before .before .before .before .before .before .before .before .before .before .before .struct-told .given .1 .1 .1 .0 .1)), c .before .before .before .before .low .given .1) at (c .before .before .before .before .before .before .before .before .before .before .limited .ensures (evaluating.operated-on (c .before .before .before .before .before .before .before .before .before .before .before .before .before .before .before .before .before .before .before .before .before .before .before .before .before .before .before .before .before .before .before .before .before .before .before .before .before .before .pre .1) (c .before .before .before .before .before .before .before .before .before .before .before .before .before .before .before .before .before .before .before .before .before .before .before .before .before .before .before .before .before .before .before .before .before .before .before .before .before .before .args .left) (c .before .before .before .before .before .before .before .before .before .before .before .before .before .before .before .got .given .0 .0) (c .before .before .before .before .before .before .before .before .before .before .before .before .before .before .before .got .given .0 .1 .0) (c .before .before .before .before .before .before .before .before .before .before .before .before .before .before .before .before .before .before .before .before .before .operated .last .0) (c .before .before .before .before .before .before .before .before .before .before .before .before .before .before .before .before .before .before .before .before .before .operated .last .1 .0) (c .before .before .before .before .before .before .before .before .before .before .before .before .before .before .before .before .before .before .before .before .before .operated .last .1 .1 .0) k)) in
+    (omega (arith, c .before .before .before .before .before .before .before .before .before .before .before .before .before .before .before .before .before .before .before .before .before .before .before .before .before .before .before .before .before .before .before .before .before .before .before .before .before .before .pre .0, evaluating.operated-falls (c .before .before .before .before .before .before .before .before .before .before .before .before .before .before .before .before .before .before .before .before .before .before .before .before .before .before .before .before .before .before .before .before .before .before .before .before .before .before .pre .1) (c .before .before .before .before .before .before .before .before .before .before .before .before .before .before .before .before .before .before .before .before .before .before .before .before .before .before .before .before .before .before .before .before .before .before .before .before .before .before .args .left) (c .before .before .before .before .before .before .before .before .before .before .before .before .before .before .before .got .given .0 .0) (c .before .before .before .before .before .before .before .before .before .before .before .before .before .before .before .got .given .0 .1 .0) (c .before .before .before .before .before .before .before .before .before .before .before .before .before .before .before .before .before .before .before .before .before .operated .last .0) (c .before .before .before .before .before .before .before .before .before .before .before .before .before .before .before .before .before .before .before .before .before .operated .last .1 .0) (c .before .before .before .before .before .before .before .before .before .before .before .before .before .before .before .before .before .before .before .before .before .operated .last .1 .1 .0) k, evaluating.raised-falls (c .before .before .before .before .before .before .before .before .before .before .before .before .before .before .before .before .before .before .before .before .before .before .before .before .before .before .before .before .before .before .before .before .before .before .before .before .before .before .pre .1) (c .before .before .before .before .before .before .before .before .before .before .before .before .before .before .before .before .before .before .before .before .before .before .before .before .before .before .before .before .before .before .before .before .before .before .before .before .before .before .args .left) (c .before .before .before .before .before .before .before .before .before .before .before .before .before .before .before .got .given .0 .0) (c .before .before .before .before .before .before .before .before .before .before .before .before .before .before .before .got .given .0 .1 .0) (c .before .before .before .before .before .before .before .before .before .before .before .before .before .before .before .before .before .before .before .before .before .operated .last .0) (c .before .before .before .before .before .before .before .before .before .before .before .before .before .before .before .before .before .before .before .before .before .operated .last .1 .0) (c .before .before .before .before .before .before .before .before .before .before .before .before .before .before .before .before .before .before .before .before .before .operated .last .1 .1 .0) k (getD (getD (c .before .before .before .before .before .before .before .before .before .before .before .before .before .before .before .before .before .before .before .before .before .before .before .before .before .before .before .before .before .before .before .before .before .before .before .before .before .before .args .rows .now) (c .before .before .before .before .before .before .before .before .before .before .before .before .before .before .before .before .before .before .before .before .before .before .before .before .before .before .before .before .before .before .before .before .before .before .before .before .before .before .args .row) []) 0 0) (c .before .before .before .before .before .before .before .before .before .before .before .before .before .before .before .before .before .before .before .before .before .before .before .before .before .before .before .before .before .get-dogma-attribute .result .«min_attribute_id») refl (ap (λ (r : DogmaAttribute). r .«min_attribute_id») (c .before .before .before .before .before .before .before .before .before .before .before .before .before .before .before .before .before .before .before .before .before .before .before .before .before .before .before .before .before .get-dogma-attribute .ensures ∙ ap (λ (a : ℤ). getDogmaAttribute (bookOf (c .before .before .before .before .before .before .before .before .before .before .before .before .before .before .before .before .before .before .before .before .before .before .before .before .before .before .before .before .before .before .before .before .before .before .before .before .before .before .args .book .now) (c .before .before .before .before .before .before .before .before .before .before .before .before .before .before .before .before .before .before .before .before .before .before .before .before .before .before .before .before .before .before .before .before .before .before .before .before .before .before .args .pairs .now)) a) (toZ-ofZ (sfits-of (c .before .before .before .before .before .before .before .before .before .before .before .before .before .before .before .before .before .before .before .before .before .before .before .before .before .before .before .before .before .before .before .before .signed .ok)) ∙ id))) (c .before .before .before .before .before .before .before .before .before .before .before .before .before .before .before .before .before .before .before .before .before .before .before .before .before .before .before .before .before .get-dogma-attribute .result .«max_attribute_id») (ap (λ (r : DogmaAttribute). r .«max_attribute_id») (c .before .before .before .before .before .before .before .before .before .before .before .before .before .before .before .before .before .before .before .before .before .before .before .before .before .before .before .before .before .get-dogma-attribute .ensures ∙ ap (λ (a : ℤ). getDogmaAttribute (bookOf (c .before .before .before .before .before .before .before .before .before .before .before .before .before .before .before .before .before .before .before .before .before .before .before .before .before .before .before .before .before .before .before .before .before .before .before .before .before .before .args .book .now) (c .before .before .before .before .before .before .before .before .before .before .before .before .before .before .before .before .before .before .before .before .before .before .before .before .before .before .before .before .before .before .before .before .before .before .before .before .before .before .args .pairs .now)) a) (toZ-ofZ (sfits-of (c .before .before .before .before .before .before .before .before .before .before .before .before .before .before .before .before .before .before .before .before .before .before .before .before .before .before .before .before .before .before .before .before .signed .ok)) ∙ id))) (c .before .before .before .before .low .given .0 .0) (c .before .before .before .before .low .given .0 .1 .0) (c .before .before .before .before .before .before .before .before .before .before .limited .last .0) (c .before .before .before .before .before .before .before .before .before .before .limited .last .1 .0) (c .before .before .before .before .before .before .before .before .before .before .limited .last .1 .1 .0) l), (evaluating.raised-on (c .before .before .before .before .before .before .before .before .before .before .before .before .before .before .before .before .before .before .before .before .before .before .before .before .before .before .before .before .before .before .before .before .before .before .before .before .before .before .pre .1) (c .before .before .before .before .before .before .before .before .before .before .before .before .before .before .before .before .before .before .before .before .before .before .before .before .before .before .before .before .before .before .before .before .before .before .before .before .before .before .args .left) (c .before .before .before .before .before .before .before .before .before .before .before .before .before .before .before .got .given .0 .0) (c .before .before .before .before .before .before .before .before .before .before .before .before .before .before .before .got .given .0 .1 .0) (c .before .before .before .before .before .before .before .before .before .before .before .before .before .before .before .before .before .before .before .before .before .operated .last .0) (c .before .before .before .before .before .before .before .before .before .before .before .before .before .before .before .before .before .before .before .before .before .operated .last .1 .0) (c .before .before .before .before .before .before .before .before .before .before .before .before .before .before .before .before .before .before .before .before .before .operated .last .1 .1 .0) k (getD (getD (c .before .before .before .before .before .before .before .before .before .before .before .before .before .before .before .before .before .before .before .before .before .before .before .before .before .before .before .before .before .before .before .before .before .before .before .before .before .before .args .rows .now) (c .before .before .before .before .before .before .before .before .before .before .before .before .before .before .before .before .before .before .before .before .before .before .before .before .before .before .before .before .before .before .before .before .before .before .before .before .before .before .args .row) []) 0 0) (c .before .before .before .before .before .before .before .before .before .before .before .before .before .before .before .before .before .before .before .before .before .before .before .before .before .before .before .before .before .get-dogma-attribute .result .«min_attribute_id») refl (ap (λ (r : DogmaAttribute). r .«min_attribute_id») (c .before .before .before .before .before .before .before .before .before .before .before .before .before .before .before .before .before .before .before .before .before .before .before .before .before .before .before .before .before .get-dogma-attribute .ensures ∙ ap (λ (a : ℤ). getDogmaAttribute (bookOf (c .before .before .before .before .before .before .before .before .before .before .before .before .before .before .before .before .before .before .before .before .before .before .before .before .before .before .before .before .before .before .before .before .before .before .before .before .before .before .args .book .now) (c .before .before .before .before .before .before .before .before .before .before .before .before .before .before .before .before .before .before .before .before .before .before .before .before .before .before .before .before .before .before .before .before .before .before .before .before .before .before .args .pairs .now)) a) (toZ-ofZ (sfits-of (c .before .before .before .before .before .before .before .before .before .before .before .before .before .before .before .before .before .before .before .before .before .before .before .before .before .before .before .before .before .before .before .before .signed .ok)) ∙ id))) (c .before .before .before .before .before .before .before .before .before .before .before .before .before .before .before .before .before .before .before .before .before .before .before .before .before .before .before .before .before .get-dogma-attribute .result .«max_attribute_id») (ap (λ (r : DogmaAttribute). r .«max_attribute_id») (c .before .before .before .before .before .before .before .before .before .before .before .before .before .before .before .before .before .before .before .before .before .before .before .before .before .before .before .before .before .get-dogma-attribute .ensures ∙ ap (λ (a : ℤ). getDogmaAttribute (bookOf (c .before .before .before .before .before .before .before .before .before .before .before .before .before .before .before .before .before .before .before .before .before .before .before .before .before .before .before .before .before .before .before .before .before .before .before .before .before .before .args .book .now) (c .before .before .before .before .before .before .before .before .before .before .before .before .before .before .before .before .before .before .before .before .before .before .before .before .before .before .before .before .before .before .before .before .before .before .before .before .before .before .args .pairs .now)) a) (toZ-ofZ (sfits-of (c .before .before .before .before .before .before .before .before .before .before .before .before .before .before .before .before .before .before .before .before .before .before .before .before .before .before .before .before .before .before .before .before .signed .ok)) ∙ id))) (c .before .before .before .before .low .given .0 .0) (c .before .before .before .before .low .given .0 .1 .0) (c .before .before .before .before .before .before .before .before .before .before .limited .last .0) (c .before .before .before .before .before .before .before .before .before .before .limited .last .1 .0) (c .before .before .before .before .before .before .before .before .before .before .limited .last .1 .1 .0) l, (evaluating.object-few (c .before .before .before .before .before .before .before .before .before .before .before .before .before .before .before .before .before .before .before .before .before .before .before .before .before .before .before .before .before .before .before .before .before .before .before .before .before .before .pre .1), evaluating.raised-good (c .before .before .before .before .before .before .before .before .before .before .before .before .before .before .before .before .before .before .before .before .before .before .before .before .before .before .before .before .before .before .before .before .before .before .before .before .before .before .pre .1) (c .before .before .before .before .before .before .before .before .before .before .before .before .before .before .before .before .before .before .before .before .before .before .before .before .before .before .before .before .before .before .before .before .before .before .before .before .before .before .args .left) (c .before .before .before .before .before .before .before .before .before .before .before .before .before .before .before .got .given .0 .0) (c .before .before .before .before .before .before .before .before .before .before .before .before .before .before .before .got .given .0 .1 .0) (c .before .before .before .before .before .before .before .before .before .before .before .before .before .before .before .before .before .before .before .before .before .operated .last .0) (c .before .before .before .before .before .before .before .before .before .before .before .before .before .before .before .before .before .before .before .before .before .operated .last .1 .0) (c .before .before .before .before .before .before .before .before .before .before .before .before .before .before .before .before .before .before .before .before .before .operated .last .1 .1 .0) k (getD (getD (c .before .before .before .before .before .before .before .before .before .before .before .before .before .before .before .before .before .before .before .before .before .before .before .before .before .before .before .before .before .before .before .before .before .before .before .before .before .before .args .rows .now) (c .before .before .before .before .before .before .before .before .before .before .before .before .before .before .before .before .before .before .before .before .before .before .before .before .before .before .before .before .before .before .before .before .before .before .before .before .before .before .args .row) []) 0 0) (c .before .before .before .before .before .before .before .before .before .before .before .before .before .before .before .before .before .before .before .before .before .before .before .before .before .before .before .before .before .get-dogma-attribute .result .«min_attribute_id») refl (ap (λ (r : DogmaAttribute). r .«min_attribute_id») (c .before .before .before .before .before .before .before .before .before .before .before .before .before .before .before .before .before .before .before .before .before .before .before .before .before .before .before .before .before .get-dogma-attribute .ensures ∙ ap (λ (a : ℤ). getDogmaAttribute (bookOf (c .before .before .before .before .before .before .before .before .before .before .before .before .before .before .before .before .before .before .before .before .before .before .before .before .before .before .before .before .before .before .before .before .before .before .before .before .before .before .args .book .now) (c .before .before .before .before .before .before .before .before .before .before .before .before .before .before .before .before .before .before .before .before .before .before .before .before .before .before .before .before .before .before .before .before .before .before .before .before .before .before .args .pairs .now)) a) (toZ-ofZ (sfits-of (c .before .before .before .before .before .before .before .before .before .before .before .before .before .before .before .before .before .before .before .before .before .before .before .before .before .before .before .before .before .before .before .before .signed .ok)) ∙ id))) (c .before .before .before .before .before .before .before .before .before .before .before .before .before .before .before .before .before .before .before .before .before .before .before .before .before .before .before .before .before .get-dogma-attribute .result .«max_attribute_id») (ap (λ (r : DogmaAttribute). r .«max_attribute_id») (c .before .before .before .before .before .before .before .before .before .before .before .before .before .before .before .before .before .before .before .before .before .before .before .before .before .before .before .before .before .get-dogma-attribute .ensures ∙ ap (λ (a : ℤ). getDogmaAttribute (bookOf (c .before .before .before .before .before .before .before .before .before .before .before .before .before .before .before .before .before .before .before .before .before .before .before .before .before .before .before .before .before .before .before .before .before .before .before .before .before .before .args .book .now) (c .before .before .before .before .before .before .before .before .before .before .before .before .before .before .before .before .before .before .before .before .before .before .before .before .before .before .before .before .before .before .before .before .before .before .before .before .before .before .args .pairs .now)) a) (toZ-ofZ (sfits-of (c .before .before .before .before .before .before .before .before .before .before .before .before .before .before .before .before .before .before .before .before .before .before .before .before .before .before .before .before .before .before .before .before .signed .ok)) ∙ id))) (c .before .before .before .before .low .given .0 .0) (c .before .before .before .before .low .given .0 .1 .0) (c .before .before .before .before .before .before .before .before .before .before .limited .last .0) (c .before .before .before .before .before .before .before .before .before .before .limited .last .1 .0) (c .before .before .before .before .before .before .before .before .before .before .limited .last .1 .1 .0) l)))
 
 evaluated-same-length-7 : (t : ℕ) → evaluated-lts.Need-same-length-7 (
   signed-reads.Asked,
@@ -863,7 +887,7 @@ evaluated-same-length-7 : (t : ℕ) → evaluated-lts.Need-same-length-7 (
   limited-below t,
   limited.Post,
 ) (evaluated-at t) evaluated.Post
-evaluated-same-length-7 t c = search needs
+evaluated-same-length-7 t c = c .before .before .before .before .limited2 .kept .0 ∙ c .before .before .before .before .before .before .before .before .before .before .before .before .before .before .before .limited .kept .0 ∙ c .before .before .before .before .before .before .before .before .before .before .before .before .before .before .before .before .before .before .before .before .before .before .before .before .before .before .operated .kept .0
 
 evaluated-same-length-8 : (t : ℕ) → evaluated-lts.Need-same-length-8 (
   signed-reads.Asked,
@@ -877,7 +901,7 @@ evaluated-same-length-8 : (t : ℕ) → evaluated-lts.Need-same-length-8 (
   limited-below t,
   limited.Post,
 ) (evaluated-at t) evaluated.Post
-evaluated-same-length-8 t c = search needs
+evaluated-same-length-8 t c = c .before .before .before .before .limited2 .kept .1 .0 ∙ c .before .before .before .before .before .before .before .before .before .before .before .before .before .before .before .limited .kept .1 .0 ∙ c .before .before .before .before .before .before .before .before .before .before .before .before .before .before .before .before .before .before .before .before .before .before .before .before .before .before .operated .kept .1 .0
 
 evaluated-same-length-9 : (t : ℕ) → evaluated-lts.Need-same-length-9 (
   signed-reads.Asked,
@@ -905,7 +929,9 @@ evaluated-returns-4 : (t : ℕ) → evaluated-lts.Need-returns-4 (
   limited-below t,
   limited.Post,
 ) (evaluated-at t) evaluated.Post
-evaluated-returns-4 t c = search needs
+evaluated-returns-4 t c =
+    let id : (c .before .before .before .before .before .before .before .before .before .before .before .before .before .before .before .before .before .before .before .before .before .before .before .before .before .before .before .before .before .before .before .before .before .before .before .before .before .signed .result) ≡ toZ w32 (getD (getD (c .before .before .before .before .before .before .before .before .before .before .before .before .before .before .before .before .before .before .before .before .before .before .before .before .before .before .before .before .before .before .before .before .before .before .before .before .before .before .before .before .before .before .before .args .rows .now) (c .before .before .before .before .before .before .before .before .before .before .before .before .before .before .before .before .before .before .before .before .before .before .before .before .before .before .before .before .before .before .before .before .before .before .before .before .before .before .before .before .before .before .before .args .row) []) 1 0) = c .before .before .before .before .before .before .before .before .before .before .before .before .before .before .before .before .before .before .before .before .before .before .before .before .before .before .before .before .before .before .before .before .before .before .before .before .before .signed .ensures .0 in
+    λ h. let k = rw (c .before .before .before .before .before .before .before .before .before .before .before .before .before .before .before .before .before .before .before .before .got .given .1) at (c .before .before .before .before .before .before .before .before .before .before .before .before .before .before .before .before .before .before .before .before .before .before .before .before .before .before .operated .ensures h) in let l = rw (toZ-ofZ (sfits-of (c .before .before .before .before .before .before .before .before .before .before .before .before .before .before .before .before .before .before .before .before .before .before .before .before .before .before .before .before .before .before .before .before .struct-told .given .1 .1 .1 .0 .1)), c .before .before .before .before .before .before .before .before .before .low .given .1) at (c .before .before .before .before .before .before .before .before .before .before .before .before .before .before .before .limited .ensures (evaluating.operated-on h (c .before .before .before .before .before .before .before .before .before .before .before .before .before .before .before .before .before .before .before .before .before .before .before .before .before .before .before .before .before .before .before .before .before .before .before .before .before .before .before .before .before .before .before .args .left) (c .before .before .before .before .before .before .before .before .before .before .before .before .before .before .before .before .before .before .before .before .got .given .0 .0) (c .before .before .before .before .before .before .before .before .before .before .before .before .before .before .before .before .before .before .before .before .got .given .0 .1 .0) (c .before .before .before .before .before .before .before .before .before .before .before .before .before .before .before .before .before .before .before .before .before .before .before .before .before .before .operated .last .0) (c .before .before .before .before .before .before .before .before .before .before .before .before .before .before .before .before .before .before .before .before .before .before .before .before .before .before .operated .last .1 .0) (c .before .before .before .before .before .before .before .before .before .before .before .before .before .before .before .before .before .before .before .before .before .before .before .before .before .before .operated .last .1 .1 .0) k)) in evaluating.evaluated-meets h (c .before .before .before .before .before .before .before .before .before .before .before .before .before .before .before .before .before .before .before .before .before .before .before .before .before .before .before .before .before .before .before .before .before .before .before .before .before .before .before .before .before .before .before .args .left) (c .before .before .before .before .before .before .before .before .before .before .before .before .before .before .before .before .before .before .before .before .got .given .0 .0) (c .before .before .before .before .before .before .before .before .before .before .before .before .before .before .before .before .before .before .before .before .got .given .0 .1 .0) (c .before .before .before .before .before .before .before .before .before .before .before .before .before .before .before .before .before .before .before .before .before .before .before .before .before .before .operated .last .0) (c .before .before .before .before .before .before .before .before .before .before .before .before .before .before .before .before .before .before .before .before .before .before .before .before .before .before .operated .last .1 .0) (c .before .before .before .before .before .before .before .before .before .before .before .before .before .before .before .before .before .before .before .before .before .before .before .before .before .before .operated .last .1 .1 .0) k (getD (getD (c .before .before .before .before .before .before .before .before .before .before .before .before .before .before .before .before .before .before .before .before .before .before .before .before .before .before .before .before .before .before .before .before .before .before .before .before .before .before .before .before .before .before .before .args .rows .now) (c .before .before .before .before .before .before .before .before .before .before .before .before .before .before .before .before .before .before .before .before .before .before .before .before .before .before .before .before .before .before .before .before .before .before .before .before .before .before .before .before .before .before .before .args .row) []) 0 0) (c .before .before .before .before .before .before .before .before .before .before .before .before .before .before .before .before .before .before .before .before .before .before .before .before .before .before .before .before .before .before .before .before .before .before .get-dogma-attribute .result .«min_attribute_id») refl (ap (λ (r : DogmaAttribute). r .«min_attribute_id») (c .before .before .before .before .before .before .before .before .before .before .before .before .before .before .before .before .before .before .before .before .before .before .before .before .before .before .before .before .before .before .before .before .before .before .get-dogma-attribute .ensures ∙ ap (λ (a : ℤ). getDogmaAttribute (bookOf (c .before .before .before .before .before .before .before .before .before .before .before .before .before .before .before .before .before .before .before .before .before .before .before .before .before .before .before .before .before .before .before .before .before .before .before .before .before .before .before .before .before .before .before .args .book .now) (c .before .before .before .before .before .before .before .before .before .before .before .before .before .before .before .before .before .before .before .before .before .before .before .before .before .before .before .before .before .before .before .before .before .before .before .before .before .before .before .before .before .before .before .args .pairs .now)) a) (toZ-ofZ (sfits-of (c .before .before .before .before .before .before .before .before .before .before .before .before .before .before .before .before .before .before .before .before .before .before .before .before .before .before .before .before .before .before .before .before .before .before .before .before .before .signed .ok)) ∙ id))) (toZ w32 (ofZ w32 (c .before .before .before .before .before .before .before .before .before .before .before .before .before .before .before .before .before .before .before .before .before .before .before .before .before .before .before .before .before .before .before .before .before .before .get-dogma-attribute .result .«max_attribute_id»))) (toZ-ofZ (sfits-of (c .before .before .before .before .before .before .before .before .before .before .before .before .before .before .before .before .before .before .before .before .before .before .before .before .before .before .before .before .before .before .before .struct-told2 .given .1 .1 .1 .1 .0 .1)) ∙ ap (λ (r : DogmaAttribute). r .«max_attribute_id») (c .before .before .before .before .before .before .before .before .before .before .before .before .before .before .before .before .before .before .before .before .before .before .before .before .before .before .before .before .before .before .before .before .before .before .get-dogma-attribute .ensures ∙ ap (λ (a : ℤ). getDogmaAttribute (bookOf (c .before .before .before .before .before .before .before .before .before .before .before .before .before .before .before .before .before .before .before .before .before .before .before .before .before .before .before .before .before .before .before .before .before .before .before .before .before .before .before .before .before .before .before .args .book .now) (c .before .before .before .before .before .before .before .before .before .before .before .before .before .before .before .before .before .before .before .before .before .before .before .before .before .before .before .before .before .before .before .before .before .before .before .before .before .before .before .before .before .before .before .args .pairs .now)) a) (toZ-ofZ (sfits-of (c .before .before .before .before .before .before .before .before .before .before .before .before .before .before .before .before .before .before .before .before .before .before .before .before .before .before .before .before .before .before .before .before .before .before .before .before .before .signed .ok)) ∙ id))) (c .before .before .before .before .before .before .before .before .before .low .given .0 .0) (c .before .before .before .before .before .before .before .before .before .low .given .0 .1 .0) (c .before .before .before .before .before .before .before .before .before .before .before .before .before .before .before .limited .last .0) (c .before .before .before .before .before .before .before .before .before .before .before .before .before .before .before .limited .last .1 .0) (c .before .before .before .before .before .before .before .before .before .before .before .before .before .before .before .limited .last .1 .1 .0) l _ _ _ _ (c .before .before .before .before .limited2 .ensures (evaluating.raised-on h (c .before .before .before .before .before .before .before .before .before .before .before .before .before .before .before .before .before .before .before .before .before .before .before .before .before .before .before .before .before .before .before .before .before .before .before .before .before .before .before .before .before .before .before .args .left) (c .before .before .before .before .before .before .before .before .before .before .before .before .before .before .before .before .before .before .before .before .got .given .0 .0) (c .before .before .before .before .before .before .before .before .before .before .before .before .before .before .before .before .before .before .before .before .got .given .0 .1 .0) (c .before .before .before .before .before .before .before .before .before .before .before .before .before .before .before .before .before .before .before .before .before .before .before .before .before .before .operated .last .0) (c .before .before .before .before .before .before .before .before .before .before .before .before .before .before .before .before .before .before .before .before .before .before .before .before .before .before .operated .last .1 .0) (c .before .before .before .before .before .before .before .before .before .before .before .before .before .before .before .before .before .before .before .before .before .before .before .before .before .before .operated .last .1 .1 .0) k (getD (getD (c .before .before .before .before .before .before .before .before .before .before .before .before .before .before .before .before .before .before .before .before .before .before .before .before .before .before .before .before .before .before .before .before .before .before .before .before .before .before .before .before .before .before .before .args .rows .now) (c .before .before .before .before .before .before .before .before .before .before .before .before .before .before .before .before .before .before .before .before .before .before .before .before .before .before .before .before .before .before .before .before .before .before .before .before .before .before .before .before .before .before .before .args .row) []) 0 0) (c .before .before .before .before .before .before .before .before .before .before .before .before .before .before .before .before .before .before .before .before .before .before .before .before .before .before .before .before .before .before .before .before .before .before .get-dogma-attribute .result .«min_attribute_id») refl (ap (λ (r : DogmaAttribute). r .«min_attribute_id») (c .before .before .before .before .before .before .before .before .before .before .before .before .before .before .before .before .before .before .before .before .before .before .before .before .before .before .before .before .before .before .before .before .before .before .get-dogma-attribute .ensures ∙ ap (λ (a : ℤ). getDogmaAttribute (bookOf (c .before .before .before .before .before .before .before .before .before .before .before .before .before .before .before .before .before .before .before .before .before .before .before .before .before .before .before .before .before .before .before .before .before .before .before .before .before .before .before .before .before .before .before .args .book .now) (c .before .before .before .before .before .before .before .before .before .before .before .before .before .before .before .before .before .before .before .before .before .before .before .before .before .before .before .before .before .before .before .before .before .before .before .before .before .before .before .before .before .before .before .args .pairs .now)) a) (toZ-ofZ (sfits-of (c .before .before .before .before .before .before .before .before .before .before .before .before .before .before .before .before .before .before .before .before .before .before .before .before .before .before .before .before .before .before .before .before .before .before .before .before .before .signed .ok)) ∙ id))) (toZ w32 (ofZ w32 (c .before .before .before .before .before .before .before .before .before .before .before .before .before .before .before .before .before .before .before .before .before .before .before .before .before .before .before .before .before .before .before .before .before .before .get-dogma-attribute .result .«max_attribute_id»))) (toZ-ofZ (sfits-of (c .before .before .before .before .before .before .before .before .before .before .before .before .before .before .before .before .before .before .before .before .before .before .before .before .before .before .before .before .before .before .before .struct-told2 .given .1 .1 .1 .1 .0 .1)) ∙ ap (λ (r : DogmaAttribute). r .«max_attribute_id») (c .before .before .before .before .before .before .before .before .before .before .before .before .before .before .before .before .before .before .before .before .before .before .before .before .before .before .before .before .before .before .before .before .before .before .get-dogma-attribute .ensures ∙ ap (λ (a : ℤ). getDogmaAttribute (bookOf (c .before .before .before .before .before .before .before .before .before .before .before .before .before .before .before .before .before .before .before .before .before .before .before .before .before .before .before .before .before .before .before .before .before .before .before .before .before .before .before .before .before .before .before .args .book .now) (c .before .before .before .before .before .before .before .before .before .before .before .before .before .before .before .before .before .before .before .before .before .before .before .before .before .before .before .before .before .before .before .before .before .before .before .before .before .before .before .before .before .before .before .args .pairs .now)) a) (toZ-ofZ (sfits-of (c .before .before .before .before .before .before .before .before .before .before .before .before .before .before .before .before .before .before .before .before .before .before .before .before .before .before .before .before .before .before .before .before .before .before .before .before .before .signed .ok)) ∙ id))) (c .before .before .before .before .before .before .before .before .before .low .given .0 .0) (c .before .before .before .before .before .before .before .before .before .low .given .0 .1 .0) (c .before .before .before .before .before .before .before .before .before .before .before .before .before .before .before .limited .last .0) (c .before .before .before .before .before .before .before .before .before .before .before .before .before .before .before .limited .last .1 .0) (c .before .before .before .before .before .before .before .before .before .before .before .before .before .before .before .limited .last .1 .1 .0) l))
 
 abbrev gathered-Inv-loop : gathered-lts.InvT-loop
 gathered-Inv-loop values₀ sources₀ floats₀ book pairs states stretches limits rows bases entries entry-values run row operator high left found own used count p₀ k₀ values sources floats p k = ((k ≤ count) × (length values ≡ length values₀) × (length sources ≡ length sources₀) × (length floats ≡ length floats₀)) × ((h : Busy (tables book pairs states stretches limits rows bases entries entry-values) run values₀ sources₀ floats₀ used row own (operator ∷ [])) → Gathering (h .ready .world) (h .ready .sources₀) (h .ready .floats₀) left row high operator found (h .ready .mem) k values sources floats p)
@@ -951,7 +977,7 @@ gathered-cast-count : (t : ℕ) → gathered-lts.Need-cast-count (
   apply-reads.Asked,
   apply-reads.Learnt,
 ) (gathered-at t) gathered.Post gathered-Inv-loop gathered-μ-loop
-gathered-cast-count t c = search needs
+gathered-cast-count t c = count-fits (c .before .before .before .before .before .pre .1 .0 .ready) (c .before .before .before .before .before .args .row) (c .before .before .before .before .before .pre .1 .0 .within) (c .before .before .before .before .before .good .1 .1 .1 .1 .1 .1 .1 .1 .1 .1 .0 .0)
 
 gathered-empty-requires : (t : ℕ) → gathered-lts.Need-empty-requires (
   empty-reads.Asked,
@@ -971,7 +997,7 @@ gathered-loop-holds : (t : ℕ) → gathered-lts.Need-loop-holds (
   apply-reads.Asked,
   apply-reads.Learnt,
 ) (gathered-at t) gathered.Post gathered-Inv-loop gathered-μ-loop
-gathered-loop-holds t c = search needs
+gathered-loop-holds t c = ((omega arith, refl, refl, refl), λ h. gathering.gathering-starts h (c .before .before .before .before .before .before .args .left) (c .before .before .before .before .before .before .args .high) (c .before .before .before .before .before .before .args .found) _ (c .empty .ensures .0 _ _ _ _ (c .before .before .before .before .before .before .args .row) (c .before .before .before .before .before .before .args .high) (c .before .before .before .before .before .before .args .operator) _ _ _ (c .before .before .before .before .before .before .pre .1 .1 .0) (gathering.keeping-now h)) (c .empty .ensures .1 .2) (c .empty .ensures .1 .1))
 
 gathered-with-entry-requires : (t : ℕ) → gathered-lts.Need-with-entry-requires (
   empty-reads.Asked,
@@ -981,7 +1007,7 @@ gathered-with-entry-requires : (t : ℕ) → gathered-lts.Need-with-entry-requir
   apply-reads.Asked,
   apply-reads.Learnt,
 ) (gathered-at t) gathered.Post gathered-Inv-loop gathered-μ-loop
-gathered-with-entry-requires t c κs = search needs
+gathered-with-entry-requires t c κs = (omega (arith, c .before .before .before .before .before .before .before .before .before .before .before .pre .0, falling.gathering-falls (c .before .before .before .before .before .before .before .before .before .before .before .pre .1 .0) (c .before .before .before .before .loop .inv .1 (c .before .before .before .before .before .before .before .before .before .before .before .pre .1 .0))), gathering.piling (c .before .before .before .before .before .before .before .before .before .before .before .pre .1 .0) (c .before .before .before .before .loop .inv .1 (c .before .before .before .before .before .before .before .before .before .before .before .pre .1 .0)) (omega (arith, c .before .before .before .loop-test .taken, c .before .before .before .before .before .before .before .before .before .before .before .pre .1 .0 .ready .told .row (c .before .before .before .before .before .before .before .before .before .before .before .args .row) (c .before .before .before .before .before .before .before .before .before .before .before .pre .1 .0 .within) .count)))
 
 gathered-add-k : (t : ℕ) → gathered-lts.Need-add-k (
   empty-reads.Asked,
@@ -991,7 +1017,7 @@ gathered-add-k : (t : ℕ) → gathered-lts.Need-add-k (
   apply-reads.Asked,
   apply-reads.Learnt,
 ) (gathered-at t) gathered.Post gathered-Inv-loop gathered-μ-loop
-gathered-add-k t c = search needs
+gathered-add-k t c = fits-below (c .before .before .before .before .before .before .before .before .before .loop .k + 1) (length (c .before .before .before .before .before .before .before .before .before .before .before .before .before .before .before .before .args .entries .now)) (omega (arith, c .before .before .before .before .before .before .before .before .loop-test .taken, first-and-count (c .before .before .before .before .before .before .before .before .before .before .before .before .before .before .before .before .pre .1 .0 .ready) (c .before .before .before .before .before .before .before .before .before .before .before .before .before .before .before .before .args .row) (c .before .before .before .before .before .before .before .before .before .before .before .before .before .before .before .before .pre .1 .0 .within))) (c .before .before .before .before .before .before .before .before .before .before .before .before .before .before .before .before .good .1 .1 .1 .1 .1 .1 .1 .1 .1 .1 .0 .0)
 
 gathered-enum-told : (t : ℕ) → gathered-lts.Need-enum-told (
   empty-reads.Asked,
@@ -1021,7 +1047,7 @@ gathered-loop-again : (t : ℕ) → gathered-lts.Need-loop-again (
   apply-reads.Asked,
   apply-reads.Learnt,
 ) (gathered-at t) gathered.Post gathered-Inv-loop gathered-μ-loop
-gathered-loop-again t c = search needs
+gathered-loop-again t c = ((omega (arith, c .before .before .before .before .before .before .before .before .before .before .loop-test .taken), c .before .before .before .before .before .before .with-entry .kept .0 ∙ c .before .before .before .before .before .before .before .before .before .before .before .loop .inv .0 .1, c .before .before .before .before .before .before .with-entry .kept .1 .0 ∙ c .before .before .before .before .before .before .before .before .before .before .before .loop .inv .0 .2, c .before .before .before .before .before .before .with-entry .kept .1 .1 .0 ∙ c .before .before .before .before .before .before .before .before .before .before .before .loop .inv .0 .3), λ h. let inside : (c .before .before .before .before .before .before .before .before .before .before .before .loop .k) < length ((rowAt (h .ready .world) (c .before .before .before .before .before .before .before .before .before .before .before .before .before .before .before .before .before .before .args .row)) .entries) = omega (arith, c .before .before .before .before .before .before .before .before .before .before .loop-test .taken, h .ready .told .row (c .before .before .before .before .before .before .before .before .before .before .before .before .before .before .before .before .before .before .args .row) (h .within) .count) in gathering.gathering-next h (c .before .before .before .before .before .before .before .before .before .before .before .loop .inv .1 h) inside _ _ _ _ (c .before .before .before .before .before .before .with-entry .ensures (gathering.piling h (c .before .before .before .before .before .before .before .before .before .before .before .loop .inv .1 h) inside)) (c .enum-told .given .1))
 
 gathered-enum-known-stop : (t : ℕ) → gathered-lts.Need-enum-known-stop (
   empty-reads.Asked,
@@ -1041,7 +1067,7 @@ gathered-same-length : (t : ℕ) → gathered-lts.Need-same-length (
   apply-reads.Asked,
   apply-reads.Learnt,
 ) (gathered-at t) gathered.Post gathered-Inv-loop gathered-μ-loop
-gathered-same-length t c = search needs
+gathered-same-length t c = c .before .before .before .before .before .before .before .with-entry .kept .0 ∙ c .before .before .before .before .before .before .before .before .before .before .before .before .loop .inv .0 .1
 
 gathered-same-length-2 : (t : ℕ) → gathered-lts.Need-same-length-2 (
   empty-reads.Asked,
@@ -1051,7 +1077,7 @@ gathered-same-length-2 : (t : ℕ) → gathered-lts.Need-same-length-2 (
   apply-reads.Asked,
   apply-reads.Learnt,
 ) (gathered-at t) gathered.Post gathered-Inv-loop gathered-μ-loop
-gathered-same-length-2 t c = search needs
+gathered-same-length-2 t c = c .before .before .before .before .before .before .before .with-entry .kept .1 .0 ∙ c .before .before .before .before .before .before .before .before .before .before .before .before .loop .inv .0 .2
 
 gathered-same-length-3 : (t : ℕ) → gathered-lts.Need-same-length-3 (
   empty-reads.Asked,
@@ -1061,7 +1087,7 @@ gathered-same-length-3 : (t : ℕ) → gathered-lts.Need-same-length-3 (
   apply-reads.Asked,
   apply-reads.Learnt,
 ) (gathered-at t) gathered.Post gathered-Inv-loop gathered-μ-loop
-gathered-same-length-3 t c = search needs
+gathered-same-length-3 t c = c .before .before .before .before .before .before .before .with-entry .kept .1 .1 .0 ∙ c .before .before .before .before .before .before .before .before .before .before .before .before .loop .inv .0 .3
 
 gathered-returns : (t : ℕ) → gathered-lts.Need-returns (
   empty-reads.Asked,
@@ -1071,7 +1097,7 @@ gathered-returns : (t : ℕ) → gathered-lts.Need-returns (
   apply-reads.Asked,
   apply-reads.Learnt,
 ) (gathered-at t) gathered.Post gathered-Inv-loop gathered-μ-loop
-gathered-returns t c = search needs
+gathered-returns t c = λ h. let inside : (c .before .before .before .before .before .before .before .before .before .before .before .before .loop .k) < length ((rowAt (h .ready .world) (c .before .before .before .before .before .before .before .before .before .before .before .before .before .before .before .before .before .before .before .args .row)) .entries) = omega (arith, c .before .before .before .before .before .before .before .before .before .before .before .loop-test .taken, h .ready .told .row (c .before .before .before .before .before .before .before .before .before .before .before .before .before .before .before .before .before .before .before .args .row) (h .within) .count) in gathering.gathering-refused h (c .before .before .before .before .before .before .before .before .before .before .before .before .loop .inv .1 h) inside _ _ _ _ _ (c .before .before .before .before .before .before .before .with-entry .ensures (gathering.piling h (c .before .before .before .before .before .before .before .before .before .before .before .before .loop .inv .1 h) inside)) (c .before .stop .given .1)
 
 gathered-mul-object : (t : ℕ) → gathered-lts.Need-mul-object (
   empty-reads.Asked,
@@ -1081,7 +1107,7 @@ gathered-mul-object : (t : ℕ) → gathered-lts.Need-mul-object (
   apply-reads.Asked,
   apply-reads.Learnt,
 ) (gathered-at t) gathered.Post gathered-Inv-loop gathered-μ-loop
-gathered-mul-object t c = search needs
+gathered-mul-object t c = scaled-fits _ _ _ (row-inside (c .before .before .before .before .before .before .before .before .pre .1 .0 .ready) (c .before .before .before .before .before .before .before .before .args .row) (c .before .before .before .before .before .before .before .before .pre .1 .0 .within)) (c .before .before .before .before .before .before .before .before .good .1 .1 .1 .1 .1 .1 .1 .1 .0 .1)
 
 gathered-index-1-object : (t : ℕ) → gathered-lts.Need-index-1-object (
   empty-reads.Asked,
@@ -1091,7 +1117,7 @@ gathered-index-1-object : (t : ℕ) → gathered-lts.Need-index-1-object (
   apply-reads.Asked,
   apply-reads.Learnt,
 ) (gathered-at t) gathered.Post gathered-Inv-loop gathered-μ-loop
-gathered-index-1-object t c = search needs
+gathered-index-1-object t c = row-inside (c .before .before .before .before .before .before .before .before .pre .1 .0 .ready) (c .before .before .before .before .before .before .before .before .args .row) (c .before .before .before .before .before .before .before .before .pre .1 .0 .within)
 
 gathered-index-2-object : (t : ℕ) → gathered-lts.Need-index-2-object (
   empty-reads.Asked,
@@ -1111,7 +1137,7 @@ gathered-mul-first : (t : ℕ) → gathered-lts.Need-mul-first (
   apply-reads.Asked,
   apply-reads.Learnt,
 ) (gathered-at t) gathered.Post gathered-Inv-loop gathered-μ-loop
-gathered-mul-first t c = search needs
+gathered-mul-first t c = scaled-fits _ _ _ (row-inside (c .before .before .before .before .before .before .before .before .before .pre .1 .0 .ready) (c .before .before .before .before .before .before .before .before .before .args .row) (c .before .before .before .before .before .before .before .before .before .pre .1 .0 .within)) (c .before .before .before .before .before .before .before .before .before .good .1 .1 .1 .1 .1 .1 .1 .1 .0 .1)
 
 gathered-index-1-first : (t : ℕ) → gathered-lts.Need-index-1-first (
   empty-reads.Asked,
@@ -1121,7 +1147,7 @@ gathered-index-1-first : (t : ℕ) → gathered-lts.Need-index-1-first (
   apply-reads.Asked,
   apply-reads.Learnt,
 ) (gathered-at t) gathered.Post gathered-Inv-loop gathered-μ-loop
-gathered-index-1-first t c = search needs
+gathered-index-1-first t c = row-inside (c .before .before .before .before .before .before .before .before .before .pre .1 .0 .ready) (c .before .before .before .before .before .before .before .before .before .args .row) (c .before .before .before .before .before .before .before .before .before .pre .1 .0 .within)
 
 gathered-index-2-first : (t : ℕ) → gathered-lts.Need-index-2-first (
   empty-reads.Asked,
@@ -1141,7 +1167,7 @@ gathered-apply-requires : (t : ℕ) → gathered-lts.Need-apply-requires (
   apply-reads.Asked,
   apply-reads.Learnt,
 ) (gathered-at t) gathered.Post gathered-Inv-loop gathered-μ-loop
-gathered-apply-requires t c κs = search needs
+gathered-apply-requires t c κs = gathering.floats-there (c .before .before .before .before .before .before .before .before .before .before .before .pre .1 .0) (c .before .before .before .before .loop .inv .1 (c .before .before .before .before .before .before .before .before .before .before .before .pre .1 .0))
 
 gathered-same-length-4 : (t : ℕ) → gathered-lts.Need-same-length-4 (
   empty-reads.Asked,
@@ -1151,7 +1177,7 @@ gathered-same-length-4 : (t : ℕ) → gathered-lts.Need-same-length-4 (
   apply-reads.Asked,
   apply-reads.Learnt,
 ) (gathered-at t) gathered.Post gathered-Inv-loop gathered-μ-loop
-gathered-same-length-4 t c = search needs
+gathered-same-length-4 t c = c .before .before .before .before .before .before .loop .inv .0 .1
 
 gathered-same-length-5 : (t : ℕ) → gathered-lts.Need-same-length-5 (
   empty-reads.Asked,
@@ -1161,7 +1187,7 @@ gathered-same-length-5 : (t : ℕ) → gathered-lts.Need-same-length-5 (
   apply-reads.Asked,
   apply-reads.Learnt,
 ) (gathered-at t) gathered.Post gathered-Inv-loop gathered-μ-loop
-gathered-same-length-5 t c = search needs
+gathered-same-length-5 t c = c .before .before .before .before .before .before .loop .inv .0 .2
 
 gathered-same-length-6 : (t : ℕ) → gathered-lts.Need-same-length-6 (
   empty-reads.Asked,
@@ -1171,7 +1197,7 @@ gathered-same-length-6 : (t : ℕ) → gathered-lts.Need-same-length-6 (
   apply-reads.Asked,
   apply-reads.Learnt,
 ) (gathered-at t) gathered.Post gathered-Inv-loop gathered-μ-loop
-gathered-same-length-6 t c = search needs
+gathered-same-length-6 t c = c .before .apply .kept .0 ∙ c .before .before .before .before .before .before .loop .inv .0 .3
 
 gathered-returns-2 : (t : ℕ) → gathered-lts.Need-returns-2 (
   empty-reads.Asked,
@@ -1181,7 +1207,9 @@ gathered-returns-2 : (t : ℕ) → gathered-lts.Need-returns-2 (
   apply-reads.Asked,
   apply-reads.Learnt,
 ) (gathered-at t) gathered.Post gathered-Inv-loop gathered-μ-loop
-gathered-returns-2 t c = search needs
+gathered-returns-2 t c =
+    λ h. let G = c .before .before .before .before .before .before .loop .inv .1 h in let all : length ((rowAt (h .ready .world) (c .before .before .before .before .before .before .before .before .before .before .before .before .before .args .row)) .entries) ≤ (c .before .before .before .before .before .before .loop .k) = omega (arith, c .before .before .before .before .before .loop-test .left, h .ready .told .row (c .before .before .before .before .before .before .before .before .before .before .before .before .before .args .row) (h .within) .count) in
+    gathering.gathering-applied h G all (c .before .before .before .before .before .before .before .before .before .before .before .before .before .pre .1 .1 .1 ∙ gathering.high-is (h .ready) (c .before .before .before .before .before .before .before .before .before .before .before .before .before .args .row) (h .within)) _ _ _ (c .before .apply .ensures (h .ready .world) _ (h .ready .sources₀) (h .ready .floats₀) (c .before .before .before .before .before .before .before .before .before .before .before .before .before .args .row) _ (c .before .before .before .before .before .before .before .before .before .before .before .before .before .args .high) (c .before .before .before .before .before .before .before .before .before .before .before .before .before .args .operator) (c .before .before .before .before .before .before .before .before .before .before .before .before .before .args .found) (G .sofar) _ (h .ready .told .recorded) (gathering.begins h G all refl) (sym (h .ready .told .held .object (c .before .before .before .before .before .before .before .before .before .before .before .before .before .args .row) (h .within))) (G .piled) (gathering.all-fresh h G all) (gathering.none-recorded h G all) (gathering.all-plain h G all))
 
 limited-returns : (t : ℕ) → limited-lts.Need-returns (
   calculated-value-below t,
@@ -1189,7 +1217,7 @@ limited-returns : (t : ℕ) → limited-lts.Need-returns (
   held-to-reads.Asked,
   held-to-reads.Learnt,
 ) (limited-at t) limited.Post
-limited-returns t c = λ h. limiting.not-limited _ _ _ _ _ _ (c .before .before .before .before .before .args .object) _ (c .before .before .before .before .before .args .least) (c .before .before .before .before .before .args .limit) (c .before .before .before .before .before .args .v) _ (same-bits (c .before .before .before .before .before .fits .limit) (search needs) (c .if1 .taken)) (c .before .before .before .before .before .pre .1 .1 .1) (h .holds)
+limited-returns t c = λ h. limiting.not-limited _ _ _ _ _ _ (c .before .before .before .before .before .args .object) _ (c .before .before .before .before .before .args .least) (c .before .before .before .before .before .args .limit) (c .before .before .before .before .before .args .v) _ (same-bits {w = w32} (c .before .before .before .before .before .args .limit) (pos 0) (c .before .before .before .before .before .fits .limit) (search needs) (c .if1 .taken)) (c .before .before .before .before .before .pre .1 .1 .1) (h .holds)
 
 limited-calculated-value-requires : (t : ℕ) → limited-lts.Need-calculated-value-requires (
   calculated-value-below t,
@@ -1245,7 +1273,7 @@ limited-returns-2 : (t : ℕ) → limited-lts.Need-returns-2 (
   held-to-reads.Asked,
   held-to-reads.Learnt,
 ) (limited-at t) limited.Post
-limited-returns-2 t c = λ h. limiting.limit-refused _ _ _ _ _ _ (c .before .before .before .before .before .before .before .before .before .before .before .before .before .before .before .args .object) _ (c .before .before .before .before .before .before .before .before .before .before .before .before .before .before .before .args .least) (c .before .before .before .before .before .before .before .before .before .before .before .before .before .before .before .args .limit) (c .before .before .before .before .before .before .before .before .before .before .before .before .before .before .before .args .v) _ (tested-apart (c .before .before .before .before .before .before .before .before .before .before .before .before .before .before .before .fits .limit) (search needs) (c .before .before .before .before .before .before .before .before .before .before .if1 .left)) _ _ (c .enum-told .given .1) (rw (toZ-ofZ (c .before .before .before .before .before .before .before .before .before .before .before .before .before .before .before .fits .limit)) at (c .before .before .before .before .before .before .calculated-value .ensures h))
+limited-returns-2 t c = λ h. limiting.limit-refused _ _ _ _ _ _ (c .before .before .before .before .before .before .before .before .before .before .before .before .before .before .before .args .object) _ (c .before .before .before .before .before .before .before .before .before .before .before .before .before .before .before .args .least) (c .before .before .before .before .before .before .before .before .before .before .before .before .before .before .before .args .limit) (c .before .before .before .before .before .before .before .before .before .before .before .before .before .before .before .args .v) _ (tested-apart {w = w32} (c .before .before .before .before .before .before .before .before .before .before .before .before .before .before .before .args .limit) (pos 0) (c .before .before .before .before .before .before .before .before .before .before .before .before .before .before .before .fits .limit) (search needs) (c .before .before .before .before .before .before .before .before .before .before .if1 .left)) _ _ (c .enum-told .given .1) (rw (toZ-ofZ (c .before .before .before .before .before .before .before .before .before .before .before .before .before .before .before .fits .limit)) at (c .before .before .before .before .before .before .calculated-value .ensures h))
 
 limited-held-to-requires : (t : ℕ) → limited-lts.Need-held-to-requires (
   calculated-value-below t,
@@ -1285,7 +1313,7 @@ limited-returns-3 : (t : ℕ) → limited-lts.Need-returns-3 (
   held-to-reads.Asked,
   held-to-reads.Learnt,
 ) (limited-at t) limited.Post
-limited-returns-3 t c = λ h. rw (c .held-to .ensures) (limiting.limit-held _ _ _ _ _ _ (c .before .before .before .before .before .before .before .before .before .before .before .before .before .before .before .before .before .args .object) _ (c .before .before .before .before .before .before .before .before .before .before .before .before .before .before .before .before .before .args .least) (c .before .before .before .before .before .before .before .before .before .before .before .before .before .before .before .before .before .args .limit) (c .before .before .before .before .before .before .before .before .before .before .before .before .before .before .before .before .before .args .v) _ (tested-apart (c .before .before .before .before .before .before .before .before .before .before .before .before .before .before .before .before .before .fits .limit) (search needs) (c .before .before .before .before .before .before .before .before .before .before .before .before .if1 .left)) _ _ (c .before .before .before .before .before .before .before .before .before .before .before .before .before .before .before .before .before .pre .1 .1 .1) (rw (toZ-ofZ (c .before .before .before .before .before .before .before .before .before .before .before .before .before .before .before .before .before .fits .limit), c .before .before .got .given .1) at (c .before .before .before .before .before .before .before .before .calculated-value .ensures h)))
+limited-returns-3 t c = λ h. rw (c .held-to .ensures) (limiting.limit-held _ _ _ _ _ _ (c .before .before .before .before .before .before .before .before .before .before .before .before .before .before .before .before .before .args .object) _ (c .before .before .before .before .before .before .before .before .before .before .before .before .before .before .before .before .before .args .least) (c .before .before .before .before .before .before .before .before .before .before .before .before .before .before .before .before .before .args .limit) (c .before .before .before .before .before .before .before .before .before .before .before .before .before .before .before .before .before .args .v) _ (tested-apart {w = w32} (c .before .before .before .before .before .before .before .before .before .before .before .before .before .before .before .before .before .args .limit) (pos 0) (c .before .before .before .before .before .before .before .before .before .before .before .before .before .before .before .before .before .fits .limit) (search needs) (c .before .before .before .before .before .before .before .before .before .before .before .before .if1 .left)) _ _ (c .before .before .before .before .before .before .before .before .before .before .before .before .before .before .before .before .before .pre .1 .1 .1) (rw (toZ-ofZ (c .before .before .before .before .before .before .before .before .before .before .before .before .before .before .before .before .before .fits .limit), c .before .before .got .given .1) at (c .before .before .before .before .before .before .before .before .calculated-value .ensures h)))
 
 abbrev operated-Inv-loop : operated-lts.InvT-loop
 operated-Inv-loop values₀ sources₀ floats₀ book pairs states stretches limits rows bases entries entry-values run row high left used first end value₀ own₀ u₀ code₀ values sources floats value own u code = ((code ≤ 9) × (length values ≡ length values₀) × (length sources ≡ length sources₀) × (length floats ≡ length floats₀)) × ((h : Busy (tables book pairs states stretches limits rows bases entries entry-values) run values₀ sources₀ floats₀ used row 0 operators) → Operating (h .ready .world) (h .ready .sources₀) (h .ready .floats₀) left row (h .ready .mem) code values sources floats value own u)
@@ -1331,7 +1359,7 @@ operated-cast-first : (t : ℕ) → operated-lts.Need-cast-first (
   gathered-below t,
   gathered.Post,
 ) (operated-at t) operated.Post operated-Inv-loop operated-μ-loop
-operated-cast-first t c = search needs
+operated-cast-first t c = first-fits (c .before .before .before .before .before .pre .1 .0 .ready) (c .before .before .before .before .before .args .row) (c .before .before .before .before .before .pre .1 .0 .within) (c .before .before .before .before .before .good .1 .1 .1 .1 .1 .1 .1 .1 .1 .1 .0 .0)
 
 operated-mul-end : (t : ℕ) → operated-lts.Need-mul-end (
   operator-of-reads.Asked,
@@ -1371,7 +1399,7 @@ operated-cast-end : (t : ℕ) → operated-lts.Need-cast-end (
   gathered-below t,
   gathered.Post,
 ) (operated-at t) operated.Post operated-Inv-loop operated-μ-loop
-operated-cast-end t c = search needs
+operated-cast-end t c = count-fits (c .before .before .before .before .before .before .pre .1 .0 .ready) (c .before .before .before .before .before .before .args .row) (c .before .before .before .before .before .before .pre .1 .0 .within) (c .before .before .before .before .before .before .good .1 .1 .1 .1 .1 .1 .1 .1 .1 .1 .0 .0)
 
 operated-add-end : (t : ℕ) → operated-lts.Need-add-end (
   operator-of-reads.Asked,
@@ -1381,7 +1409,7 @@ operated-add-end : (t : ℕ) → operated-lts.Need-add-end (
   gathered-below t,
   gathered.Post,
 ) (operated-at t) operated.Post operated-Inv-loop operated-μ-loop
-operated-add-end t c = search needs
+operated-add-end t c = end-fits (c .before .before .before .before .before .before .pre .1 .0 .ready) (c .before .before .before .before .before .before .args .row) (c .before .before .before .before .before .before .pre .1 .0 .within) (c .before .before .before .before .before .before .good .1 .1 .1 .1 .1 .1 .1 .1 .1 .1 .0 .0)
 
 operated-mul-value : (t : ℕ) → operated-lts.Need-mul-value (
   operator-of-reads.Asked,
@@ -1411,7 +1439,7 @@ operated-loop-holds : (t : ℕ) → operated-lts.Need-loop-holds (
   gathered-below t,
   gathered.Post,
 ) (operated-at t) operated.Post operated-Inv-loop operated-μ-loop
-operated-loop-holds t c = search needs
+operated-loop-holds t c = ((omega arith, refl, refl, refl), λ h. operating.operating-starts h (c .before .before .before .before .before .before .before .args .left))
 
 operated-operator-of-requires : (t : ℕ) → operated-lts.Need-operator-of-requires (
   operator-of-reads.Asked,
@@ -1441,7 +1469,7 @@ operated-has-operator-requires : (t : ℕ) → operated-lts.Need-has-operator-re
   gathered-below t,
   gathered.Post,
 ) (operated-at t) operated.Post operated-Inv-loop operated-μ-loop
-operated-has-operator-requires t c κs = search needs
+operated-has-operator-requires t c κs = operating.end-inside (c .before .before .before .before .before .before .before .before .before .before .pre .1 .0) refl refl
 
 operated-gathered-requires : (t : ℕ) → operated-lts.Need-gathered-requires (
   operator-of-reads.Asked,
@@ -1451,7 +1479,9 @@ operated-gathered-requires : (t : ℕ) → operated-lts.Need-gathered-requires (
   gathered-below t,
   gathered.Post,
 ) (operated-at t) operated.Post operated-Inv-loop operated-μ-loop
-operated-gathered-requires t c κs = search needs
+operated-gathered-requires t c κs =
+    let O = c .before .before .before .before .before .before .before .loop .inv .1 (c .before .before .before .before .before .before .before .before .before .before .before .before .before .before .before .pre .1 .0) in
+    (omega (arith, c .before .before .before .before .before .before .before .before .before .before .before .before .before .before .before .pre .0, falling.operating-falls (c .before .before .before .before .before .before .before .before .before .before .before .before .before .before .before .pre .1 .0) O), (operating.busy-now (c .before .before .before .before .before .before .before .before .before .before .before .before .before .before .before .pre .1 .0) O (c .before .before .before .before .before .before .loop-test .taken) _ (c .before .before .before .before .before .operator-of .ensures), (O .number, c .before .before .before .before .before .before .before .before .before .before .before .before .before .before .before .pre .1 .1)))
 
 operated-enum-known-part : (t : ℕ) → operated-lts.Need-enum-known-part (
   operator-of-reads.Asked,
@@ -1481,7 +1511,7 @@ operated-loop-again : (t : ℕ) → operated-lts.Need-loop-again (
   gathered-below t,
   gathered.Post,
 ) (operated-at t) operated.Post operated-Inv-loop operated-μ-loop
-operated-loop-again t c = search needs
+operated-loop-again t c = ((omega (arith, c .before .before .before .before .before .before .before .before .before .before .before .before .before .before .loop-test .taken), c .before .before .before .before .before .before .before .gathered .kept .0 ∙ c .before .before .before .before .before .before .before .before .before .before .before .before .before .before .before .loop .inv .0 .1, c .before .before .before .before .before .before .before .gathered .kept .1 .0 ∙ c .before .before .before .before .before .before .before .before .before .before .before .before .before .before .before .loop .inv .0 .2, c .before .before .before .before .before .before .before .gathered .kept .1 .1 .0 ∙ c .before .before .before .before .before .before .before .before .before .before .before .before .before .before .before .loop .inv .0 .3), λ h. operating.operating-next h (c .before .before .before .before .before .before .before .before .before .before .before .before .before .before .before .loop .inv .1 h) (c .before .before .before .before .before .before .before .before .before .before .before .before .before .before .loop-test .taken) _ (c .before .before .before .before .before .before .before .before .before .before .before .before .before .operator-of .ensures) _ _ _ _ _ _ (rw (c .before .part .given .1) at (c .before .before .before .before .before .before .before .gathered .ensures (operating.busy-now h (c .before .before .before .before .before .before .before .before .before .before .before .before .before .before .before .loop .inv .1 h) (c .before .before .before .before .before .before .before .before .before .before .before .before .before .before .loop-test .taken) _ (c .before .before .before .before .before .before .before .before .before .before .before .before .before .operator-of .ensures)))))
 
 operated-enum-known-part-2 : (t : ℕ) → operated-lts.Need-enum-known-part-2 (
   operator-of-reads.Asked,
@@ -1501,7 +1531,7 @@ operated-same-length : (t : ℕ) → operated-lts.Need-same-length (
   gathered-below t,
   gathered.Post,
 ) (operated-at t) operated.Post operated-Inv-loop operated-μ-loop
-operated-same-length t c = search needs
+operated-same-length t c = c .before .before .before .before .before .before .before .gathered .kept .0 ∙ c .before .before .before .before .before .before .before .before .before .before .before .before .before .before .before .loop .inv .0 .1
 
 operated-same-length-2 : (t : ℕ) → operated-lts.Need-same-length-2 (
   operator-of-reads.Asked,
@@ -1511,7 +1541,7 @@ operated-same-length-2 : (t : ℕ) → operated-lts.Need-same-length-2 (
   gathered-below t,
   gathered.Post,
 ) (operated-at t) operated.Post operated-Inv-loop operated-μ-loop
-operated-same-length-2 t c = search needs
+operated-same-length-2 t c = c .before .before .before .before .before .before .before .gathered .kept .1 .0 ∙ c .before .before .before .before .before .before .before .before .before .before .before .before .before .before .before .loop .inv .0 .2
 
 operated-same-length-3 : (t : ℕ) → operated-lts.Need-same-length-3 (
   operator-of-reads.Asked,
@@ -1521,7 +1551,7 @@ operated-same-length-3 : (t : ℕ) → operated-lts.Need-same-length-3 (
   gathered-below t,
   gathered.Post,
 ) (operated-at t) operated.Post operated-Inv-loop operated-μ-loop
-operated-same-length-3 t c = search needs
+operated-same-length-3 t c = c .before .before .before .before .before .before .before .gathered .kept .1 .1 .0 ∙ c .before .before .before .before .before .before .before .before .before .before .before .before .before .before .before .loop .inv .0 .3
 
 operated-returns : (t : ℕ) → operated-lts.Need-returns (
   operator-of-reads.Asked,
@@ -1531,7 +1561,7 @@ operated-returns : (t : ℕ) → operated-lts.Need-returns (
   gathered-below t,
   gathered.Post,
 ) (operated-at t) operated.Post operated-Inv-loop operated-μ-loop
-operated-returns t c = search needs
+operated-returns t c = λ h. operating.operating-refused h (c .before .before .before .before .before .before .before .before .before .before .before .before .before .before .before .loop .inv .1 h) (c .before .before .before .before .before .before .before .before .before .before .before .before .before .before .loop-test .taken) _ (c .before .before .before .before .before .before .before .before .before .before .before .before .before .operator-of .ensures) _ _ _ _ (rw (c .before .part2 .given .1) at (c .before .before .before .before .before .before .before .gathered .ensures (operating.busy-now h (c .before .before .before .before .before .before .before .before .before .before .before .before .before .before .before .loop .inv .1 h) (c .before .before .before .before .before .before .before .before .before .before .before .before .before .before .loop-test .taken) _ (c .before .before .before .before .before .before .before .before .before .before .before .before .before .operator-of .ensures))))
 
 operated-loop-less-2 : (t : ℕ) → operated-lts.Need-loop-less-2 (
   operator-of-reads.Asked,
@@ -1551,7 +1581,7 @@ operated-loop-again-2 : (t : ℕ) → operated-lts.Need-loop-again-2 (
   gathered-below t,
   gathered.Post,
 ) (operated-at t) operated.Post operated-Inv-loop operated-μ-loop
-operated-loop-again-2 t c = search needs
+operated-loop-again-2 t c = ((omega (arith, c .before .before .before .loop-test .taken), c .before .before .before .before .loop .inv .0 .1, c .before .before .before .before .loop .inv .0 .2, c .before .before .before .before .loop .inv .0 .3), λ h. operating.operating-passed h (c .before .before .before .before .loop .inv .1 h) (c .before .before .before .loop-test .taken) _ (c .before .before .operator-of .ensures) (sym (operating.has-is h (c .before .before .operator-of .result) refl refl (c .before .has-operator .ensures)) ∙ c .if1 .left))
 
 operated-same-length-4 : (t : ℕ) → operated-lts.Need-same-length-4 (
   operator-of-reads.Asked,
@@ -1561,7 +1591,7 @@ operated-same-length-4 : (t : ℕ) → operated-lts.Need-same-length-4 (
   gathered-below t,
   gathered.Post,
 ) (operated-at t) operated.Post operated-Inv-loop operated-μ-loop
-operated-same-length-4 t c = search needs
+operated-same-length-4 t c = c .before .loop .inv .0 .1
 
 operated-same-length-5 : (t : ℕ) → operated-lts.Need-same-length-5 (
   operator-of-reads.Asked,
@@ -1571,7 +1601,7 @@ operated-same-length-5 : (t : ℕ) → operated-lts.Need-same-length-5 (
   gathered-below t,
   gathered.Post,
 ) (operated-at t) operated.Post operated-Inv-loop operated-μ-loop
-operated-same-length-5 t c = search needs
+operated-same-length-5 t c = c .before .loop .inv .0 .2
 
 operated-same-length-6 : (t : ℕ) → operated-lts.Need-same-length-6 (
   operator-of-reads.Asked,
@@ -1581,7 +1611,7 @@ operated-same-length-6 : (t : ℕ) → operated-lts.Need-same-length-6 (
   gathered-below t,
   gathered.Post,
 ) (operated-at t) operated.Post operated-Inv-loop operated-μ-loop
-operated-same-length-6 t c = search needs
+operated-same-length-6 t c = c .before .loop .inv .0 .3
 
 operated-returns-2 : (t : ℕ) → operated-lts.Need-returns-2 (
   operator-of-reads.Asked,
@@ -1591,7 +1621,7 @@ operated-returns-2 : (t : ℕ) → operated-lts.Need-returns-2 (
   gathered-below t,
   gathered.Post,
 ) (operated-at t) operated.Post operated-Inv-loop operated-μ-loop
-operated-returns-2 t c = search needs
+operated-returns-2 t c = λ h. operating.operating-ends h (c .before .loop .inv .1 h) (c .loop-test .left)
 
 resisted-enum-told : (t : ℕ) → resisted-lts.Need-enum-told (
   calculated-value-below t,
@@ -1663,7 +1693,7 @@ resisted-returns : (t : ℕ) → resisted-lts.Need-returns (
   product-reads.Asked,
   product-reads.Learnt,
 ) (resisted-at t) resisted.Post
-resisted-returns t c = λ h i row o. rw (c .before .before .before .before .before .before .before .before .before .before .before .resistance .given .1) (limiting.resist-refused _ _ _ _ _ _ i row _ (c .before .before .before .before .before .before .before .before .before .before .before .before .before .before .before .before .before .args .v) _ _ _ _ (c .enum-told2 .given .1) (rw (toZ-ofZ (c .before .before .before .before .before .before .before .before .before .before .known-told .given .0)) at (c .before .before .before .before .before .before .calculated-value .ensures h)))
+resisted-returns t c = λ h i row o. rw (c .before .before .before .before .before .before .before .before .before .before .before .resistance .given .1) (limiting.resist-refused _ _ _ _ _ _ i row _ (c .before .before .before .before .before .before .before .before .before .before .before .before .before .before .before .before .before .args .v) _ _ _ _ (c .enum-told2 .given .1) (rw (toZ-ofZ (sfits-of (c .before .before .before .before .before .before .before .before .before .before .known-told .given .0 .1))) at (c .before .before .before .before .before .before .calculated-value .ensures h)))
 
 resisted-product-requires : (t : ℕ) → resisted-lts.Need-product-requires (
   calculated-value-below t,
@@ -1727,7 +1757,7 @@ resisted-returns-3 : (t : ℕ) → resisted-lts.Need-returns-3 (
   product-reads.Asked,
   product-reads.Learnt,
 ) (resisted-at t) resisted.Post
-resisted-returns-3 t c = λ h i row o. rw (c .before .before .before .before .before .before .before .before .before .before .before .before .before .before .before .before .resistance .given .1) (limiting.resist-made _ _ _ _ _ _ i row _ (c .before .before .before .before .before .before .before .before .before .before .before .before .before .before .before .before .before .before .before .before .before .before .args .v) _ _ _ _ (rw (toZ-ofZ (c .before .before .before .before .before .before .before .before .before .before .before .before .before .before .before .known-told .given .0), c .before .before .before .before .before .got .given .1) at (c .before .before .before .before .before .before .before .before .before .before .before .calculated-value .ensures h)) _ (sym (c .before .before .before .product .ensures) ∙ c .before .step .given .1) (limiting.product-good _ _ (sym (c .before .before .before .product .ensures) ∙ c .before .step .given .1)))
+resisted-returns-3 t c = λ h i row o. rw (c .before .before .before .before .before .before .before .before .before .before .before .before .before .before .before .before .resistance .given .1) (limiting.resist-made _ _ _ _ _ _ i row _ (c .before .before .before .before .before .before .before .before .before .before .before .before .before .before .before .before .before .before .before .before .before .before .args .v) _ _ _ _ (rw (toZ-ofZ (sfits-of (c .before .before .before .before .before .before .before .before .before .before .before .before .before .before .before .known-told .given .0 .1)), c .before .before .before .before .before .got .given .1) at (c .before .before .before .before .before .before .before .before .before .before .before .calculated-value .ensures h)) _ (sym (c .before .before .before .product .ensures) ∙ c .before .step .given .1) (limiting.product-good _ _ (sym (c .before .before .before .product .ensures) ∙ c .before .step .given .1)))
 
 resisted-same-length-7 : (t : ℕ) → resisted-lts.Need-same-length-7 (
   calculated-value-below t,
@@ -1759,7 +1789,7 @@ resisted-returns-4 : (t : ℕ) → resisted-lts.Need-returns-4 (
   product-reads.Asked,
   product-reads.Learnt,
 ) (resisted-at t) resisted.Post
-resisted-returns-4 t c = λ h i row o. rw (c .before .before .before .before .before .before .before .before .before .before .before .before .before .before .before .resistance .given .1) (limiting.resist-not-finite _ _ _ _ _ _ i row _ (c .before .before .before .before .before .before .before .before .before .before .before .before .before .before .before .before .before .before .before .before .before .args .v) _ _ _ _ (rw (toZ-ofZ (c .before .before .before .before .before .before .before .before .before .before .before .before .before .before .known-told .given .0), c .before .before .before .before .got .given .1) at (c .before .before .before .before .before .before .before .before .before .before .calculated-value .ensures h)) (sym (c .before .before .product .ensures) ∙ c .enum-told3 .given .1) o)
+resisted-returns-4 t c = λ h i row o. rw (c .before .before .before .before .before .before .before .before .before .before .before .before .before .before .before .resistance .given .1) (limiting.resist-not-finite _ _ _ _ _ _ i row _ (c .before .before .before .before .before .before .before .before .before .before .before .before .before .before .before .before .before .before .before .before .before .args .v) _ _ _ _ (rw (toZ-ofZ (sfits-of (c .before .before .before .before .before .before .before .before .before .before .before .before .before .before .known-told .given .0 .1)), c .before .before .before .before .got .given .1) at (c .before .before .before .before .before .before .before .before .before .before .calculated-value .ensures h)) (sym (c .before .before .product .ensures) ∙ c .enum-told3 .given .1) o)
 
 strength-enum-known-origin : (t : ℕ) → strength-lts.Need-enum-known-origin (
   calculated-value-below t,
@@ -1783,7 +1813,7 @@ strength-calculated-value-requires : (t : ℕ) → strength-lts.Need-calculated-
   resisted-below t,
   resisted.Post,
 ) (strength-at t) strength.Post
-strength-calculated-value-requires t c κs = search needs
+strength-calculated-value-requires t c κs = (omega (arith, c .before .before .before .before .before .before .before .before .before .before .pre .0), (c .before .before .before .before .before .before .before .before .before .before .pre .1 .0, rw (c .before .before .before .before .origin2 .given .1) at (c .before .before .before .before .before .before .before .before .before .before .pre .1 .1 .sourced)))
 
 strength-enum-known-got : (t : ℕ) → strength-lts.Need-enum-known-got (
   calculated-value-below t,
@@ -1831,7 +1861,7 @@ strength-returns : (t : ℕ) → strength-lts.Need-returns (
   resisted-below t,
   resisted.Post,
 ) (strength-at t) strength.Post
-strength-returns t c = search needs
+strength-returns t c = λ h i row o. limiting.strength-refused _ _ _ _ _ _ i row _ (c .before .before .before .before .before .before .before .before .before .before .before .before .before .before .before .before .before .args .e) _ (c .before .before .before .before .before .before .before .before .before .before .before .origin2 .given .0 .0) (c .before .before .before .before .before .before .before .before .before .before .before .origin2 .given .0 .1 .0) (c .before .before .before .before .before .before .before .before .before .before .before .origin2 .given .0 .1 .1 .0) (c .before .before .before .before .before .before .before .before .before .before .before .origin2 .given .0 .1 .1 .1 .0) (c .before .before .before .before .before .before .before .before .before .before .before .origin2 .given .1) _ _ (c .enum-told .given .1) (rw (toZ-ofZ (sfits-of (c .before .before .before .before .before .before .before .before .before .before .known-told2 .given .1 .1 .1 .0 .1))) at (c .before .before .before .before .before .before .calculated-value .ensures h))
 
 strength-resisted-requires : (t : ℕ) → strength-lts.Need-resisted-requires (
   calculated-value-below t,
@@ -1839,7 +1869,9 @@ strength-resisted-requires : (t : ℕ) → strength-lts.Need-resisted-requires (
   resisted-below t,
   resisted.Post,
 ) (strength-at t) strength.Post
-strength-resisted-requires t c κs = search needs
+strength-resisted-requires t c κs =
+    let k = rw (toZ-ofZ (sfits-of (c .before .before .before .before .before .before .before .before .before .before .before .before .before .before .known-told2 .given .1 .1 .1 .0 .1)), c .before .before .before .before .got .given .1) at (c .before .before .before .before .before .before .before .before .before .before .calculated-value .ensures (c .before .before .before .before .before .before .before .before .before .before .before .before .before .before .before .before .before .before .before .before .before .pre .1 .0)) in
+    (omega (arith, c .before .before .before .before .before .before .before .before .before .before .before .before .before .before .before .before .before .before .before .before .before .pre .0, falling.read-falls (c .before .before .before .before .before .before .before .before .before .before .before .before .before .before .before .before .before .before .before .before .before .pre .1 .0) (c .before .before .before .before .before .before .before .before .before .before .before .before .before .before .before .before .before .before .before .before .before .args .left) (c .before .before .before .before .before .before .before .before .before .before .before .before .before .before .before .origin2 .given .0 .1 .0) (c .before .before .before .before .before .before .before .before .before .before .before .before .before .before .before .origin2 .given .0 .1 .1 .1 .0) (c .before .before .before .before .got .given .0 .0) (c .before .before .before .before .got .given .0 .1 .0) (c .before .before .before .before .before .before .before .before .before .before .calculated-value .last .0) (c .before .before .before .before .before .before .before .before .before .before .calculated-value .last .1 .0) (c .before .before .before .before .before .before .before .before .before .before .calculated-value .last .1 .1 .0) k), (goes-on-from (c .before .before .before .before .before .before .before .before .before .before .before .before .before .before .before .before .before .before .before .before .before .pre .1 .0) (valueOf (c .before .before .before .before .before .before .before .before .before .before .before .before .before .before .before .before .before .before .before .before .before .pre .1 .0 .world) (c .before .before .before .before .before .before .before .before .before .before .before .before .before .before .before .before .before .before .before .before .before .args .left) (c .before .before .before .before .before .before .before .before .before .before .before .before .before .before .before .origin2 .given .0 .1 .0) (c .before .before .before .before .before .before .before .before .before .before .before .before .before .before .before .origin2 .given .0 .1 .1 .1 .0) (c .before .before .before .before .before .before .before .before .before .before .before .before .before .before .before .before .before .before .before .before .before .pre .1 .0 .mem)) (c .before .before .before .before .got .given .0 .0) (c .before .before .before .before .got .given .0 .1 .0) (c .before .before .before .before .before .before .before .before .before .before .calculated-value .last .0) (c .before .before .before .before .before .before .before .before .before .before .calculated-value .last .1 .0) (c .before .before .before .before .before .before .before .before .before .before .calculated-value .last .1 .1 .0) k, number-of (c .before .before .before .before .before .before .before .before .before .before .before .before .before .before .before .before .before .before .before .before .before .pre .1 .0) (valueOf (c .before .before .before .before .before .before .before .before .before .before .before .before .before .before .before .before .before .before .before .before .before .pre .1 .0 .world) (c .before .before .before .before .before .before .before .before .before .before .before .before .before .before .before .before .before .before .before .before .before .args .left) (c .before .before .before .before .before .before .before .before .before .before .before .before .before .before .before .origin2 .given .0 .1 .0) (c .before .before .before .before .before .before .before .before .before .before .before .before .before .before .before .origin2 .given .0 .1 .1 .1 .0) (c .before .before .before .before .before .before .before .before .before .before .before .before .before .before .before .before .before .before .before .before .before .pre .1 .0 .mem)) (c .before .before .before .before .got .given .0 .0) (c .before .before .before .before .got .given .0 .1 .0) (c .before .before .before .before .before .before .before .before .before .before .calculated-value .last .0) (c .before .before .before .before .before .before .before .before .before .before .calculated-value .last .1 .0) (c .before .before .before .before .before .before .before .before .before .before .calculated-value .last .1 .1 .0) k))
 
 strength-returns-2 : (t : ℕ) → strength-lts.Need-returns-2 (
   calculated-value-below t,
@@ -1847,7 +1879,7 @@ strength-returns-2 : (t : ℕ) → strength-lts.Need-returns-2 (
   resisted-below t,
   resisted.Post,
 ) (strength-at t) strength.Post
-strength-returns-2 t c = search needs
+strength-returns-2 t c = λ h i row o. limiting.buff-strength _ _ _ _ _ _ i row _ (c .before .before .before .before .before .before .before .args .e) _ _ _ (c .before .origin .given .1) (rw (c .before .origin .given .1) at (c .before .before .before .before .before .before .before .pre .1 .1 .valued)) (h .holds)
 
 strength-same-length-4 : (t : ℕ) → strength-lts.Need-same-length-4 (
   calculated-value-below t,
@@ -1879,7 +1911,9 @@ strength-returns-3 : (t : ℕ) → strength-lts.Need-returns-3 (
   resisted-below t,
   resisted.Post,
 ) (strength-at t) strength.Post
-strength-returns-3 t c = search needs
+strength-returns-3 t c =
+    λ h i row o. let k = rw (toZ-ofZ (sfits-of (c .before .before .before .before .before .before .before .before .before .before .before .before .before .before .before .before .before .before .before .known-told2 .given .1 .1 .1 .0 .1)), c .before .before .before .before .before .before .before .before .before .got .given .1) at (c .before .before .before .before .before .before .before .before .before .before .before .before .before .before .before .calculated-value .ensures h) in
+    limiting.strength-resisted (h .world) (h .sources₀) (h .floats₀) (c .before .before .before .before .before .before .before .before .before .before .before .before .before .before .before .calculated-value .last .0) (c .before .before .before .before .before .before .before .before .before .before .before .before .before .before .before .calculated-value .last .1 .0) (c .before .before .before .before .before .before .before .before .before .before .before .before .before .before .before .calculated-value .last .1 .1 .0) i row (valueOf (h .world) (c .before .before .before .before .before .before .before .before .before .before .before .before .before .before .before .before .before .before .before .before .before .before .before .before .before .before .args .left)) (c .before .before .before .before .before .before .before .before .before .before .before .before .before .before .before .before .before .before .before .before .before .before .before .before .before .before .args .e) (h .mem) (c .before .before .before .before .before .before .before .before .before .before .before .before .before .before .before .before .before .before .before .before .origin2 .given .0 .0) (c .before .before .before .before .before .before .before .before .before .before .before .before .before .before .before .before .before .before .before .before .origin2 .given .0 .1 .0) (c .before .before .before .before .before .before .before .before .before .before .before .before .before .before .before .before .before .before .before .before .origin2 .given .0 .1 .1 .0) (c .before .before .before .before .before .before .before .before .before .before .before .before .before .before .before .before .before .before .before .before .origin2 .given .0 .1 .1 .1 .0) (c .before .before .before .before .before .before .before .before .before .before .before .before .before .before .before .before .before .before .before .before .origin2 .given .1) (c .before .before .before .before .before .before .before .before .before .got .given .0 .0) (c .before .before .before .before .before .before .before .before .before .got .given .0 .1 .0) k _ _ _ _ (c .before .before .before .before .resisted .ensures (goes-on-from h (valueOf (h .world) (c .before .before .before .before .before .before .before .before .before .before .before .before .before .before .before .before .before .before .before .before .before .before .before .before .before .before .args .left) (c .before .before .before .before .before .before .before .before .before .before .before .before .before .before .before .before .before .before .before .before .origin2 .given .0 .1 .0) (c .before .before .before .before .before .before .before .before .before .before .before .before .before .before .before .before .before .before .before .before .origin2 .given .0 .1 .1 .1 .0) (h .mem)) (c .before .before .before .before .before .before .before .before .before .got .given .0 .0) (c .before .before .before .before .before .before .before .before .before .got .given .0 .1 .0) (c .before .before .before .before .before .before .before .before .before .before .before .before .before .before .before .calculated-value .last .0) (c .before .before .before .before .before .before .before .before .before .before .before .before .before .before .before .calculated-value .last .1 .0) (c .before .before .before .before .before .before .before .before .before .before .before .before .before .before .before .calculated-value .last .1 .1 .0) k) i row o)
 
 with-entry-mul-at : (t : ℕ) → with-entry-lts.Need-mul-at (
   operator-code-reads.Asked,
@@ -1951,7 +1985,7 @@ with-entry-cast-at : (t : ℕ) → with-entry-lts.Need-cast-at (
   stopped-reads.Asked,
   stopped-reads.Learnt,
 ) (with-entry-at t) with-entry.Post
-with-entry-cast-at t c = search needs
+with-entry-cast-at t c = first-fits (c .before .before .before .before .before .pre .1 .ready) (c .before .before .before .before .before .args .row) (c .before .before .before .before .before .pre .1 .within) (c .before .before .before .before .before .good .1 .1 .1 .1 .1 .1 .1 .1 .1 .1 .0 .0)
 
 with-entry-add-at : (t : ℕ) → with-entry-lts.Need-add-at (
   operator-code-reads.Asked,
@@ -1969,7 +2003,7 @@ with-entry-add-at : (t : ℕ) → with-entry-lts.Need-add-at (
   stopped-reads.Asked,
   stopped-reads.Learnt,
 ) (with-entry-at t) with-entry.Post
-with-entry-add-at t c = search needs
+with-entry-add-at t c = taking.place-fits (c .before .before .before .before .before .pre .1) (c .before .before .before .before .before .good .1 .1 .1 .1 .1 .1 .1 .1 .1 .1 .0 .0)
 
 with-entry-mul-code : (t : ℕ) → with-entry-lts.Need-mul-code (
   operator-code-reads.Asked,
@@ -1987,7 +2021,7 @@ with-entry-mul-code : (t : ℕ) → with-entry-lts.Need-mul-code (
   stopped-reads.Asked,
   stopped-reads.Learnt,
 ) (with-entry-at t) with-entry.Post
-with-entry-mul-code t c = search needs
+with-entry-mul-code t c = scaled-fits _ _ _ ((taking.place-inside (c .before .before .before .before .before .pre .1)) .0) (c .before .before .before .before .before .good .1 .1 .1 .1 .1 .1 .1 .1 .1 .1 .0 .1)
 
 with-entry-index-1-code : (t : ℕ) → with-entry-lts.Need-index-1-code (
   operator-code-reads.Asked,
@@ -2005,7 +2039,7 @@ with-entry-index-1-code : (t : ℕ) → with-entry-lts.Need-index-1-code (
   stopped-reads.Asked,
   stopped-reads.Learnt,
 ) (with-entry-at t) with-entry.Post
-with-entry-index-1-code t c = search needs
+with-entry-index-1-code t c = (taking.place-inside (c .before .before .before .before .before .pre .1)) .0
 
 with-entry-index-2-code : (t : ℕ) → with-entry-lts.Need-index-2-code (
   operator-code-reads.Asked,
@@ -2059,7 +2093,7 @@ with-entry-returns : (t : ℕ) → with-entry-lts.Need-returns (
   stopped-reads.Asked,
   stopped-reads.Learnt,
 ) (with-entry-at t) with-entry.Post
-with-entry-returns t c = search needs
+with-entry-returns t c = λ h. taking.entry-other h (c .before .before .before .before .before .before .before .before .args .left) (λ e. c .if1 .taken (e ∙ sym (c .before .operator-code .ensures)))
 
 with-entry-entry-at-requires : (t : ℕ) → with-entry-lts.Need-entry-at-requires (
   operator-code-reads.Asked,
@@ -2077,7 +2111,7 @@ with-entry-entry-at-requires : (t : ℕ) → with-entry-lts.Need-entry-at-requir
   stopped-reads.Asked,
   stopped-reads.Learnt,
 ) (with-entry-at t) with-entry.Post
-with-entry-entry-at-requires t c κs = search needs
+with-entry-entry-at-requires t c κs = taking.place-inside (c .before .before .before .before .before .before .before .before .pre .1)
 
 with-entry-is-running-requires : (t : ℕ) → with-entry-lts.Need-is-running-requires (
   operator-code-reads.Asked,
@@ -2095,7 +2129,7 @@ with-entry-is-running-requires : (t : ℕ) → with-entry-lts.Need-is-running-re
   stopped-reads.Asked,
   stopped-reads.Learnt,
 ) (with-entry-at t) with-entry.Post
-with-entry-is-running-requires t c κs = search needs
+with-entry-is-running-requires t c κs = (taking.entry-good (c .before .before .before .before .before .before .before .before .before .pre .1) (c .before .before .before .before .before .before .before .before .before .args .left) _ (c .entry-at .ensures _ (taking.entry-held (c .before .before .before .before .before .before .before .before .before .pre .1))) (c .before .if1 .left ∙ c .before .before .operator-code .ensures)) .sourced
 
 with-entry-returns-2 : (t : ℕ) → with-entry-lts.Need-returns-2 (
   operator-code-reads.Asked,
@@ -2113,7 +2147,9 @@ with-entry-returns-2 : (t : ℕ) → with-entry-lts.Need-returns-2 (
   stopped-reads.Asked,
   stopped-reads.Learnt,
 ) (with-entry-at t) with-entry.Post
-with-entry-returns-2 t c = search needs
+with-entry-returns-2 t c =
+    let none : (c .before .before .is-running .result || (c .before .before .before .before .before .before .before .before .before .before .before .before .args .run .recording)) ≡ false = sym (not-not (c .before .before .is-running .result || (c .before .before .before .before .before .before .before .before .before .before .before .before .args .run .recording))) ∙ ap not (c .if2 .taken) in
+    λ h. taking.entry-idle h (c .before .before .before .before .before .before .before .before .before .before .before .before .args .left) _ (c .before .before .before .entry-at .ensures _ (taking.entry-held h)) (c .before .before .before .before .if1 .left ∙ c .before .before .before .before .before .operator-code .ensures) (sym (c .before .before .is-running .ensures) ∙ or-false-left (c .before .before .is-running .result) (c .before .before .before .before .before .before .before .before .before .before .before .before .args .run .recording) none) (or-false-right (c .before .before .is-running .result) (c .before .before .before .before .before .before .before .before .before .before .before .before .args .run .recording) none)
 
 with-entry-mul-object : (t : ℕ) → with-entry-lts.Need-mul-object (
   operator-code-reads.Asked,
@@ -2131,7 +2167,7 @@ with-entry-mul-object : (t : ℕ) → with-entry-lts.Need-mul-object (
   stopped-reads.Asked,
   stopped-reads.Learnt,
 ) (with-entry-at t) with-entry.Post
-with-entry-mul-object t c = search needs
+with-entry-mul-object t c = scaled-fits _ _ _ (row-inside (c .before .before .before .before .before .before .before .before .before .before .before .before .pre .1 .ready) (c .before .before .before .before .before .before .before .before .before .before .before .before .args .row) (c .before .before .before .before .before .before .before .before .before .before .before .before .pre .1 .within)) (c .before .before .before .before .before .before .before .before .before .before .before .before .good .1 .1 .1 .1 .1 .1 .1 .1 .0 .1)
 
 with-entry-index-1-object : (t : ℕ) → with-entry-lts.Need-index-1-object (
   operator-code-reads.Asked,
@@ -2149,7 +2185,7 @@ with-entry-index-1-object : (t : ℕ) → with-entry-lts.Need-index-1-object (
   stopped-reads.Asked,
   stopped-reads.Learnt,
 ) (with-entry-at t) with-entry.Post
-with-entry-index-1-object t c = search needs
+with-entry-index-1-object t c = row-inside (c .before .before .before .before .before .before .before .before .before .before .before .before .pre .1 .ready) (c .before .before .before .before .before .before .before .before .before .before .before .before .args .row) (c .before .before .before .before .before .before .before .before .before .before .before .before .pre .1 .within)
 
 with-entry-index-2-object : (t : ℕ) → with-entry-lts.Need-index-2-object (
   operator-code-reads.Asked,
@@ -2185,7 +2221,7 @@ with-entry-mul-first : (t : ℕ) → with-entry-lts.Need-mul-first (
   stopped-reads.Asked,
   stopped-reads.Learnt,
 ) (with-entry-at t) with-entry.Post
-with-entry-mul-first t c = search needs
+with-entry-mul-first t c = scaled-fits _ _ _ (row-inside (c .before .before .before .before .before .before .before .before .before .before .before .before .before .pre .1 .ready) (c .before .before .before .before .before .before .before .before .before .before .before .before .before .args .row) (c .before .before .before .before .before .before .before .before .before .before .before .before .before .pre .1 .within)) (c .before .before .before .before .before .before .before .before .before .before .before .before .before .good .1 .1 .1 .1 .1 .1 .1 .1 .0 .1)
 
 with-entry-index-1-first : (t : ℕ) → with-entry-lts.Need-index-1-first (
   operator-code-reads.Asked,
@@ -2203,7 +2239,7 @@ with-entry-index-1-first : (t : ℕ) → with-entry-lts.Need-index-1-first (
   stopped-reads.Asked,
   stopped-reads.Learnt,
 ) (with-entry-at t) with-entry.Post
-with-entry-index-1-first t c = search needs
+with-entry-index-1-first t c = row-inside (c .before .before .before .before .before .before .before .before .before .before .before .before .before .pre .1 .ready) (c .before .before .before .before .before .before .before .before .before .before .before .before .before .args .row) (c .before .before .before .before .before .before .before .before .before .before .before .before .before .pre .1 .within)
 
 with-entry-index-2-first : (t : ℕ) → with-entry-lts.Need-index-2-first (
   operator-code-reads.Asked,
@@ -2239,7 +2275,7 @@ with-entry-strength-requires : (t : ℕ) → with-entry-lts.Need-strength-requir
   stopped-reads.Asked,
   stopped-reads.Learnt,
 ) (with-entry-at t) with-entry.Post
-with-entry-strength-requires t c κs = search needs
+with-entry-strength-requires t c κs = (omega (arith, c .before .before .before .before .before .before .before .before .before .before .before .before .before .before .before .before .before .pre .0), (c .before .before .before .before .before .before .before .before .before .before .before .before .before .before .before .before .before .pre .1 .ready, taking.entry-good (c .before .before .before .before .before .before .before .before .before .before .before .before .before .before .before .before .before .pre .1) (c .before .before .before .before .before .before .before .before .before .before .before .before .before .before .before .before .before .args .left) _ (c .before .before .before .before .before .before .before .before .entry-at .ensures _ (taking.entry-held (c .before .before .before .before .before .before .before .before .before .before .before .before .before .before .before .before .before .pre .1))) (c .before .before .before .before .before .before .before .before .before .if1 .left ∙ c .before .before .before .before .before .before .before .before .before .before .operator-code .ensures)))
 
 with-entry-enum-known-got : (t : ℕ) → with-entry-lts.Need-enum-known-got (
   operator-code-reads.Asked,
@@ -2293,7 +2329,9 @@ with-entry-add-entry-requires : (t : ℕ) → with-entry-lts.Need-add-entry-requ
   stopped-reads.Asked,
   stopped-reads.Learnt,
 ) (with-entry-at t) with-entry.Post
-with-entry-add-entry-requires t c κs = search needs
+with-entry-add-entry-requires t c κs =
+    let h = c .before .before .before .before .before .before .before .before .before .before .before .before .before .before .before .before .before .before .before .before .before .before .before .before .before .before .before .before .pre .1 in
+    taking.entry-lengths h (c .before .before .before .before .before .before .before .before .before .before .before .before .before .before .before .before .before .before .before .before .before .before .before .before .before .before .before .before .args .left) _ (c .before .before .before .before .before .before .before .before .before .before .before .before .before .before .before .before .before .before .before .entry-at .ensures _ (taking.entry-held h)) (c .before .before .before .before .before .before .before .before .before .before .before .before .before .before .before .before .before .before .before .before .if1 .left ∙ c .before .before .before .before .before .before .before .before .before .before .before .before .before .before .before .before .before .before .before .before .before .operator-code .ensures) _ (c .before .before .before .before .before .before .before .before .before .before .before .before .before .before .before .before .before .before .is-running .ensures) (sym (not-not _) ∙ ap not (c .before .before .before .before .before .before .before .before .before .before .before .before .before .before .before .before .if2 .left)) _ _ _ _ _ (rw (c .before .before .before .before .got .given .1) at (c .before .before .before .before .before .before .before .before .before .before .strength .ensures (h .ready) (c .before .before .before .before .before .before .before .before .before .before .before .before .before .before .before .before .before .before .before .before .before .before .before .before .before .before .before .before .args .row) (rowAt (h .ready .world) (c .before .before .before .before .before .before .before .before .before .before .before .before .before .before .before .before .before .before .before .before .before .before .before .before .before .before .before .before .args .row)) (taking.entry-object h refl))) (c .before .before .counted .result) (c .before .before .counted .ensures .0) (c .before .before .counted .ensures .1)
 
 with-entry-enum-known-got-2 : (t : ℕ) → with-entry-lts.Need-enum-known-got-2 (
   operator-code-reads.Asked,
@@ -2347,7 +2385,7 @@ with-entry-same-length : (t : ℕ) → with-entry-lts.Need-same-length (
   stopped-reads.Asked,
   stopped-reads.Learnt,
 ) (with-entry-at t) with-entry.Post
-with-entry-same-length t c = search needs
+with-entry-same-length t c = c .before .before .before .before .before .before .before .before .before .before .before .before .before .strength .kept .0
 
 with-entry-same-length-2 : (t : ℕ) → with-entry-lts.Need-same-length-2 (
   operator-code-reads.Asked,
@@ -2401,7 +2439,12 @@ with-entry-returns-3 : (t : ℕ) → with-entry-lts.Need-returns-3 (
   stopped-reads.Asked,
   stopped-reads.Learnt,
 ) (with-entry-at t) with-entry.Post
-with-entry-returns-3 t c = search needs
+with-entry-returns-3 t c =
+    λ h. let k = rw (c .before .before .before .before .before .before .before .got .given .1) at (c .before .before .before .before .before .before .before .before .before .before .before .before .before .strength .ensures (h .ready) (c .before .before .before .before .before .before .before .before .before .before .before .before .before .before .before .before .before .before .before .before .before .before .before .before .before .before .before .before .before .before .before .args .row) (rowAt (h .ready .world) (c .before .before .before .before .before .before .before .before .before .before .before .before .before .before .before .before .before .before .before .before .before .before .before .before .before .before .before .before .before .before .before .args .row)) (taking.entry-object h refl)) in
+    taking.entry-added h (c .before .before .before .before .before .before .before .before .before .before .before .before .before .before .before .before .before .before .before .before .before .before .before .before .before .before .before .before .before .before .before .args .left) _ (c .before .before .before .before .before .before .before .before .before .before .before .before .before .before .before .before .before .before .before .before .before .before .entry-at .ensures _ (taking.entry-held h)) (c .before .before .before .before .before .before .before .before .before .before .before .before .before .before .before .before .before .before .before .before .before .before .before .if1 .left ∙ c .before .before .before .before .before .before .before .before .before .before .before .before .before .before .before .before .before .before .before .before .before .before .before .before .operator-code .ensures) _ (c .before .before .before .before .before .before .before .before .before .before .before .before .before .before .before .before .before .before .before .before .before .is-running .ensures) (sym (not-not _) ∙ ap not (c .before .before .before .before .before .before .before .before .before .before .before .before .before .before .before .before .before .before .before .if2 .left)) _ _ _ _ _ k _ _ _
+      (c .before .before .add-entry .ensures .0 (h .ready .world) _ (h .ready .sources₀) (h .ready .floats₀) (c .before .before .before .before .before .before .before .before .before .before .before .before .before .before .before .before .before .before .before .before .before .before .before .before .before .before .before .before .before .before .before .args .row) _ (c .before .before .before .before .before .before .before .before .before .before .before .before .before .before .before .before .before .before .before .before .before .before .before .before .before .before .before .before .before .before .before .args .operator) (h .found) _ (h .ready .told .recorded) (taking.entry-begins h refl) (taking.entry-object h refl) (taking.entry-operator h (c .before .before .before .before .before .before .before .before .before .before .before .before .before .before .before .before .before .before .before .before .before .before .before .before .before .before .before .before .before .before .before .args .left) _ (c .before .before .before .before .before .before .before .before .before .before .before .before .before .before .before .before .before .before .before .before .before .before .entry-at .ensures _ (taking.entry-held h)) (c .before .before .before .before .before .before .before .before .before .before .before .before .before .before .before .before .before .before .before .before .before .before .before .if1 .left ∙ c .before .before .before .before .before .before .before .before .before .before .before .before .before .before .before .before .before .before .before .before .before .before .before .before .operator-code .ensures)) (taking.entry-number h (c .before .before .before .before .before .before .before .before .before .before .before .before .before .before .before .before .before .before .before .before .before .before .before .before .before .before .before .before .before .before .before .args .left) _ (c .before .before .before .before .before .before .before .before .before .before .before .before .before .before .before .before .before .before .before .before .before .before .entry-at .ensures _ (taking.entry-held h)) (c .before .before .before .before .before .before .before .before .before .before .before .before .before .before .before .before .before .before .before .before .before .before .before .if1 .left ∙ c .before .before .before .before .before .before .before .before .before .before .before .before .before .before .before .before .before .before .before .before .before .before .before .before .operator-code .ensures) _ (c .before .before .before .before .before .before .before .before .before .before .before .before .before .before .before .before .before .before .before .before .before .is-running .ensures) (sym (not-not _) ∙ ap not (c .before .before .before .before .before .before .before .before .before .before .before .before .before .before .before .before .before .before .before .if2 .left)) _ _ _ _ _ k) (c .before .before .before .before .before .counted .ensures .2 ∙ h .going)
+        (taking.entry-pile h (c .before .before .before .before .before .before .before .before .before .before .before .before .before .before .before .before .before .before .before .before .before .before .before .before .before .before .before .before .before .before .before .args .left) _ (c .before .before .before .before .before .before .before .before .before .before .before .before .before .before .before .before .before .before .before .before .before .before .entry-at .ensures _ (taking.entry-held h)) (c .before .before .before .before .before .before .before .before .before .before .before .before .before .before .before .before .before .before .before .before .before .before .before .if1 .left ∙ c .before .before .before .before .before .before .before .before .before .before .before .before .before .before .before .before .before .before .before .before .before .before .before .before .operator-code .ensures) _ (c .before .before .before .before .before .before .before .before .before .before .before .before .before .before .before .before .before .before .before .before .before .is-running .ensures) (sym (not-not _) ∙ ap not (c .before .before .before .before .before .before .before .before .before .before .before .before .before .before .before .before .before .before .before .if2 .left)) _ _ _ _ _ k _ (c .before .before .before .before .before .counted .ensures .0) (c .before .before .before .before .before .counted .ensures .1) (c .before .before .before .before .before .counted .ensures .3) (c .before .before .before .before .before .counted .ensures .4) (c .before .before .before .before .before .counted .ensures .5))
+        (taking.entry-room h (c .before .before .before .before .before .before .before .before .before .before .before .before .before .before .before .before .before .before .before .before .before .before .before .before .before .before .before .before .before .before .before .args .left) _ (c .before .before .before .before .before .before .before .before .before .before .before .before .before .before .before .before .before .before .before .before .before .before .entry-at .ensures _ (taking.entry-held h)) (c .before .before .before .before .before .before .before .before .before .before .before .before .before .before .before .before .before .before .before .before .before .before .before .if1 .left ∙ c .before .before .before .before .before .before .before .before .before .before .before .before .before .before .before .before .before .before .before .before .before .before .before .before .operator-code .ensures) _ (c .before .before .before .before .before .before .before .before .before .before .before .before .before .before .before .before .before .before .before .before .before .is-running .ensures) (sym (not-not _) ∙ ap not (c .before .before .before .before .before .before .before .before .before .before .before .before .before .before .before .before .before .before .before .if2 .left)) _ _ _ _ _ k))
 
 with-entry-same-length-4 : (t : ℕ) → with-entry-lts.Need-same-length-4 (
   operator-code-reads.Asked,
@@ -2473,7 +2516,7 @@ with-entry-returns-4 : (t : ℕ) → with-entry-lts.Need-returns-4 (
   stopped-reads.Asked,
   stopped-reads.Learnt,
 ) (with-entry-at t) with-entry.Post
-with-entry-returns-4 t c = search needs
+with-entry-returns-4 t c = λ h. taking.entry-refused h (c .before .before .before .before .before .before .before .before .before .before .before .before .before .before .before .before .before .before .before .before .before .before .before .before .before .before .args .left) _ (c .before .before .before .before .before .before .before .before .before .before .before .before .before .before .before .before .before .entry-at .ensures _ (taking.entry-held h)) (c .before .before .before .before .before .before .before .before .before .before .before .before .before .before .before .before .before .before .if1 .left ∙ c .before .before .before .before .before .before .before .before .before .before .before .before .before .before .before .before .before .before .before .operator-code .ensures) _ (c .before .before .before .before .before .before .before .before .before .before .before .before .before .before .before .before .is-running .ensures) (sym (not-not _) ∙ ap not (c .before .before .before .before .before .before .before .before .before .before .before .before .before .before .if2 .left)) _ _ _ _ _ (rw (c .before .before .got2 .given .1) at (c .before .before .before .before .before .before .before .before .strength .ensures (h .ready) (c .before .before .before .before .before .before .before .before .before .before .before .before .before .before .before .before .before .before .before .before .before .before .before .before .before .before .args .row) (rowAt (h .ready .world) (c .before .before .before .before .before .before .before .before .before .before .before .before .before .before .before .before .before .before .before .before .before .before .before .before .before .before .args .row)) (taking.entry-object h refl))) (c .stopped .ensures .2)
 
 pub +calculate-value+calculated-value+evaluated+gathered+limited+operated+resisted+strength+with-entry-spec :
     {M : Type 1} → statement M
