@@ -13,7 +13,7 @@ use Rattle.states.proofs.Standing as standing
 use Rattle.info.proofs.Elements.{objects-length}
 use Rattle.rules.specs.Bytes.{countOf}
 use Rattle.hits.proofs.Sheets.{numbered}
-use Rattle.modifiers.specs.Causes.{Stands}
+use Rattle.modifiers.specs.Stands.{Stands}
 
 module _ (f : Fit) {n : ℕ} where
   pub next-there : {i : ℕ} {t : Bool} (x : Item) → Nth (f .objects) i x → i ≡ suc n → t ≡ isCharge x → t ≡ isCharge (object f (suc n))

@@ -1,5 +1,7 @@
 // The effects of an object.
 use super::uses::is_used;
+use causes::Cause;
+use codes::Owner;
 use info::look_ups::FoundEffect;
 use info::look_ups::Run;
 use info::look_ups::get_dogma_effect;
@@ -9,9 +11,7 @@ use item::CategoryFound;
 use item::codes::category_at;
 use item::kinds::mutated;
 use item::states::category_on;
-use modifiers::Cause;
 use modifiers::Counted;
-use modifiers::Owner;
 use modifiers::Rooms;
 use modifiers::collecting::collect_modifiers;
 use modifiers::rows::push_plain;
@@ -26,7 +26,8 @@ ghost use Rattle.rules.specs.Bytes.{countOf};
 ghost use Rattle.rules.specs.Sheet.{bookOf, fitOf};
 ghost use Rattle.rules.specs.Collect.{foundMoves, effectMoves, ownMoves};
 ghost use Rattle.info.specs.Sound.{HeldBook, SoundBook, SoundFit};
-ghost use Rattle.modifiers.specs.Causes.{OwnerOf, Stands};
+ghost use Rattle.codes.specs.Tests.{OwnerOf};
+ghost use Rattle.modifiers.specs.Stands.{Stands};
 ghost use Rattle.modifiers.specs.Ran.{AllLent, at, ran, standOf};
 ghost use Rattle.collect.specs.Parts.{newMoves};
 

@@ -25,7 +25,7 @@ ghost use Rattle.rules.specs.Sheet.{bookOf, fitOf};
 ghost use Rattle.rules.specs.Collect.{moves};
 ghost use Rattle.rules.specs.Outcome as outcome;
 ghost use Rattle.info.specs.Sound.{SoundBook, SoundFit};
-ghost use Rattle.modifiers.specs.Causes.{Stands};
+ghost use Rattle.modifiers.specs.Stands.{Stands};
 ghost use Rattle.modifiers.specs.Ran.{AllLent, at, ran, standOf, ended};
 ghost use Rattle.collect.specs.Parts.{HullOf, inPhase, objectMoves, allOf, restOf};
 

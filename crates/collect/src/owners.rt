@@ -1,5 +1,6 @@
 // An object with what of the fit its modifiers go by.
 use super::Hull;
+use codes::Owner;
 use hits::who::char_of;
 use info::bytes::index;
 use info::header::count_of;
@@ -7,7 +8,6 @@ use info::records::object;
 use item::header::categories_of;
 use item::kinds::is_charge;
 use item::kinds::is_item;
-use modifiers::Owner;
 use rules::Item;
 use states::is_structure_fit;
 ghost use mathlib.Core.Path.{_≡_};
@@ -18,7 +18,8 @@ ghost use Rattle.rules.specs.Sheet.{Book, bookOf, fitOf};
 ghost use Rattle.rules.specs.Item as items;
 ghost use Rattle.rules.specs.Item.{isItem, isCharge};
 ghost use Rattle.info.specs.Sound.{HeldFit, SoundFit};
-ghost use Rattle.modifiers.specs.Causes.{OwnerOf, Stands};
+ghost use Rattle.codes.specs.Tests.{OwnerOf};
+ghost use Rattle.modifiers.specs.Stands.{Stands};
 ghost use Rattle.collect.specs.Parts.{HullOf};
 
 pub fn hull_of(book: &[u8], fit: &[u8], pairs: &[[u32; 2]; 10]) -> Hull

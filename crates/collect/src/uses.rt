@@ -19,7 +19,7 @@ ghost use Rattle.rules.specs.Sheet.{Book, fitOf, abilitiesOf, sideEffectsOf};
 ghost use Rattle.rules.specs.Item.{isFighter, isPassive, abilitiesGiven};
 ghost use Rattle.rules.specs.Collect.{inUse};
 ghost use Rattle.info.specs.Sound.{HeldFit, SoundFit};
-ghost use Rattle.modifiers.specs.Causes.{Stands};
+ghost use Rattle.modifiers.specs.Stands.{Stands};
 
 // Whether an id is among those that an object's record points at.
 fn has_id(fit: &[u8], pairs: &[[u32; 2]; 10], first: u32, count: u32, id: i32) -> bool

@@ -33,9 +33,9 @@ use Rattle.hits.specs.Who.{Pointing, Narrow}
 use Rattle.hits.proofs.Narrow.{signed-narrow, cut-narrow}
 use Rattle.hits.proofs.Rows.{pointing}
 use Rattle.hits.proofs.Sheets.{numbered, char-inside}
-use Rattle.modifiers.specs.declared.Cause.{Cause}
-use Rattle.modifiers.specs.declared.Cause.the-variants as cause
-use Rattle.modifiers.specs.Causes.{resistanceOf}
+use Rattle.causes.specs.declared.Cause.{Cause}
+use Rattle.causes.specs.declared.Cause.the-variants as cause
+use Rattle.causes.specs.Causes.{resistanceOf}
 use Rattle.collected.specs.Takes.{Each, Goes, Member, Caused, Collects, originOf, metBy}
 use Rattle.collected.proofs.Taking.{each-weaker, each-at, func-goes, func-of}
 use Rattle.collected.proofs.Pointed.{target-in, source-in}

@@ -25,10 +25,10 @@ use Rattle.rules.specs.declared.OptionalId.the-variants.{Absent}
 use Rattle.rules.specs.declared.Pass2Effect.{Pass2Effect}
 use Rattle.rules.specs.declared.ProjectedBuff.{ProjectedBuff}
 use Rattle.rules.specs.declared.TypeDogmaEffect.{TypeDogmaEffect}
-use Rattle.modifiers.specs.declared.Cause.{Cause}
-use Rattle.modifiers.specs.declared.Cause.the-variants as cause
-use Rattle.modifiers.specs.declared.Owner.{Owner}
-use Rattle.modifiers.specs.Causes.{causeMoves}
+use Rattle.causes.specs.declared.Cause.{Cause}
+use Rattle.causes.specs.declared.Cause.the-variants as cause
+use Rattle.codes.specs.declared.Owner.{Owner}
+use Rattle.causes.specs.Causes.{causeMoves}
 use Rattle.collected.specs.Takes.{Each, Of, Member, Caused, Collects}
 use Rattle.modifiers.proofs.Gives.{given, found, found-is, no-effect, an-effect, projected-none, projected-bad, projected-modifiers, buffAfter, buff-none, buff-some}
 use Rattle.collected.proofs.Taking.{each-append, each-unless, each-weaker, each-taken}

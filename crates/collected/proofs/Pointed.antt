@@ -15,8 +15,8 @@ use Rattle.rules.specs.declared.DogmaModifier.{DogmaModifier}
 use Rattle.rules.specs.declared.Item.{Item}
 use Rattle.rules.specs.declared.Pass2Effect.{Pass2Effect}
 use Rattle.rules.specs.declared.Refusal.the-variants.{Domain, Other}
-use Rattle.modifiers.specs.declared.Cause.{Cause}
-use Rattle.modifiers.specs.declared.Cause.the-variants as cause
+use Rattle.causes.specs.declared.Cause.{Cause}
+use Rattle.causes.specs.declared.Cause.the-variants as cause
 use Rattle.collected.specs.Takes.{Goes, Of, Member, Caused, Collects, originOf}
 use Rattle.collected.proofs.Taking.{goes-if, goes-cond}
 

@@ -21,12 +21,13 @@ use Rattle.rules.specs.declared.OptionalId.{OptionalId}
 use Rattle.rules.specs.declared.OptionalId.the-variants.{Absent}
 use Rattle.rules.specs.declared.ProjectedBuff.{ProjectedBuff}
 use Rattle.rules.specs.declared.Refusal.the-variants.{Func}
-use Rattle.modifiers.specs.declared.Owner.{Owner}
-use Rattle.modifiers.specs.declared.Cause.{Cause}
-use Rattle.modifiers.specs.declared.Cause.the-variants as cause
-use Rattle.modifiers.specs.Causes.{causeMoves, ownTarget, effectOf, resistanceOf}
+use Rattle.codes.specs.declared.Owner.{Owner}
+use Rattle.causes.specs.declared.Cause.{Cause}
+use Rattle.causes.specs.declared.Cause.the-variants as cause
+use Rattle.codes.specs.Tests.{ownTarget}
+use Rattle.causes.specs.Causes.{causeMoves, effectOf, resistanceOf}
 use Rattle.collected.specs.Takes.{Each, Goes, Of, originOf, aimOf, unmet, metBy}
-use Rattle.modifiers.proofs.Moves.{sourceOf}
+use Rattle.causes.proofs.Moves.{sourceOf}
 
 module _ (P : Pass2Effect → Type 0) where
   pub each-append : (xs ys : List Move) → Each P xs → Each P ys → Each P (xs ++ ys)

@@ -18,9 +18,9 @@ use Rattle.rules.specs.declared.Origin.{Origin}
 use Rattle.rules.specs.declared.Origin.the-variants as origin
 use Rattle.rules.specs.declared.Pass2Effect.{Pass2Effect}
 use Rattle.info.specs.Sound.{Nth}
-use Rattle.modifiers.specs.declared.Cause.{Cause}
-use Rattle.modifiers.specs.declared.Cause.the-variants as cause
-use Rattle.modifiers.specs.Causes.{resistanceOf}
+use Rattle.causes.specs.declared.Cause.{Cause}
+use Rattle.causes.specs.declared.Cause.the-variants as cause
+use Rattle.causes.specs.Causes.{resistanceOf}
 
 -- what holds of every effect that is taken
 abbrev pub Each : (Pass2Effect → Type 0) → List Move → Type 0

@@ -22,7 +22,7 @@ use Rattle.rules.proofs.Verdicts.{effects-good, buff-collections-good, each-obj
 use Rattle.info.specs.Sound.{SoundBook, SoundFit, Based}
 use Rattle.info.proofs.Elements.{modifiers-length, objects-length, ids-length}
 use Rattle.info.proofs.Bases.{based}
-use Rattle.modifiers.specs.Causes.{Stands}
+use Rattle.modifiers.specs.Stands.{Stands}
 
 module _ {A : Type 0} (p q : A → Bool) where
   pick : (t : Bool) (y x : A) (o : Option A) → orElse t y o ≡ some x → q y ≡ true → (o ≡ some x → q x ≡ true) → q x ≡ true

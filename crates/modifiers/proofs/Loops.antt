@@ -12,8 +12,8 @@ use Rattle.rules.specs.Sheet.{Fit}
 use Rattle.rules.specs.Collect.{Move}
 use Rattle.rules.specs.declared.Refusal.{Refusal}
 use Rattle.modifiers.specs.declared.Rooms.{Rooms}
-use Rattle.modifiers.specs.declared.Cause.{Cause}
-use Rattle.modifiers.specs.Causes.{CauseOf}
+use Rattle.causes.specs.declared.Cause.{Cause}
+use Rattle.causes.specs.Causes.{CauseOf}
 use Rattle.modifiers.specs.Ran.{Stand, at, stop, ran, Lent}
 use Rattle.modifiers.proofs.Runs.{turn, ended-at, halted}
 

@@ -1,10 +1,10 @@
 // Projected buffs.
-use super::Cause;
 use super::Counted;
-use super::OperationTest;
 use super::Rooms;
-use super::codes::get_effect_operator;
 use super::collecting::collect_modifiers;
+use causes::Cause;
+use codes::OperationTest;
+use codes::get_effect_operator;
 use info::header::count_of;
 use info::look_ups::FoundCollection;
 use info::look_ups::get_dbuff_collection;

@@ -1,9 +1,9 @@
 // The modifiers of an effect or a buff, in order.
-use super::Cause;
 use super::Counted;
 use super::Rooms;
-use super::causes::move_of;
 use super::rows::put;
+use causes::Cause;
+use causes::move_of;
 use info::bytes::index;
 use info::records::modifier;
 ghost use mathlib.Core.Path.{_≡_};
@@ -13,7 +13,7 @@ ghost use Rattle.laws.specs.Lists.{flat, span};
 ghost use Rattle.rules.specs.Bytes.{countOf};
 ghost use Rattle.rules.specs.Sheet.{Fit, bookOf};
 ghost use Rattle.info.specs.Sound.{HeldBook};
-ghost use Rattle.modifiers.specs.Causes.{CauseOf, causeMoves};
+ghost use Rattle.causes.specs.Causes.{CauseOf, causeMoves};
 ghost use Rattle.modifiers.specs.Ran.{Lent, at, ran, standOf};
 
 pub fn collect_modifiers(

@@ -1,9 +1,9 @@
 // Projected objects.
-use super::Cause;
 use super::Counted;
-use super::Owner;
 use super::Rooms;
 use super::collecting::collect_modifiers;
+use causes::Cause;
+use codes::Owner;
 use info::look_ups::FoundBase;
 use info::look_ups::FoundEffect;
 use info::look_ups::get_base;
@@ -25,8 +25,10 @@ ghost use Rattle.rules.specs.Sheet.{Fit, bookOf, fitOf};
 ghost use Rattle.rules.specs.Info.{getDogmaEffect};
 ghost use Rattle.rules.specs.Collect.{projectedMoves, named, unlessZero};
 ghost use Rattle.info.specs.Sound.{HeldBook, HeldFit, SoundBook, SoundFit, Based};
-ghost use Rattle.modifiers.specs.Causes.{OwnerOf, Stands, resistanceOf};
+ghost use Rattle.codes.specs.Tests.{OwnerOf};
+ghost use Rattle.causes.specs.Causes.{resistanceOf};
 ghost use Rattle.modifiers.specs.Ran.{Lent, at, ran, standOf};
+ghost use Rattle.modifiers.specs.Stands.{Stands};
 
 // 0 is none.
 fn unless_zero(id: i32, other: OptionalId) -> OptionalId

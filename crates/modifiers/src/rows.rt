@@ -1,7 +1,7 @@
 // Rows of lists 1 and 4.
 use super::Counted;
-use super::Moved;
 use super::Rooms;
+use causes::Moved;
 use item::codes::category_code;
 use item::codes::operator_code;
 use numbers::bits;
@@ -17,7 +17,7 @@ ghost use lib.Ieee.{Float};
 ghost use lib.ListN.{length};
 ghost use Rattle.rules.specs.Collect.{taken, plain};
 ghost use Rattle.rules.specs.Columns.{collectedNumbers, modifierNumbers, optionalNumbers, originNumbers, originValue};
-ghost use Rattle.modifiers.specs.Causes.{movesOf};
+ghost use Rattle.causes.specs.Causes.{movesOf};
 ghost use Rattle.modifiers.specs.Ran.{Lent, at, ran, standOf};
 
 fn origin_numbers(o: Origin) -> [u32; 6]

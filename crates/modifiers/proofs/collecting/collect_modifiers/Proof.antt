@@ -8,7 +8,7 @@ use native.Mathlib.Omega.{arith}
 use mathlib.Core.Path.{_≡_, refl, sym, _∙_}
 use lib.ListN.{length}
 use Rattle.rules.specs.Sheet.{bookOf}
-use Rattle.modifiers.specs.Causes.{causeMoves}
+use Rattle.causes.specs.Causes.{causeMoves}
 use Rattle.modifiers.specs.Ran.{at}
 use Rattle.modifiers.proofs.Runs.{answered, was-refused}
 use Rattle.modifiers.proofs.Loops.{Case, Left, begin, next, refused-on, at-end, counted-from, lent-kept}
