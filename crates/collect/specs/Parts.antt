@@ -1,16 +1,14 @@
--- The parts of collection: what all objects go by, an object's effects in two passes, and what each pass over the objects collects.
+-- The parts of collection: what all objects go by, and what each pass over the objects collects.
 use mathlib.Core.Path.{_≡_}
-use mathlib.Core.Bool.{Bool, not, cond, _&&_, _||_}
+use mathlib.Core.Bool.{Bool, cond, _&&_, _||_}
 use mathlib.Core.List.{List, [], _++_}
 use lib.Dec.{leb}
 use Rattle.laws.specs.Lists.{keep, flat}
 use Rattle.rules.specs.Sheet.{Book, Fit}
 use Rattle.rules.specs.Item.{isItem, isCharge, isSkill, isProjected, charOf, itemOf, structureFit, passed}
-use Rattle.rules.specs.Collect.{Move, effectMoves, ownMoves, projectedMoves, fittedMoves, buffMoves}
+use Rattle.rules.specs.Collect.{Move, ownMoves, projectedMoves, fittedMoves, buffMoves}
 use Rattle.rules.specs.declared.Item.{Item}
-use Rattle.rules.specs.declared.TypeDogmaEffect.{TypeDogmaEffect}
 use Rattle.item.specs.Categories.{CategoriesOf}
-use Rattle.states.specs.Raised.{among}
 use Rattle.collect.specs.declared.Hull.{Hull}
 use Rattle.collect.specs.declared.Phase.{Phase}
 use Rattle.collect.specs.declared.Phase.the-variants.{Front, Projected, Fitted, Skills}
@@ -20,10 +18,6 @@ pub record HullOf (k : Book) (f : Fit) (h : Hull) : Type 0 where
   pub categories : CategoriesOf k (h .categories)
   pub structure : h .structure ≡ structureFit f
   pub character : h .character ≡ charOf f
-
--- what a type effect gives, unless it is among these
-abbrev pub newMoves : Book → Fit → Item → List TypeDogmaEffect → TypeDogmaEffect → List Move
-newMoves k f o own t = cond (not (among own t)) (effectMoves k f o t) []
 
 -- whether an object is collected in a phase, and what it gives then
 abbrev pub inPhase : Phase → Item → Bool

@@ -16,7 +16,5 @@ pub enum Phase {
     Skills,
 }
 
-pub mod effects;
 pub mod objects;
 pub mod owners;
-pub mod uses;

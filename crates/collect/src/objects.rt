@@ -1,9 +1,9 @@
 // The objects in phases, the buffs between them, and collection as a whole.
 use super::Hull;
 use super::Phase;
-use super::effects::collect_effects;
 use super::owners::hull_of;
 use super::owners::owner_of;
+use effects::collect_effects;
 use info::header::count_of;
 use info::records::object;
 use item::kinds::is_charge;

@@ -13,7 +13,7 @@ use Rattle.modifiers.specs.Ran.{at}
 use Rattle.modifiers.proofs.Runs.{answered, was-refused, ran-same}
 use Rattle.modifiers.proofs.Loops.{Left, begin, next, refused-on, at-end, all-of}
 use Rattle.collect.specs.Parts.{objectMoves}
-use Rattle.collect.proofs.Turns.{all-lent-kept}
+use Rattle.effects.proofs.Turns.{all-lent-kept}
 use Rattle.collect.proofs.Neighbours.{stands-at}
 use Rattle.collect.proofs.Phases.{phase-objects}
 
