@@ -1,4 +1,2 @@
-pub mod Scans
-pub mod TableScans
 pub mod Headers
 pub mod Shapes
