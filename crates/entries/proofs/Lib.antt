@@ -1,4 +1,2 @@
 pub mod RowOf
 pub mod Filling
-pub mod Owned
-pub mod Together
