@@ -10,10 +10,10 @@ use item::kinds::is_charge;
 use item::kinds::is_item;
 use item::kinds::is_projected;
 use item::kinds::is_skill;
-use modifiers::Counted;
-use modifiers::Rooms;
 use modifiers::buffs::collect_buffs;
 use modifiers::projected::collect_projected;
+use moves::Counted;
+use moves::Rooms;
 use rules::CHAR;
 use rules::Item;
 use states::is_passed_over;
@@ -26,7 +26,7 @@ ghost use Rattle.rules.specs.Collect.{moves};
 ghost use Rattle.rules.specs.Outcome as outcome;
 ghost use Rattle.info.specs.Sound.{SoundBook, SoundFit};
 ghost use Rattle.modifiers.specs.Stands.{Stands};
-ghost use Rattle.modifiers.specs.Ran.{AllLent, at, ran, standOf, ended};
+ghost use Rattle.moves.specs.Ran.{AllLent, at, ran, standOf, ended};
 ghost use Rattle.collect.specs.Parts.{HullOf, inPhase, objectMoves, allOf, restOf};
 
 // Whether an object is collected in a phase.

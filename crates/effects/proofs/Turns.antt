@@ -3,13 +3,13 @@ use mathlib.Core.Path.{_≡_, sym, ap, _∙_}
 use mathlib.Core.List.{List, _++_}
 use Rattle.rules.specs.Collect.{Move}
 use Rattle.rules.specs.declared.Refusal.{Refusal}
-use Rattle.modifiers.specs.declared.Rooms.{Rooms}
+use Rattle.moves.specs.declared.Rooms.{Rooms}
 use Prim.Native.Nat.{ℕ}
 use lib.Ieee.{Float}
 use lib.ListN.{length}
-use Rattle.modifiers.specs.Ran.{Stand, stop, ran, AllLent}
-use Rattle.modifiers.proofs.Runs.{ran-append, ran-stop}
-use Rattle.modifiers.proofs.Loops.{lent-kept}
+use Rattle.moves.specs.Ran.{Stand, stop, ran, AllLent}
+use Rattle.moves.proofs.Runs.{ran-append, ran-stop}
+use Rattle.moves.proofs.Loops.{lent-kept}
 
 -- one part, and then the other; or a refusal in the first
 module _ (q : Rooms) (xs ys : List Move) (s : Stand) where

@@ -10,10 +10,10 @@ use item::CategoryFound;
 use item::codes::category_at;
 use item::kinds::mutated;
 use item::states::category_on;
-use modifiers::Counted;
-use modifiers::Rooms;
 use modifiers::collecting::collect_modifiers;
-use modifiers::rows::push_plain;
+use moves::Counted;
+use moves::Rooms;
+use moves::push_plain;
 use rules::DogmaEffect;
 use rules::Refusal;
 use rules::TypeDogmaEffect;
@@ -28,7 +28,7 @@ ghost use Rattle.rules.specs.Collect.{foundMoves, effectMoves, ownMoves};
 ghost use Rattle.info.specs.Sound.{HeldBook, SoundBook, SoundFit};
 ghost use Rattle.codes.specs.Tests.{OwnerOf};
 ghost use Rattle.modifiers.specs.Stands.{Stands};
-ghost use Rattle.modifiers.specs.Ran.{AllLent, at, ran, standOf};
+ghost use Rattle.moves.specs.Ran.{AllLent, at, ran, standOf};
 ghost use Rattle.effects.specs.New.{newMoves};
 
 // The category is tested for every effect found. An effect with no modifiers goes to the plain list.

@@ -1,7 +1,4 @@
-pub mod Runs
-pub mod Numbers
-pub mod Ends
-pub mod Loops
+pub mod Case
 pub mod Gives
 pub mod Inside
 pub mod Resists

@@ -1,6 +1,4 @@
 // Projected buffs.
-use super::Counted;
-use super::Rooms;
 use super::collecting::collect_modifiers;
 use causes::Cause;
 use codes::OperationTest;
@@ -9,6 +7,8 @@ use info::header::count_of;
 use info::look_ups::FoundCollection;
 use info::look_ups::get_dbuff_collection;
 use info::records::projected_buff;
+use moves::Counted;
+use moves::Rooms;
 use rules::DbuffCollection;
 use rules::ProjectedBuff;
 ghost use mathlib.Core.Path.{_≡_};
@@ -21,7 +21,7 @@ ghost use Rattle.rules.specs.Sheet.{bookOf, fitOf};
 ghost use Rattle.rules.specs.Info.{getDbuffCollection};
 ghost use Rattle.rules.specs.Collect.{buffMoves};
 ghost use Rattle.info.specs.Sound.{HeldBook, HeldFit, SoundBook};
-ghost use Rattle.modifiers.specs.Ran.{Lent, at, ran, standOf};
+ghost use Rattle.moves.specs.Ran.{Lent, at, ran, standOf};
 
 // A buff whose collection was found: operation before any modifier.
 pub fn collect_collection(

@@ -1,11 +1,11 @@
 // The modifiers of an effect or a buff, in order.
-use super::Counted;
-use super::Rooms;
-use super::rows::put;
 use causes::Cause;
 use causes::move_of;
 use info::bytes::index;
 use info::records::modifier;
+use moves::Counted;
+use moves::Rooms;
+use moves::put;
 ghost use mathlib.Core.Path.{_≡_};
 ghost use mathlib.Core.List.{List};
 ghost use Prim.Native.Nat.{ℕ, _+_, _≤_};
@@ -14,7 +14,7 @@ ghost use Rattle.rules.specs.Bytes.{countOf};
 ghost use Rattle.rules.specs.Sheet.{Fit, bookOf};
 ghost use Rattle.info.specs.Sound.{HeldBook};
 ghost use Rattle.causes.specs.Causes.{CauseOf, causeMoves};
-ghost use Rattle.modifiers.specs.Ran.{Lent, at, ran, standOf};
+ghost use Rattle.moves.specs.Ran.{Lent, at, ran, standOf};
 
 pub fn collect_modifiers(
     c: &mut [[u32; 14]],

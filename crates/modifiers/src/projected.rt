@@ -1,6 +1,4 @@
 // Projected objects.
-use super::Counted;
-use super::Rooms;
 use super::collecting::collect_modifiers;
 use causes::Cause;
 use codes::Owner;
@@ -10,6 +8,8 @@ use info::look_ups::get_base;
 use info::look_ups::get_dogma_effect;
 use item::CategoryFound;
 use item::codes::category_at;
+use moves::Counted;
+use moves::Rooms;
 use numbers::cut;
 use rules::ATTRIBUTE_REMOTE_RESISTANCE_ID;
 use rules::DogmaEffect;
@@ -27,7 +27,7 @@ ghost use Rattle.rules.specs.Collect.{projectedMoves, named, unlessZero};
 ghost use Rattle.info.specs.Sound.{HeldBook, HeldFit, SoundBook, SoundFit, Based};
 ghost use Rattle.codes.specs.Tests.{OwnerOf};
 ghost use Rattle.causes.specs.Causes.{resistanceOf};
-ghost use Rattle.modifiers.specs.Ran.{Lent, at, ran, standOf};
+ghost use Rattle.moves.specs.Ran.{Lent, at, ran, standOf};
 ghost use Rattle.modifiers.specs.Stands.{Stands};
 
 // 0 is none.

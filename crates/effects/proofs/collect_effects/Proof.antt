@@ -11,7 +11,7 @@ use Rattle.laws.proofs.Bools.{not-not}
 use Rattle.rules.specs.Sheet.{bookOf, fitOf}
 use Rattle.info.proofs.Elements.{type-effects-length}
 use Rattle.states.proofs.Raising.{run-of}
-use Rattle.modifiers.proofs.Runs.{ran-same, answered, was-refused}
+use Rattle.moves.proofs.Runs.{ran-same, answered, was-refused}
 use Rattle.effects.proofs.Turns.{in-turn, stopped-first, all-lent-kept}
 use Rattle.effects.proofs.Own.{own-alone, own-and-base}
 

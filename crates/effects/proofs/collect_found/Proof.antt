@@ -9,7 +9,7 @@ use mir.ValLaws.{toZ-ofZ}
 use borrow.Author.Needs.{sfits-of}
 use Rattle.rules.specs.Sheet.{bookOf, fitOf}
 use Rattle.item.specs.Found.{categoryOf}
-use Rattle.modifiers.proofs.Runs.{ran-none, refused-one, ran-same}
+use Rattle.moves.proofs.Runs.{ran-none, refused-one, ran-same}
 use Rattle.modifiers.proofs.Gives.{found-unused, found-plain, found-modifiers, found-bad}
 
 pub collect-found-spec : {M : Type 1} → statement M

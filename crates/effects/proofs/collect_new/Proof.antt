@@ -6,7 +6,7 @@ use Rattle.effects.proofs.collect_new.Tie as tie
 use mathlib.Core.Path.{sym, _∙_}
 use Rattle.laws.specs.Lists.{span}
 use Rattle.rules.specs.Sheet.{bookOf, fitOf}
-use Rattle.modifiers.proofs.Runs.{ran-none, ran-same}
+use Rattle.moves.proofs.Runs.{ran-none, ran-same}
 use Rattle.effects.proofs.Own.{known, unknown}
 
 pub collect-new-spec : {M : Type 1} → statement M

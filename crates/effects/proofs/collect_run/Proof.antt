@@ -10,9 +10,9 @@ use lib.ListN.{length}
 use Rattle.laws.specs.Lists.{span}
 use Rattle.rules.specs.Sheet.{bookOf, fitOf}
 use Rattle.info.proofs.Elements.{type-effects-length}
-use Rattle.modifiers.specs.Ran.{at}
-use Rattle.modifiers.proofs.Runs.{answered, was-refused}
-use Rattle.modifiers.proofs.Loops.{Left, begin, next, refused-on, at-end, counted-from}
+use Rattle.moves.specs.Ran.{at}
+use Rattle.moves.proofs.Runs.{answered, was-refused}
+use Rattle.moves.proofs.Loops.{Left, begin, next, refused-on, at-end, counted-from}
 use Rattle.effects.specs.New.{newMoves}
 use Rattle.effects.proofs.Turns.{all-lent-kept}
 

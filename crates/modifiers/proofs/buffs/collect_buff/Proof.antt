@@ -10,7 +10,7 @@ use mir.ValLaws.{toZ-ofZ}
 use Rattle.rules.specs.Sheet.{bookOf}
 use Rattle.rules.specs.Info.{getDbuffCollection}
 use Rattle.info.specs.LookUps.{collectionFound}
-use Rattle.modifiers.proofs.Runs.{ran-none, ran-same}
+use Rattle.moves.proofs.Runs.{ran-none, ran-same}
 use Rattle.modifiers.proofs.Gives.{buff-none}
 use Rattle.modifiers.proofs.Inside.{collection-inside}
 

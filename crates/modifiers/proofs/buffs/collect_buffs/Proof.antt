@@ -10,9 +10,9 @@ use mathlib.Core.List.{List}
 use lib.ListN.{length}
 use Rattle.rules.specs.Sheet.{bookOf, fitOf}
 use Rattle.rules.specs.Collect.{buffMoves}
-use Rattle.modifiers.specs.Ran.{at}
-use Rattle.modifiers.proofs.Runs.{answered, was-refused}
-use Rattle.modifiers.proofs.Loops.{Left, begin, next, refused-on, at-end, all-of, lent-kept}
+use Rattle.moves.specs.Ran.{at}
+use Rattle.moves.proofs.Runs.{answered, was-refused}
+use Rattle.moves.proofs.Loops.{Left, begin, next, refused-on, at-end, all-of, lent-kept}
 use Rattle.info.proofs.Elements.{buffs-length}
 
 abbrev Inv-loop : tie.InvT-loop

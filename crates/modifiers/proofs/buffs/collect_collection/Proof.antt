@@ -6,7 +6,7 @@ use Rattle.modifiers.proofs.buffs.collect_collection.Tie as tie
 use mathlib.Core.Path.{sym, ap, _∙_}
 use Rattle.rules.specs.Sheet.{bookOf}
 use Rattle.codes.specs.Tests.{operationOf}
-use Rattle.modifiers.proofs.Runs.{ran-none, refused-one, ran-same}
+use Rattle.moves.proofs.Runs.{ran-none, refused-one, ran-same}
 use Rattle.modifiers.proofs.Gives.{buff-some, noFit}
 
 pub collect-collection-spec : {M : Type 1} → statement M

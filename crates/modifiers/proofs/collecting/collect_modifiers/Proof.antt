@@ -9,9 +9,10 @@ use mathlib.Core.Path.{_≡_, refl, sym, _∙_}
 use lib.ListN.{length}
 use Rattle.rules.specs.Sheet.{bookOf}
 use Rattle.causes.specs.Causes.{causeMoves}
-use Rattle.modifiers.specs.Ran.{at}
-use Rattle.modifiers.proofs.Runs.{answered, was-refused}
-use Rattle.modifiers.proofs.Loops.{Case, Left, begin, next, refused-on, at-end, counted-from, lent-kept}
+use Rattle.moves.specs.Ran.{at}
+use Rattle.moves.proofs.Runs.{answered, was-refused}
+use Rattle.modifiers.proofs.Case.{Case}
+use Rattle.moves.proofs.Loops.{Left, begin, next, refused-on, at-end, counted-from, lent-kept}
 use Rattle.info.proofs.Elements.{modifiers-length}
 
 abbrev Inv-loop : tie.InvT-loop

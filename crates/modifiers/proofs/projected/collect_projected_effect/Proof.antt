@@ -6,7 +6,7 @@ use Rattle.modifiers.proofs.projected.collect_projected_effect.Tie as t
 use mathlib.Core.Path.{sym, ap, _∙_}
 use Rattle.rules.specs.Sheet.{bookOf}
 use Rattle.item.specs.Found.{categoryOf}
-use Rattle.modifiers.proofs.Runs.{refused-one, ran-same}
+use Rattle.moves.proofs.Runs.{refused-one, ran-same}
 use Rattle.modifiers.proofs.Gives.{projected-modifiers, projected-bad}
 
 pub collect-projected-effect-spec : {M : Type 1} → statement M
