@@ -39,8 +39,8 @@ use Rattle.segments.proofs.Gathering.{inside?, inside-take}
 use Rattle.segments.proofs.Numbering.{arrivals-inside, arrivals-keys, arrivals-listed}
 use Rattle.segments.proofs.Cutting.{parts-length, parts-few, parts-numbered, parts-hits, parts-placed, parts-ended}
 use Rattle.rows.specs.Tallies.{narrow?}
-use Rattle.rows.specs.Entries.{effectAt, Collected, rowFor, rowsFor}
-use Rattle.rows.proofs.Defined.{rows-defined}
+use Rattle.spread.specs.Entries.{effectAt, Collected, rowFor, rowsFor}
+use Rattle.spread.proofs.Defined.{rows-defined}
 use Rattle.rows.proofs.Bounds.{narrow-fits, fits-narrow}
 use Rattle.entries.specs.Effects.{Effects}
 use Rattle.lists.specs.Parts.{hitsTo, Parts, Parting, partRows, rowsTo}

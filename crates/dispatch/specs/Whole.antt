@@ -9,7 +9,7 @@ use Rattle.rules.specs.Sheet.{Book, Fit}
 use Rattle.rules.specs.Dispatch.{baseKeys, hitKeys, fullAt, rows}
 use Rattle.rules.specs.declared.Pass2Effect.{Pass2Effect}
 use Rattle.hits.specs.Who.{Pointing, Narrow}
-use Rattle.rows.specs.Entries.{effectAt, Collected}
+use Rattle.spread.specs.Entries.{effectAt, Collected}
 use Rattle.lists.specs.Laying.{entriesOf}
 use Rattle.lists.specs.Parts.{ListsLaid}
 use Rattle.dispatch.specs.declared.Dispatched.{Dispatched}

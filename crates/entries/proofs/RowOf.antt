@@ -28,9 +28,9 @@ use Rattle.info.specs.Sound.{SoundFit}
 use Rattle.info.proofs.Elements.{objects-length}
 use Rattle.hits.proofs.Sheets.{numbered, sized}
 use Rattle.hits.proofs.Rows.{origin-at, source-at}
-use Rattle.rows.specs.Entries.{exemptBits, entryRow}
-use Rattle.rows.proofs.Defined.{target-number, quantity-number}
-use Rattle.rows.proofs.Written.{exempt-bits, written}
+use Rattle.spread.specs.Entries.{exemptBits, entryRow}
+use Rattle.spread.proofs.Defined.{target-number, quantity-number}
+use Rattle.spread.proofs.Written.{exempt-bits, written}
 
 pub exempt : (c : ℕ) (z : ℤ) → SFits w32 z → c ≡ ofZ w32 z → eqb c 6 || (eqb c 8 || (eqb c 16 || (eqb c 20 || (eqb c 32 || eqb c 65)))) ≡ some? (eqZ z) exemptCategories
 exempt c z f e =

@@ -10,7 +10,7 @@ use Rattle.rules.specs.Columns.{originValue, entryNumbers}
 use Rattle.rules.specs.declared.Item.{Item}
 use Rattle.rules.specs.declared.Pass2Effect.{Pass2Effect}
 use Rattle.hits.specs.Who.{Pointing}
-use Rattle.rows.specs.Entries.{effectNumber, effectAt, Collected}
+use Rattle.spread.specs.Entries.{effectNumber, effectAt, Collected}
 
 -- the columns of list 1 hold these effects and nothing more; their sources are among n objects
 pub record Effects (es : List Pass2Effect) (c : List (List ℕ)) (v : List Float) (n : ℕ) : Type 0 where

@@ -28,10 +28,10 @@ use Rattle.rules.specs.declared.Pass2Effect.{Pass2Effect}
 use Rattle.rows.specs.Tallies.{Tally, idOf, baseOf, tallyNumbers, narrow?, rowKey, hitNumber, hitId, Numbered, tallied, tallyOf, Stretch, Answered}
 use Rattle.rows.specs.declared.rows.Laid.{Laid}
 use Rattle.rows.specs.declared.rows.Laid.the-variants.{Rows, Full}
-use Rattle.rows.specs.Entries.{times, rowsFrom, rowCount, started, effectNumber, effectAt, hitsAt, spreadOver, hitsIn, rowFor, rowsFor, Counted, Spreading}
-use Rattle.rows.proofs.Defined.{hits-targets, spread-entries, rows-numbers}
-use Rattle.rows.proofs.Begins.{tallied-counted, spreading, begun-keys}
-use Rattle.rows.proofs.Tallied.{tallied-is}
+use Rattle.spread.specs.Entries.{times, rowsFrom, rowCount, started, effectNumber, effectAt, hitsAt, spreadOver, hitsIn, rowFor, rowsFor, Counted, Spreading}
+use Rattle.spread.proofs.Defined.{hits-targets, spread-entries, rows-numbers}
+use Rattle.spread.proofs.Begins.{tallied-counted, spreading, begun-keys}
+use Rattle.spread.proofs.Tallied.{tallied-is}
 use Rattle.entries.specs.Effects.{Effects, Taken, entryOf, valueOf}
 use Rattle.lists.specs.Laying.{Tallied, entriesOf, EntriesLaid, RowsLaid}
 

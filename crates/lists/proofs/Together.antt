@@ -26,7 +26,7 @@ use Rattle.rules.specs.Dispatch.{Row}
 use Rattle.rules.specs.Columns.{originValue, rowsNumbers, entryNumbers}
 use Rattle.rules.specs.declared.Pass2Effect.{Pass2Effect}
 use Rattle.rows.specs.Tallies.{hitNumber, Numbered}
-use Rattle.rows.specs.Entries.{effectAt, hitsIn, rowsFor}
+use Rattle.spread.specs.Entries.{effectAt, hitsIn, rowsFor}
 use Rattle.rows.specs.declared.rows.Laid.{Laid}
 use Rattle.rows.specs.declared.rows.Laid.the-variants.{Rows, Full}
 use Rattle.entries.specs.Effects.{Effects, Listing}

@@ -14,7 +14,7 @@ use Rattle.rules.specs.Dispatch.{Row}
 use Rattle.rules.specs.Columns.{originValue, rowsNumbers, entryNumbers}
 use Rattle.rules.specs.declared.Pass2Effect.{Pass2Effect}
 use Rattle.rows.specs.Tallies.{hitNumber}
-use Rattle.rows.specs.Entries.{effectAt, rowsFor}
+use Rattle.spread.specs.Entries.{effectAt, rowsFor}
 use Rattle.rows.specs.declared.rows.Laid.{Laid}
 use Rattle.rows.specs.declared.rows.Laid.the-variants.{Rows, Full}
 use Rattle.lists.specs.Laying.{entriesOf}

@@ -2,15 +2,8 @@ pub mod Carried
 pub mod Bounds
 pub mod Keys
 pub mod Raised
-pub mod Tallied
 pub mod Stretches
 pub mod Hits
-pub mod Placing
-pub mod Spreads
-pub mod Starts
 pub mod BaseRows
-pub mod Defined
-pub mod Written
 pub mod Sounds
 pub mod Objects
-pub mod Begins

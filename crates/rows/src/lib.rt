@@ -1,3 +1,2 @@
-// Dispatch (pass_2.rs, second half): the rows and entries of one object.
-pub mod entries;
+// Dispatch (pass_2.rs, second half): the rows of one object.
 pub mod rows;

@@ -26,7 +26,7 @@ use Rattle.rules.specs.declared.Modifier.{Modifier}
 use Rattle.rules.specs.declared.Modifier.the-variants.{LocationRequiredSkillModifier, LocationGroupModifier, LocationModifier, OwnerRequiredSkillModifier, ItemModifier}
 use Rattle.rules.specs.declared.OptionalId.{OptionalId}
 use Rattle.rules.specs.declared.OptionalId.the-variants.{Absent, Given}
-use Rattle.rows.specs.Entries.{exemptBits, entryRow}
+use Rattle.spread.specs.Entries.{exemptBits, entryRow}
 
 -- the exempt categories by their bits
 pub exempt-bits : (c : ℤ) → SFits w32 c → some? (eqb (ofZ w32 c)) exemptBits ≡ some? (eqZ c) exemptCategories
