@@ -7,7 +7,7 @@ use codes::get_effect_operator;
 use codes::get_modifier_func;
 use codes::get_own_target;
 use codes::get_projected_object;
-use item::locations::is_rig;
+use locations::is_rig;
 use rules::ATTRIBUTE_UPGRADE_LOAD_ID;
 use rules::DogmaEffect;
 use rules::DogmaModifier;

@@ -2,11 +2,11 @@
 use info::bytes::index;
 use info::header::count_of;
 use info::records::object;
-use item::Categories;
 use item::header::categories_of;
-use item::locations::is_in_ship;
-use item::locations::is_on_char;
-use item::locations::is_owner_modifiable;
+use locations::Categories;
+use locations::is_in_ship;
+use locations::is_on_char;
+use locations::is_owner_modifiable;
 use numbers::bits;
 use rules::CHAR;
 use rules::CHARGE;
@@ -32,7 +32,7 @@ ghost use Rattle.rules.specs.Dispatch.{carrier, meant};
 ghost use Rattle.rules.specs.Columns.{yes1, collectedNumbers};
 ghost use Rattle.rules.specs.declared.Pass2Effect.{Pass2Effect};
 ghost use Rattle.info.specs.Sound.{HeldBook, HeldFit, SoundFit};
-ghost use Rattle.item.specs.Categories.{CategoriesOf};
+ghost use Rattle.locations.specs.Categories.{CategoriesOf};
 ghost use Rattle.hits.specs.Who.{reachOf, passes, FirstSkill, Stands, Aims, atLocation, charItems, bySkill, byOwner, alone, nobody, Pointing, Narrow, First, Second};
 
 // What is asked of an object beside its column: nothing, a group, or a required skill, by their bits.

@@ -1,13 +1,13 @@
 // The category numbers of the header.
-use super::Categories;
 use info::header::category_module;
 use info::header::category_structure_module;
 use info::header::category_subsystem;
+use locations::Categories;
 ghost use mathlib.Core.List.{List};
 ghost use Prim.Native.Nat.{ℕ, _≤_};
 ghost use lib.ListN.{length};
 ghost use Rattle.rules.specs.Sheet.{bookOf};
-ghost use Rattle.item.specs.Categories.{CategoriesOf};
+ghost use Rattle.locations.specs.Categories.{CategoriesOf};
 
 pub fn categories_of(book: &[u8]) -> Categories
     requires { ⌜ 100 ≤ length (now book) ⌝ }

@@ -1,4 +1,4 @@
-// What objects are, where they are, what runs on them (item.rs), and the codes of the sheet.
+// What objects are, what runs on them (item.rs), and the codes of the sheet.
 use rules::EffectCategory;
 use rules::EffectOperator;
 use rules::ItemState;
@@ -6,15 +6,7 @@ use rules::ItemState;
 pub mod codes;
 pub mod header;
 pub mod kinds;
-pub mod locations;
 pub mod states;
-
-// CATEGORY_MODULE, CATEGORY_SUBSYSTEM and CATEGORY_STRUCTURE_MODULE, which the header gives.
-pub struct Categories {
-    pub modules: i32,
-    pub subsystems: i32,
-    pub structure_modules: i32,
-}
 
 // What a code stands for, or a state that is asked for, where there is one.
 pub enum CategoryFound {

@@ -2,8 +2,8 @@
 use info::bytes::index;
 use info::records::id_at;
 use item::kinds::abilities_given;
-use item::locations::is_fighter;
 use item::states::is_passive;
+use locations::is_fighter;
 use rules::DogmaEffect;
 use rules::EffectCategory;
 use rules::Item;

@@ -6,9 +6,9 @@ use Rattle.hits.proofs.who.columns.Tie as tie
 use Rattle.hits.proofs.who.columns.Reads as reads
 use Rattle.hits.proofs.who.columns.Lts as lts
 use Rattle.hits.proofs.who.flag.Reads as flag-reads
-use Rattle.item.proofs.locations.is_in_ship.Reads as is-in-ship-reads
-use Rattle.item.proofs.locations.is_on_char.Reads as is-on-char-reads
-use Rattle.item.proofs.locations.is_owner_modifiable.Reads as is-owner-modifiable-reads
+use Rattle.locations.proofs.is_in_ship.Reads as is-in-ship-reads
+use Rattle.locations.proofs.is_on_char.Reads as is-on-char-reads
+use Rattle.locations.proofs.is_owner_modifiable.Reads as is-owner-modifiable-reads
 use Rattle.numbers.proofs.bits.Reads as bits-reads
 use mathlib.Core.Path.{ap, _∙_}
 use borrow.Author.Needs.{sfits-of}

@@ -1,5 +1,4 @@
-// Where an item is, by its slot and its category.
-use super::Categories;
+// Where an item is, by its slot and its category (item.rs).
 use rules::BOOSTER;
 use rules::CATEGORY_DRONE;
 use rules::CATEGORY_FIGHTER;
@@ -16,7 +15,14 @@ use rules::SUBSYSTEM;
 ghost use mathlib.Core.Path.{_≡_};
 ghost use Rattle.rules.specs.Sheet.{Book, Fit};
 ghost use Rattle.rules.specs.Item.{isRig, isSubsystem, isDrone, isFighter, isOnChar, isOwnerModifiable, isModuleCategory, isModule, isInShip, isCalculated, passed, structureFit};
-ghost use Rattle.item.specs.Categories.{CategoriesOf};
+ghost use Rattle.locations.specs.Categories.{CategoriesOf};
+
+// CATEGORY_MODULE, CATEGORY_SUBSYSTEM and CATEGORY_STRUCTURE_MODULE, which the header gives.
+pub struct Categories {
+    pub modules: i32,
+    pub subsystems: i32,
+    pub structure_modules: i32,
+}
 
 pub fn is_rig(o: Item) -> bool
     ensures { λ r. ⌜ r ≡ isRig o ⌝ }

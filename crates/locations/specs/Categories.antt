@@ -1,7 +1,7 @@
 -- The three category numbers that the header gives, apart from the book's tables.
 use mathlib.Core.Path.{_≡_}
 use Rattle.rules.specs.Sheet.{Book}
-use Rattle.item.specs.declared.Categories.{Categories}
+use Rattle.locations.specs.declared.Categories.{Categories}
 
 -- c are the book's category numbers
 pub record CategoriesOf (k : Book) (c : Categories) : Type 0 where
