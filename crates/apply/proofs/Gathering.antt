@@ -10,7 +10,6 @@ use lib.Ieee.{Float}
 use lib.IntN.{ℤ}
 use lib.Seq.{take-all}
 use lib.ListN.{length, getD, take, drop, length-map, length-drop, take-append-drop}
-
 use mir.Facts.{toZ-ofZ}
 use mir.Syntax.{w32}
 use mir.Val.{toZ}
@@ -136,8 +135,8 @@ module _ {t : Tables} {run : Run} {v₀ : List Float} {s₁ : List (List ℕ)} {
       pub room-for : w .recording ≡ true → length (ownSources i (G .sofar .mem)) + plannedFor w op (e ∷ []) ≤ getD (countsOf w) i 0
       room-for on =
           let parts : plannedFor w op (row .entries) ≡ plannedFor w op (take k (row .entries)) + plannedFor w op (e ∷ []) + plannedFor w op (drop (k + 1) (row .entries)) =
-            ap (plannedFor w op) split ∙ planned-append w op (take (k + 1) (row .entries)) (drop (k + 1) (row .entries))
-            ∙ ap (λ (n : ℕ). n + plannedFor w op (drop (k + 1) (row .entries))) (ap (plannedFor w op) next ∙ planned-append w op (take k (row .entries)) (e ∷ []))
+          ap (plannedFor w op) split ∙ planned-append w op (take (k + 1) (row .entries)) (drop (k + 1) (row .entries))
+          ∙ ap (λ (n : ℕ). n + plannedFor w op (drop (k + 1) (row .entries))) (ap (plannedFor w op) next ∙ planned-append w op (take k (row .entries)) (e ∷ []))
           in
           let more : length (ownSources i (G .sofar .mem)) ≡ length (ownSources i m) + plannedFor w op (take k (row .entries)) = gives .more ∙ ap (λ (b : Bool). length (ownSources i m) + cond b (plannedFor w op (take k (row .entries))) 0) on in
           omega (arith, parts, more, h .mine, h .enough on)

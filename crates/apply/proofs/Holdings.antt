@@ -91,7 +91,7 @@ module _ {w : World} {s₀ : List (List ℕ)} {f₀ : List (List Float)} {m : Me
         numbers = λ j y e. H .numbers j y (ap (λ (l : List (Option Float)). getD l j none) (sym same) ∙ e);
         sources = λ j. keeping-any k j;
         clean = λ j e. other j (λ p. some-none (sym has ∙ sym (ap (valueAt m) p) ∙ ap (λ (l : List (Option Float)). getD l j none) (sym same) ∙ e))
-        ∙ H .clean j (ap (λ (l : List (Option Float)). getD l j none) (sym same) ∙ e);
+            ∙ H .clean j (ap (λ (l : List (Option Float)). getD l j none) (sym same) ∙ e);
       }
 
   -- the room of list 5 is there

@@ -121,11 +121,11 @@ module _ {t : Tables} {run : Run} {v₀ : List Float} {s₁ : List (List ℕ)} {
       pub room-for : w .recording ≡ true → own + plannedBy w (o ∷ []) (row .entries) ≤ getD (countsOf w) i 0
       room-for on =
           let parts : plannedBy w operators (row .entries) ≡ plannedBy w (take code operators) (row .entries) + plannedBy w (o ∷ []) (row .entries) + plannedBy w (drop (code + 1) operators) (row .entries) =
-            ap (λ (l : List EffectOperator). plannedBy w l (row .entries)) split ∙ by-append w (take (code + 1) operators) (drop (code + 1) operators) (row .entries)
-            ∙ ap (λ (n : ℕ). n + plannedBy w (drop (code + 1) operators) (row .entries)) (ap (λ (l : List EffectOperator). plannedBy w l (row .entries)) next ∙ by-append w (take code operators) (o ∷ []) (row .entries))
+          ap (λ (l : List EffectOperator). plannedBy w l (row .entries)) split ∙ by-append w (take (code + 1) operators) (drop (code + 1) operators) (row .entries)
+          ∙ ap (λ (n : ℕ). n + plannedBy w (drop (code + 1) operators) (row .entries)) (ap (λ (l : List EffectOperator). plannedBy w l (row .entries)) next ∙ by-append w (take code operators) (o ∷ []) (row .entries))
           in
           let more : length (ownSources i (O .sofar .mem)) ≡ length (ownSources i m) + plannedBy w (take code operators) (row .entries) =
-            gives .more ∙ ap (λ (b : Bool). length (ownSources i m) + cond b (plannedBy w (take code operators) (row .entries)) 0) on
+          gives .more ∙ ap (λ (b : Bool). length (ownSources i m) + cond b (plannedBy w (take code operators) (row .entries)) 0) on
           in
           omega (arith, parts, more, h .mine, O .mine, h .enough on)
 

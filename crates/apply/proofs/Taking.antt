@@ -193,17 +193,16 @@ module _ {t : Tables} {run : Run} {v : List Float} {s : List (List ℕ)} {f : Li
               }
 
           pub entry-lengths : (r : Pile) → r .own ≡ p .own → r .used ≡ more → (run .room ≤ length s′) × (run .room ≤ length f′) × (r .own ≤ r .used)
-          entry-lengths r own used =
-              (
-                omega (arith, sources-long (q .holds) (h .ready .told .roomy .0), h .ready .told .recorded .room),
-                omega (arith, floats-long (q .holds) (h .ready .told .roomy .1), h .ready .told .recorded .room),
-                omega (arith, own, used, h .piled .keeping .mine, ap length own-same, q .holds .sources i .few i, q .holds .sources i .all),
-              )
+          entry-lengths r own used = (
+            omega (arith, sources-long (q .holds) (h .ready .told .roomy .0), h .ready .told .recorded .room),
+            omega (arith, floats-long (q .holds) (h .ready .told .roomy .1), h .ready .told .recorded .room),
+            omega (arith, own, used, h .piled .keeping .mine, ap length own-same, q .holds .sources i .few i, q .holds .sources i .all),
+          )
 
           pub entry-room : w .recording ≡ true → length (ownSources i (after .mem)) + enteredCount runs x ≤ getD (countsOf w) i 0
           entry-room on =
               let planned : plannedFor w op (entryAt w i k ∷ []) ≡ enteredCount runs x = ap (λ (e : Effect). plannedFor w op (e ∷ [])) (sym is)
-                ∙ ap (λ (b : Bool). cond b (plannedOf w x) 0 + 0) same ∙ omega arith ∙ ap (λ (b : Bool). plannedIf b x) (sym runs-here) ∙ sym (planned-entered runs x)
+              ∙ ap (λ (b : Bool). cond b (plannedOf w x) 0 + 0) same ∙ omega arith ∙ ap (λ (b : Bool). plannedIf b x) (sym runs-here) ∙ sym (planned-entered runs x)
               in
               omega (arith, planned, ap length own-same, h .enough on)
 

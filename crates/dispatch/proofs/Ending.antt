@@ -24,8 +24,8 @@ use Rattle.segments.proofs.Cutting.{parts-length}
 use Rattle.rows.specs.declared.rows.Laid.{Laid}
 use Rattle.rows.specs.declared.rows.Laid.the-variants.{Rows, Full}
 use Rattle.entries.specs.Effects.{Listing}
-use Rattle.lists.specs.Laying.{entriesOf}
-use Rattle.lists.specs.Parts.{hitsTo, Parts, Parting, rowsTo, ListsLaid, AllLaid}
+use Rattle.object_lists.specs.Laying.{entriesOf}
+use Rattle.object_lists.specs.Parts.{hitsTo, Parts, Parting, rowsTo, ListsLaid, AllLaid}
 use Rattle.entries.proofs.RowOf.{bases-ascend}
 use Rattle.dispatch.specs.Keyed.{isRow}
 use Rattle.dispatch.specs.Whole.{Collection, Collecting, full}

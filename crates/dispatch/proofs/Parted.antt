@@ -43,8 +43,8 @@ use Rattle.spread.specs.Entries.{effectAt, Collected, rowFor, rowsFor}
 use Rattle.spread.proofs.Defined.{rows-defined}
 use Rattle.rows.proofs.Bounds.{narrow-fits, fits-narrow}
 use Rattle.entries.specs.Effects.{Effects}
-use Rattle.lists.specs.Parts.{hitsTo, Parts, Parting, partRows, rowsTo}
-use Rattle.lists.proofs.Owned.{numbers-length}
+use Rattle.object_lists.specs.Parts.{hitsTo, Parts, Parting, partRows, rowsTo}
+use Rattle.object_lists.proofs.Owned.{numbers-length}
 use Rattle.dispatch.specs.Keyed.{isRow}
 use Rattle.dispatch.specs.Whole.{Collection, Collecting, full}
 use Rattle.dispatch.proofs.Rooms.{after, atPast, verdict-rows, verdict-none, verdict-past, full-verdict}

@@ -10,8 +10,8 @@ use Rattle.rules.specs.Dispatch.{baseKeys, hitKeys, fullAt, rows}
 use Rattle.rules.specs.declared.Pass2Effect.{Pass2Effect}
 use Rattle.hits.specs.Who.{Pointing, Narrow}
 use Rattle.spread.specs.Entries.{effectAt, Collected}
-use Rattle.lists.specs.Laying.{entriesOf}
-use Rattle.lists.specs.Parts.{ListsLaid}
+use Rattle.object_lists.specs.Laying.{entriesOf}
+use Rattle.object_lists.specs.Parts.{ListsLaid}
 use Rattle.dispatch.specs.declared.Dispatched.{Dispatched}
 use Rattle.dispatch.specs.declared.Dispatched.the-variants.{Lists, Full}
 

@@ -1,5 +1,5 @@
 // Dispatch (pass_2.rs, second half): the rows and entries of all objects, or the list that is full first.
-use lists::all_lists;
+use object_lists::all_lists;
 use room::full_at;
 use rows::rows::Laid;
 use segments::places::set_hits;

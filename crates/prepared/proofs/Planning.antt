@@ -11,7 +11,7 @@ use Rattle.rules.specs.Outcome.{collectedIn, rowsIn, worldOf}
 use Rattle.rules.specs.declared.Effect.{Effect}
 use Rattle.info.specs.Sound.{SoundFit}
 use Rattle.states.specs.Raised.{rowsOf}
-use Rattle.entries.specs.Parts.{ListsLaid}
+use Rattle.object_lists.specs.Parts.{ListsLaid}
 use Rattle.sources.specs.Planned.{countsOf}
 use Rattle.plan.specs.Ranged.{EntriesHeld}
 use Rattle.plan.specs.Rows.{countsBy, plannedNumbers, entriesOf, Dispatched}

@@ -24,8 +24,8 @@ use Rattle.rules.proofs.Verdicts.{buffs-good}
 use Rattle.info.specs.Sound.{SoundFit}
 use Rattle.info.proofs.Elements.{objects-length}
 use Rattle.hits.proofs.Rows.{source-at}
-use Rattle.modifiers.specs.declared.Cause.{Cause}
-use Rattle.modifiers.specs.declared.Cause.the-variants as cause
+use Rattle.causes.specs.declared.Cause.{Cause}
+use Rattle.causes.specs.declared.Cause.the-variants as cause
 use Rattle.collected.specs.Bounded as bounded
 use Rattle.collected.specs.Takes.{Member, Caused, Collects, originOf}
 use Rattle.collected.proofs.Taking.{each-at}

@@ -15,7 +15,7 @@ use Rattle.rules.specs.Value.{World, stateOf}
 use Rattle.rules.specs.declared.Effect.{Effect}
 use Rattle.info.specs.Sound.{SoundBook, SoundFit}
 use Rattle.states.specs.Raised.{rowsOf}
-use Rattle.entries.specs.Parts.{ListsLaid}
+use Rattle.object_lists.specs.Parts.{ListsLaid}
 use Rattle.reading.specs.Held.{EntryHeld, RowsHeld, noRow}
 use Rattle.stretches.specs.Stretched.{Stretched, Limits}
 use Rattle.sources.specs.declared.Run.{Run}

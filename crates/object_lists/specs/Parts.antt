@@ -17,7 +17,7 @@ use Rattle.rows.specs.Tallies.{hitNumber}
 use Rattle.spread.specs.Entries.{effectAt, rowsFor}
 use Rattle.rows.specs.declared.rows.Laid.{Laid}
 use Rattle.rows.specs.declared.rows.Laid.the-variants.{Rows, Full}
-use Rattle.lists.specs.Laying.{entriesOf}
+use Rattle.object_lists.specs.Laying.{entriesOf}
 
 -- how many hits the first n objects have
 abbrev pub hitsTo : (ℕ → List ℕ) → ℕ → ℕ

@@ -33,7 +33,7 @@ use Rattle.spread.proofs.Defined.{hits-targets, spread-entries, rows-numbers}
 use Rattle.spread.proofs.Begins.{tallied-counted, spreading, begun-keys}
 use Rattle.spread.proofs.Tallied.{tallied-is}
 use Rattle.entries.specs.Effects.{Effects, Taken, entryOf, valueOf}
-use Rattle.lists.specs.Laying.{Tallied, entriesOf, EntriesLaid, RowsLaid}
+use Rattle.object_lists.specs.Laying.{Tallied, entriesOf, EntriesLaid, RowsLaid}
 
 pub numbers-length : (e : ℕ) (rs : List Row) → length (rowsNumbers e 0 rs []) ≡ length rs
 numbers-length e [] = refl

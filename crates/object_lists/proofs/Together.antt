@@ -30,9 +30,9 @@ use Rattle.spread.specs.Entries.{effectAt, hitsIn, rowsFor}
 use Rattle.rows.specs.declared.rows.Laid.{Laid}
 use Rattle.rows.specs.declared.rows.Laid.the-variants.{Rows, Full}
 use Rattle.entries.specs.Effects.{Effects, Listing}
-use Rattle.lists.specs.Laying.{entriesOf, EntriesLaid, RowsLaid, ObjectLaid}
-use Rattle.lists.specs.Parts.{hitsTo, Parts, Parting, partRows, rowsTo, ListsLaid, AllLaid}
-use Rattle.lists.proofs.Owned.{numbers-length}
+use Rattle.object_lists.specs.Laying.{entriesOf, EntriesLaid, RowsLaid, ObjectLaid}
+use Rattle.object_lists.specs.Parts.{hitsTo, Parts, Parting, partRows, rowsTo, ListsLaid, AllLaid}
+use Rattle.object_lists.proofs.Owned.{numbers-length}
 
 -- ---- columns
 

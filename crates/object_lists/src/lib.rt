@@ -19,8 +19,8 @@ ghost use Rattle.info.specs.Sound.{SoundBook, SoundFit};
 ghost use Rattle.rows.specs.Tallies.{hitId, Numbered, tallied};
 ghost use Rattle.spread.specs.Entries.{hitsIn, rowsFor};
 ghost use Rattle.entries.specs.Effects.{Effects, Listing};
-ghost use Rattle.lists.specs.Laying.{Tallied, EntriesLaid, ObjectLaid};
-ghost use Rattle.lists.specs.Parts.{hitsTo, Parts, Parting, rowsTo, AllLaid};
+ghost use Rattle.object_lists.specs.Laying.{Tallied, EntriesLaid, ObjectLaid};
+ghost use Rattle.object_lists.specs.Parts.{hitsTo, Parts, Parting, rowsTo, AllLaid};
 
 // The entries of object i, in its own segment, which begins at place `from` of list 3; `rows` are its rows as the hits left them.
 fn object_entries(
