@@ -29,11 +29,11 @@ use Rattle.hits.proofs.Standing.{Place, ship, mode, char, later, Standi
 
 -- ---- the tables' verdicts
 
-pub head-good : (n : ℕ) (t : Bool) (r : List Bool) → firstBad n (t ∷ r) ≡ none → t ≡ true
+head-good : (n : ℕ) (t : Bool) (r : List Bool) → firstBad n (t ∷ r) ≡ none → t ≡ true
 head-good n true r e = refl
 head-good n false r e = let z : _≡_ {A = ℕ} 0 1 = cc in absurd (omega arith)
 
-pub tail-good : (n : ℕ) (t : Bool) (r : List Bool) → firstBad n (t ∷ r) ≡ none → firstBad (suc n) r ≡ none
+tail-good : (n : ℕ) (t : Bool) (r : List Bool) → firstBad n (t ∷ r) ≡ none → firstBad (suc n) r ≡ none
 tail-good n true r e = e
 tail-good n false r e = let z : _≡_ {A = ℕ} 0 1 = cc in absurd (omega arith)
 

