@@ -14,6 +14,7 @@ use lib.Seq.{take-all}
 use Rattle.laws.proofs.Every.{every-at}
 use Rattle.laws.proofs.Maps.{take-next, map-at}
 use Rattle.rules.specs.Answer.{Res, ok, refused, _>>=_}
+use Rattle.rules.specs.Bytes.{u32At}
 use Rattle.rules.specs.Dispatch.{Row}
 use Rattle.rules.specs.Outcome.{valued, walkOrder}
 use Rattle.rules.specs.Sheet.{Fit, fitOf}
@@ -98,7 +99,11 @@ module _ {t : Tables} {run : Run} {v₀ : List Float} {s₁ : List (List ℕ)} {
           rw (ap (λ (l : List Ask). valued w d l (h .mem)) (sym (take-append-drop (i + 1) starts)) ∙ valued-append w d (take (i + 1) starts) (drop (i + 1) starts) (h .mem)
           ∙ ap (λ (x : Res Mem). x >>= λ n. valued w d (drop (i + 1) starts) n) (one-more ∙ ap (λ (x : Res Read). x >>= λ q. ok (q .mem)) (missed w s₀ f₀ v′ s′ f′ reading z k))) refl
 
--- ---- an ask is of an object
+-- ---- the sheet's depth, and an ask's object
+
+pub depth-is : (b : List ℕ) (pairs : List (List ℕ)) {d : ℕ} → d ≡ u32At b 92 → fitOf b pairs .depth ≡ d
+unfolding fitOf
+depth-is b pairs e = sym e
 
 head-good : (n : ℕ) (t : Bool) (r : List Bool) → firstBad n (t ∷ r) ≡ none → t ≡ true
 head-good n true r e = refl
@@ -130,3 +135,29 @@ module _ {f : Fit} {rs : List Row} {t : Turns} (T : TurnsOf f rs t) where
   pub walk-at : (k row : ℕ) → k < length rs → row ≡ walkedAt t k → askOf (getD rs row noRow) ≡ getD (map askOf (walkOrder (f .objects) rs)) k (askOf (getD rs row noRow))
   walk-at k row inside e =
       sym (map-at askOf (walkOrder (f .objects) rs) k noRow (askOf (getD rs row noRow)) (omega (arith, inside, turns-long T)) ∙ ap askOf (turn-at T k inside ∙ ap (λ (n : ℕ). getD rs n noRow) (sym e)))
+
+-- ---- asks, then the walk
+
+module _ (w : World) (s₀ : List (List ℕ)) (f₀ : List (List Float)) (d : ℕ) (xs ys : List Ask) (m : Mem) where
+  pub both-refused : (z : Refusal) (v : List Float) (s : List (List ℕ)) (f : List (List Float)) → ValuedAs w s₀ f₀ (valued w d xs m) (answer.Refused z) v s f → ValuedAs w s₀ f₀ (valued w d (xs ++ ys) m) (answer.Refused z) v s f
+  both-refused z v s f k = rw (valued-append w d xs ys m) (by (valued w d xs m) k)
+    where
+      by : (x : Res Mem) → ValuedAs w s₀ f₀ x (answer.Refused z) v s f → ValuedAs w s₀ f₀ (x >>= λ n. valued w d ys n) (answer.Refused z) v s f
+      by (ok n) k = absurd k
+      by (refused y) k = k
+
+  -- what the asks have left
+  pub record Left (v : List Float) (s : List (List ℕ)) (f : List (List Float)) (used : ℕ) : Type 0 where
+    pub mem : Mem
+    pub is : valued w d xs m ≡ ok mem
+    pub holds : Holds w s₀ f₀ mem v s f used
+
+  pub left-by : (used : ℕ) (v : List Float) (s : List (List ℕ)) (f : List (List Float)) → ValuedAs w s₀ f₀ (valued w d xs m) (answer.At used) v s f → Left v s f used
+  left-by used v s f k = by (valued w d xs m) refl k
+    where
+      by : (x : Res Mem) → valued w d xs m ≡ x → ValuedAs w s₀ f₀ x (answer.At used) v s f → Left v s f used
+      by (ok n) e k = record { mem = n; is = e; holds = k }
+      by (refused y) e k = absurd k
+
+  pub both-valued : {v : List Float} {s : List (List ℕ)} {f : List (List Float)} {used : ℕ} (l : Left v s f used) (r : Valued) (v′ : List Float) (s′ : List (List ℕ)) (f′ : List (List Float)) → ValuedAs w s₀ f₀ (valued w d ys (l .mem)) r v′ s′ f′ → ValuedAs w s₀ f₀ (valued w d (xs ++ ys) m) r v′ s′ f′
+  both-valued l r v′ s′ f′ k = rw (valued-append w d xs ys m ∙ ap (λ (x : Res Mem). x >>= λ n. valued w d ys n) (l .is)) k
