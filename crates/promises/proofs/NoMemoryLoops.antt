@@ -10,7 +10,7 @@ use borrow.Author.Tests.{ltb-true}
 use lib.Dec.{eqb, ltb}
 use lib.IntN.{pos}
 use lib.Ieee.{Float, binary64, ofInt}
-use lib.ListN.{getD, set}
+use lib.ListN.{getD}
 use Rattle.laws.specs.Lists.{some?, every?, keep}
 use Rattle.laws.proofs.Bools.{both-ways}
 use Rattle.laws.proofs.Every.{every-at, some-flat, Place, some-place}
@@ -23,7 +23,8 @@ use Rattle.rules.specs.Fresh.{needsOf, needsAt, Leads, last, next, LeadsBack}
 use Rattle.rules.specs.declared.Refusal.the-variants.{Depth}
 use Rattle.rules.proofs.Everything.{everything}
 use Rattle.rules.proofs.Marked.{lent, caseL, looped}
-use Rattle.rules.proofs.Written.{whole, attribute, effect, modifier, typeEffect, object, hull, base, ask, sheet}
+use Rattle.rules.proofs.Loops.{limiting, resisting, idling, recorded, ofShip}
+use Rattle.rules.proofs.Written.{ask}
 use Rattle.promises.specs.NoMemory.{keyOf, noRow, Needs, NoLoop, SameButAsks, bookIn, fitIn, worldIn}
 use Rattle.promises.proofs.NoMemory.{same-values}
 use Rattle.promises.proofs.Ranks.{passed, same-key}
@@ -78,9 +79,6 @@ abbrev done? : Res Done → Bool
 done? (ok d) = true
 done? (refused r) = false
 
-abbrev ofShip : ℕ → Key
-ofShip a = record { object = 0; id = pos a }
-
 -- on case L, the items' strengths go first
 abbrev strengthsFirst : List (List ℕ)
 strengthsFirst = ask 2 20 ∷ ask 3 20 ∷ []
@@ -88,37 +86,6 @@ strengthsFirst = ask 2 20 ∷ ask 3 20 ∷ []
 -- there the ship's attribute needs the two strengths, and nothing else needs anything
 abbrev shipLast : Key → ℕ
 shipLast a = cond (eqb (a .object) 0) 1 0
-
--- the ship's 20 has its 37 as its least, and 37 has 20 as its most
-abbrev limiting : List (List ℕ) → List ℕ
-limiting asks =
-    sheet 2 (attribute 20 0 0 37 0 ∷ attribute 37 0 0 0 20 ∷ []) [] [] [] (hull 0 0 0 2 ∷ hull 2 0 0 0 ∷ []) (base 20 (whole 4) ∷ base 37 (whole 5) ∷ []) asks
-
--- a projected object adds its 20 to the ship's 37, by the ship's resistance 50, and the ship adds 37 to 50
-abbrev resisting : List (List ℕ) → List ℕ
-resisting asks =
-    sheet 3 []
-    (effect 1 0 50 0 1 ∷ effect 2 0 0 1 1 ∷ [])
-    (modifier 4 5 3 20 37 0 ∷ modifier 4 0 3 37 50 0 ∷ [])
-    (typeEffect 8 2 ∷ [])
-    (hull 0 8 0 2 ∷ hull 2 0 0 0 ∷ object 6 0 0 0 1 0 1 2 1 ∷ [])
-    (base 37 (whole 2) ∷ base 50 (whole 1) ∷ base 20 (whole 5) ∷ [])
-    asks
-
--- the ship adds 37 to 20 by an effect that does not run, then 50 to 20, and 20 to 37
-abbrev idling : List ℕ
-idling =
-    sheet 2 []
-    (effect 1 2 0 0 1 ∷ effect 2 0 0 1 2 ∷ [])
-    (modifier 4 0 3 37 20 0 ∷ modifier 4 0 3 50 20 0 ∷ modifier 4 0 3 20 37 0 ∷ [])
-    (typeEffect 8 1 ∷ typeEffect 8 2 ∷ [])
-    (hull 0 8 0 3 ∷ hull 2 0 0 0 ∷ [])
-    (base 20 (whole 10) ∷ base 37 (whole 1) ∷ base 50 (whole 100) ∷ [])
-    []
-
--- the same sheet with sources recorded
-abbrev recorded : List ℕ → List ℕ
-recorded b = set b 96 1
 
 -- two sheets that differ in asks, depth and recording alone, on which an attribute leads back to itself, and their values
 pub record Changes (b c : List ℕ) (a : Key) (u v : List ℕ) : Type 0 where

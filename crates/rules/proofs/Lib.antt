@@ -4,3 +4,4 @@ pub mod Marked
 pub mod Slips
 pub mod Tables
 pub mod Verdicts
+pub mod Loops
