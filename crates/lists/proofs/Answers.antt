@@ -6,7 +6,7 @@ use mathlib.Core.List.{List}
 use mathlib.Core.Option.{Option, none, some}
 use lib.Ieee.{Float}
 use lib.ListN.{length}
-use Rattle.rules.specs.Answer.{ok, refused}
+use Rattle.rules.specs.Answer.{refused}
 use Rattle.rules.specs.Bytes.{countOf}
 use Rattle.rules.specs.Sheet.{Book, Fit, bookOf, fitOf}
 use Rattle.rules.specs.Collect.{moves}
@@ -26,8 +26,8 @@ use Rattle.dispatch.specs.declared.Dispatched.{Dispatched}
 use Rattle.dispatch.specs.declared.Dispatched.the-variants.{Lists, Full}
 use Rattle.dispatch.specs.Whole.{Collection, Collecting, Given}
 use Rattle.lists.specs.declared.Rooms.{Rooms}
-use Rattle.lists.specs.declared.Counts.{Counts}
-use Rattle.lists.specs.Listing.{listsIn, RoomsOf, Lent, CountsOf, AllLaid}
+use Rattle.lists.specs.declared.Listed.{Listed}
+use Rattle.lists.specs.Listing.{listsIn, RoomsOf, Lent, ListedAs, listedOf}
 use Rattle.lists.proofs.Steps.{base-full, not-collected, dispatched}
 use Rattle.lists.proofs.Gathered.{Gathered, gathered, collection}
 
@@ -64,31 +64,21 @@ module _ (book fit : List ℕ) (pairs : List (List ℕ)) (S : SoundFit fit pairs
         not-collected k f q (omega (arith, Q .rows, h))
         (not-done (outcome.collected q 0 0 (moves k f)) (moves k f) c v l (sym (was-refused g c′ v′ l′) ∙ C q (Q .collected) (Q .plain)))
 
-    module _ {n p : ℕ} (g : x ≡ At n p) (d : Dispatched) (r′ : List (List ℕ)) (b′ : List Float) (e′ : List (List ℕ)) (w′ : List Float) (D : (es : List Pass2Effect) → Collection es n c′ v′ (countOf pairs 6) → Given d (s .rows) (s .entries) (bookOf book pairs) (fitOf fit pairs) es r r′ b b′ e e′ w w′) (h : length (baseKeys (fitOf fit pairs)) ≤ s .rows) (q : outcome.Rooms) (Q : RoomsOf q s) where
-      given : {y : Dispatched} → d ≡ y → Given y (s .rows) (s .entries) k f (collectedIn k f) r r′ b b′ e e′ w w′
-      given i = subst (λ (y : Dispatched). Given y (s .rows) (s .entries) k f (collectedIn k f) r r′ b b′ e e′ w w′) i (D (collectedIn k f) (collects g))
-
+    module _ {n p : ℕ} (g : x ≡ At n p) (r′ : List (List ℕ)) (b′ : List Float) (e′ : List (List ℕ)) (w′ : List Float) (h : length (baseKeys (fitOf fit pairs)) ≤ s .rows) (q : outcome.Rooms) (Q : RoomsOf q s) where
       ends : (o : Option ℕ) → fullAt (s .rows) (s .entries) (baseKeys f) (length (baseKeys f)) 0 (hitKeys k f (collectedIn k f)) ≡ o → listsIn k f q ≡ outcome.full o
       ends o i = dispatched k f q (omega (arith, Q .rows, h)) o (gathers q (Q .collected) (Q .plain) g .done) (rw (Q .rows, Q .entries) i)
 
-      pub list-full : {t : ℕ} → d ≡ Full t → listsIn (bookOf book pairs) (fitOf fit pairs) q ≡ refused (Room t)
-      list-full {t} i = ends (some t) (given i)
+      by : (d : Dispatched) → Given d (s .rows) (s .entries) k f (collectedIn k f) r r′ b b′ e e′ w w′ → ListedAs (listsIn k f q) (listedOf d n p) k f c c′ v v′ r r′ b b′ e e′ w w′ l l′
+      unfolding collectedIn rowsIn
+      by (Lists a m) i =
+          let G = gathers q (Q .collected) (Q .plain) g in (
+            ends none (i .0),
+            record { collected = G .count; rows = i .1; entries = i .2; plain = G .plain },
+            record { collected = G .numbers; collectedValues = G .values; lists = i .3; plain = G .plains },
+          )
+      by (Full t) i = ends (some t) i
 
-      module _ {a m : ℕ} (i : d ≡ Lists a m) where
-        all-done : listsIn k f q ≡ ok tt
-        all-done = ends none (given i .0)
-
-        counted : CountsOf (record { collected = n; rows = a; entries = m; plain = p }) k f
-        unfolding collectedIn rowsIn
-        counted =
-            let G = gathers q (Q .collected) (Q .plain) g in
-            record { collected = G .count; rows = given i .1; entries = given i .2; plain = G .plain }
-
-        laid : AllLaid k f c c′ v v′ r r′ b b′ e e′ w w′ l l′
-        unfolding collectedIn rowsIn
-        laid =
-            let G = gathers q (Q .collected) (Q .plain) g in
-            record { collected = G .numbers; collectedValues = G .values; lists = given i .3; plain = G .plains }
-
-        pub all-listed : (listsIn (bookOf book pairs) (fitOf fit pairs) q ≡ ok tt) × CountsOf (record { collected = n; rows = a; entries = m; plain = p }) (bookOf book pairs) (fitOf fit pairs) × AllLaid (bookOf book pairs) (fitOf fit pairs) c c′ v v′ r r′ b b′ e e′ w w′ l l′
-        all-listed = (all-done, counted, laid)
+      -- dispatch's answer d, and the whole answer y
+      pub all-listed : (d : Dispatched) → ((es : List Pass2Effect) → Collection es n c′ v′ (countOf pairs 6) → Given d (s .rows) (s .entries) (bookOf book pairs) (fitOf fit pairs) es r r′ b b′ e e′ w w′) → (y : Listed) → y ≡ listedOf d n p → ListedAs (listsIn (bookOf book pairs) (fitOf fit pairs) q) y (bookOf book pairs) (fitOf fit pairs) c c′ v v′ r r′ b b′ e e′ w w′ l l′
+      all-listed d D y a =
+          subst (λ (z : Listed). ListedAs (listsIn k f q) z k f c c′ v v′ r r′ b b′ e e′ w w′ l l′) (sym a) (by d (D (collectedIn k f) (collects g)))

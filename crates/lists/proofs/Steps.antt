@@ -13,10 +13,10 @@ use Rattle.rules.specs.Sheet.{Book, Fit}
 use Rattle.rules.specs.Collect.{Move, taken, plain, refuse, moves, takenOf, plainOf}
 use Rattle.rules.specs.Dispatch.{baseKeys, hitKeys, fullAt}
 use Rattle.rules.specs.Outcome as outcome
-use Rattle.rules.specs.Outcome.{Done, full, run, valued, startsOf, blank, worldOf, collectedIn}
+use Rattle.rules.specs.Outcome.{full, run, collectedIn}
 use Rattle.rules.specs.declared.Refusal.{Refusal}
 use Rattle.rules.specs.declared.Refusal.the-variants.{Room}
-use Rattle.lists.specs.Listing.{listsIn}
+use Rattle.lists.specs.Listing.{listsIn, valuedIn}
 
 three : {A : Type 0} (a b c : Res Unit) (r : Res A) → (a >>= (λ _. b >>= (λ _. c >>= (λ _. r)))) ≡ ((a >>= (λ _. b >>= (λ _. c))) >>= (λ _. r))
 three (ok u) (ok v) (ok w) r = refl
@@ -25,18 +25,12 @@ three (ok u) (refused x) c r = refl
 three (refused x) b c r = refl
 
 module _ (k : Book) (f : Fit) (q : outcome.Rooms) where
-  -- what a run gives after the lists
-  abbrev rest : Res Done
-  rest = do
-    let w = worldOf k f (q .sources)
-    m ← valued w (f .depth) (startsOf f (w .rows)) (blank (w .rows))
-    ok (record { states = w .states; collected = collectedIn k f; plain = plainOf (moves k f); rows = w .rows; values = m .values; sources = m .sources })
-
-  pub run-lists : run k f q ≡ (listsIn k f q >>= (λ _. rest))
+  -- their place in a run
+  pub run-lists : run k f q ≡ (listsIn k f q >>= (λ _. valuedIn k f q))
   unfolding run listsIn
   run-lists =
       three (full (cond (leb (length (baseKeys f)) (q .rows)) none (some 2))) (outcome.collected q 0 0 (moves k f))
-      (full (fullAt (q .rows) (q .entries) (baseKeys f) (length (baseKeys f)) 0 (hitKeys k f (collectedIn k f)))) rest
+      (full (fullAt (q .rows) (q .entries) (baseKeys f) (length (baseKeys f)) 0 (hitKeys k f (collectedIn k f)))) (valuedIn k f q)
 
   -- ---- where they end
 

@@ -14,9 +14,12 @@ use Rattle.rules.specs.Collect.{moves, plainOf}
 use Rattle.rules.specs.Dispatch.{baseKeys, hitKeys, fullAt}
 use Rattle.rules.specs.Columns.{collectedNumbers, originValue, plainNumbers}
 use Rattle.rules.specs.Outcome as outcome
-use Rattle.rules.specs.Outcome.{full, collectedIn, rowsIn}
+use Rattle.rules.specs.Outcome.{full, collectedIn, rowsIn, worldOf, startsOf, blank, valued}
 use Rattle.entries.specs.Laying.{entriesOf}
 use Rattle.entries.specs.Parts.{ListsLaid}
+use Rattle.rules.specs.declared.Refusal.the-variants.{Room}
+use Rattle.dispatch.specs.declared.Dispatched.{Dispatched}
+use Rattle.dispatch.specs.declared.Dispatched.the-variants.{Lists, Full}
 use Rattle.lists.specs.declared.Rooms.{Rooms}
 use Rattle.lists.specs.declared.Counts.{Counts}
 use Rattle.lists.specs.declared.Listed.{Listed}
@@ -28,6 +31,13 @@ listsIn k f q = do
   _ ← full (cond (leb (length (baseKeys f)) (q .rows)) none (some 2))
   _ ← outcome.collected q 0 0 (moves k f)
   full (fullAt (q .rows) (q .entries) (baseKeys f) (length (baseKeys f)) 0 (hitKeys k f (collectedIn k f)))
+
+-- what `run` does after them
+abbrev pub valuedIn : Book → Fit → outcome.Rooms → Res outcome.Done
+valuedIn k f q = do
+  let w = worldOf k f (q .sources)
+  m ← valued w (f .depth) (startsOf f (w .rows)) (blank (w .rows))
+  ok (record { states = w .states; collected = collectedIn k f; plain = plainOf (moves k f); rows = w .rows; values = m .values; sources = m .sources })
 
 -- the definition's rooms of lists 1 to 4 are these
 pub record RoomsOf (q : outcome.Rooms) (s : Rooms) : Type 0 where
@@ -60,6 +70,11 @@ pub record AllLaid (k : Book) (f : Fit) (c₀ c : List (List ℕ)) (v₀ v : Lis
   pub collectedValues : Col (λ t. originValue (t .origin)) (collectedIn k f) v₀ v
   pub lists : ListsLaid (rowsIn k f) r₀ r b₀ b e₀ e w₀ w
   pub plain : Col plainNumbers (plainOf (moves k f)) p₀ p
+
+-- the answer, by dispatch's and the counts of lists 1 and 4
+abbrev pub listedOf : Dispatched → ℕ → ℕ → Listed
+listedOf (Lists a m) n p = Done (record { collected = n; rows = a; entries = m; plain = p })
+listedOf (Full t) n p = Refused (Room t)
 
 -- what an answer says of the steps and of the columns
 abbrev pub ListedAs : Res Unit → Listed → Book → Fit → List (List ℕ) → List (List ℕ) → List Float → List Float → List (List ℕ) → List (List ℕ) → List Float → List Float → List (List ℕ) → List (List ℕ) → List Float → List Float → List (List ℕ) → List (List ℕ) → Type 0

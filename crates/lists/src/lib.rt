@@ -9,7 +9,7 @@ ghost use mathlib.Core.Path.{_≡_};
 ghost use Rattle.rules.specs.Sheet.{bookOf, fitOf};
 ghost use Rattle.rules.specs.Outcome as outcome;
 ghost use Rattle.info.specs.Sound.{SoundBook, SoundFit};
-ghost use Rattle.lists.specs.Listing.{RoomsOf, Lent, ListedAs, listsIn};
+ghost use Rattle.lists.specs.Listing.{RoomsOf, Lent, ListedAs, listedOf, listsIn};
 
 // The rooms of lists 1 to 4.
 pub struct Rooms {
@@ -31,6 +31,23 @@ pub struct Counts {
 pub enum Listed {
     Done(Counts),
     Refused(Refusal),
+}
+
+// The whole answer, where collection has n and p rows.
+fn with_counts(given: Dispatched, n: usize, p: usize) -> Listed
+    ensures { λ r. ⌜ r ≡ listedOf given n p ⌝ }
+{
+    match given {
+        Dispatched::Lists(k, m) => {
+            Listed::Done(Counts {
+                collected: n,
+                rows: k,
+                entries: m,
+                plain: p,
+            })
+        }
+        Dispatched::Full(list) => Listed::Refused(Refusal::Room(list)),
+    }
 }
 
 // The base attributes are to have room before anything is collected. After a refusal the columns may hold anything: who lent them clears them.
@@ -82,17 +99,7 @@ pub fn set_lists(
                 rooms.rows,
                 rooms.entries,
             );
-            match given {
-                Dispatched::Lists(k, m) => {
-                    Listed::Done(Counts {
-                        collected: n,
-                        rows: k,
-                        entries: m,
-                        plain: p,
-                    })
-                }
-                Dispatched::Full(list) => Listed::Refused(Refusal::Room(list)),
-            }
+            with_counts(given, n, p)
         }
         Counted::Refused(x) => Listed::Refused(x),
     }
