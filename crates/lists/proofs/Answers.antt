@@ -17,11 +17,11 @@ use Rattle.rules.specs.declared.Pass2Effect.{Pass2Effect}
 use Rattle.rules.specs.declared.Refusal.{Refusal}
 use Rattle.rules.specs.declared.Refusal.the-variants.{Room}
 use Rattle.info.specs.Sound.{SoundFit}
-use Rattle.modifiers.specs.declared.Counted.{Counted}
-use Rattle.modifiers.specs.declared.Counted.the-variants.{At, Refused}
-use Rattle.modifiers.specs.Ran.{standOf, ended}
-use Rattle.modifiers.proofs.Ends.{not-done}
-use Rattle.modifiers.proofs.Runs.{answered, was-refused}
+use Rattle.moves.specs.declared.Counted.{Counted}
+use Rattle.moves.specs.declared.Counted.the-variants.{At, Refused}
+use Rattle.moves.specs.Ran.{standOf, ended}
+use Rattle.moves.proofs.Ends.{not-done}
+use Rattle.moves.proofs.Runs.{answered, was-refused}
 use Rattle.dispatch.specs.declared.Dispatched.{Dispatched}
 use Rattle.dispatch.specs.declared.Dispatched.the-variants.{Lists, Full}
 use Rattle.dispatch.specs.Whole.{Collection, Collecting, Given}

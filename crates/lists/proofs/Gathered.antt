@@ -18,9 +18,9 @@ use Rattle.rules.specs.Outcome.{collectedIn}
 use Rattle.info.specs.Sound.{SoundFit}
 use Rattle.info.proofs.Elements.{objects-length}
 use Rattle.hits.specs.Who.{Pointing}
-use Rattle.modifiers.specs.Ran.{at, ended, valueOf}
+use Rattle.moves.specs.Ran.{at, ended, valueOf}
 use Rattle.collected.proofs.Bounds.{bounded-at, row-points}
-use Rattle.rows.specs.Entries.{noEffect}
+use Rattle.spread.specs.Entries.{noEffect}
 use Rattle.dispatch.specs.Whole.{Collection}
 use Rattle.lists.proofs.Steps.{within}
 

@@ -15,8 +15,8 @@ use Rattle.rules.specs.Dispatch.{baseKeys, hitKeys, fullAt}
 use Rattle.rules.specs.Columns.{collectedNumbers, originValue, plainNumbers}
 use Rattle.rules.specs.Outcome as outcome
 use Rattle.rules.specs.Outcome.{full, collectedIn, rowsIn, worldOf, startsOf, blank, valued}
-use Rattle.entries.specs.Laying.{entriesOf}
-use Rattle.entries.specs.Parts.{ListsLaid}
+use Rattle.object_lists.specs.Laying.{entriesOf}
+use Rattle.object_lists.specs.Parts.{ListsLaid}
 use Rattle.rules.specs.declared.Refusal.the-variants.{Room}
 use Rattle.dispatch.specs.declared.Dispatched.{Dispatched}
 use Rattle.dispatch.specs.declared.Dispatched.the-variants.{Lists, Full}

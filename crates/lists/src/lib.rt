@@ -3,7 +3,7 @@ use collect::objects::collect;
 use dispatch::Dispatched;
 use dispatch::dispatch;
 use dispatch::room::base_total;
-use modifiers::Counted;
+use moves::Counted;
 use rules::Refusal;
 ghost use mathlib.Core.Path.{_≡_};
 ghost use Rattle.rules.specs.Sheet.{bookOf, fitOf};
