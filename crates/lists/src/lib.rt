@@ -1,4 +1,4 @@
-// Lists 1 to 4 of a sound sheet (calculate.rs up to pass_3): base attributes, collection and dispatch, in 01's order.
+// Lists 1 to 4 of a sound sheet: base attributes, collection and dispatch, in 01's order.
 use collect::objects::collect;
 use dispatch::Dispatched;
 use dispatch::dispatch;
