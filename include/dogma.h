@@ -1,0 +1,300 @@
+/* dogma.h: the engine's entry for C (C11; C++ for the declarations alone).
+ *
+ * The library is target/staticlib/libcalculate.a, made by `rt staticlib calculate`, for x86-64 Linux.
+ * `library/build` makes the one for the machine at hand and prints its path.
+ *
+ * dogma_calculate takes a sheet's bytes and lent lists, and gives a number, a place and five counts; the lists hold the rest.
+ * It allocates nothing, keeps nothing between calls, and may be called from several threads with lists of their own.
+ * Any bytes are taken: a damaged sheet is refused with a number and a place. What is demanded of the caller, since the
+ * engine cannot test it, stands at DOGMA_DEMANDS below; dogma_calculate_checked tests it, and DOGMA_LEND counts arrays
+ * itself, so that a wrong length does not compile. Use these two unless there is a reason not to.
+ */
+#ifndef DOGMA_H
+#define DOGMA_H
+
+#include <stddef.h>
+#include <stdint.h>
+
+#ifdef __cplusplus
+extern "C" {
+#endif
+
+/* ---- what comes back */
+
+/* number and place; after DONE the rows used of lists 1 to 5, after a refusal zeros */
+struct dogma_answer {
+    uint64_t number;
+    uint64_t place;
+    uint64_t collected;
+    uint64_t rows;
+    uint64_t entries;
+    uint64_t plain;
+    uint64_t sources;
+};
+
+/* numbers, and beside each what its place is */
+enum dogma_number {
+    DOGMA_DONE = 0,      /* 0 */
+    DOGMA_SHAPE = 1,     /* the first bad table, 1 to 10; 0 for the header */
+    DOGMA_FUNC = 2,      /* a record of table 3, from 0 */
+    DOGMA_DOMAIN = 3,    /* a record of table 3 */
+    DOGMA_CATEGORY = 4,  /* a record of table 2 */
+    DOGMA_OPERATION = 5, /* a record of table 3; of table 5 for a buff's own operation */
+    DOGMA_OTHER = 6,     /* a record of table 3 */
+    DOGMA_ROOM = 7,      /* the list that is full, one of enum dogma_list */
+    DOGMA_NUMBER = 8,    /* the object whose attribute was calculated */
+    DOGMA_DEPTH = 9,     /* the object whose attribute was to be calculated */
+    DOGMA_MISUSED = 256  /* not the engine's: dogma_calculate_checked found a demand broken; one of enum dogma_argument */
+};
+
+/* the lists, as ROOM's place has them */
+enum dogma_list {
+    DOGMA_LIST_COLLECTED = 1,
+    DOGMA_LIST_ROWS = 2,
+    DOGMA_LIST_ENTRIES = 3,
+    DOGMA_LIST_PLAIN = 4,
+    DOGMA_LIST_SOURCES = 5
+};
+
+/* ---- the columns
+ *
+ * A list is lent as one column of fixed rows of 32-bit numbers and none, one or two columns of floats; row i of a list is
+ * element i of each of its columns, and its room is the shortest. A signed field (ids, types, groups, skills) is stored as
+ * its 32 bits: read it by DOGMA_SIGNED. A flag is 0 or 1. What may be absent has a flag beside it, and is 0 when absent.
+ * Objects go by their number, the record in table 6, from 0. Codes are the sheet's. Unused ends are zero.
+ */
+
+#define DOGMA_SIGNED(number) ((int32_t)(number))
+
+/* states: one for each object, in their order; those past the last object are zero */
+#define DOGMA_OBJECTS 1024
+typedef uint32_t dogma_state[2];
+enum dogma_state_field {
+    DOGMA_STATE_STATE = 0,     /* 0 passive, 1 online, 2 active, 3 overload, 4 always on */
+    DOGMA_STATE_MAX_STATE = 1
+};
+
+/* list 1, collected effects, by arrival; beside it collected_values: a buff's value, 0.0 for an effect */
+typedef uint32_t dogma_collected[14];
+enum dogma_collected_field {
+    DOGMA_COLLECTED_ORIGIN = 0,              /* one of enum dogma_origin; what the other kind has is 0 */
+    DOGMA_COLLECTED_EFFECT = 1,              /* signed */
+    DOGMA_COLLECTED_SOURCE = 2,              /* object */
+    DOGMA_COLLECTED_SOURCE_CATEGORY = 3,     /* one of enum dogma_category */
+    DOGMA_COLLECTED_MODIFYING_ATTRIBUTE = 4, /* signed */
+    DOGMA_COLLECTED_BUFF = 5,                /* signed */
+    DOGMA_COLLECTED_FUNC = 6,                /* one of enum dogma_func */
+    DOGMA_COLLECTED_SKILL_OR_GROUP = 7,      /* signed; the skill for funcs 0 and 3, the group for 1, else 0 */
+    DOGMA_COLLECTED_OPERATOR = 8,            /* one of enum dogma_operator */
+    DOGMA_COLLECTED_SOURCE_QUANTITY = 9,
+    DOGMA_COLLECTED_TARGET = 10,             /* object */
+    DOGMA_COLLECTED_TARGET_ATTRIBUTE = 11,   /* signed */
+    DOGMA_COLLECTED_RESISTANCE_GIVEN = 12,   /* flag */
+    DOGMA_COLLECTED_RESISTANCE = 13          /* signed */
+};
+
+/* list 2, attribute rows, by object, then attribute id; beside it bases and values */
+typedef uint32_t dogma_row[6];
+enum dogma_row_field {
+    DOGMA_ROW_OBJECT = 0,
+    DOGMA_ROW_ATTRIBUTE = 1,    /* signed */
+    DOGMA_ROW_FIRST_ENTRY = 2,  /* in list 3 */
+    DOGMA_ROW_ENTRY_COUNT = 3,
+    DOGMA_ROW_FIRST_SOURCE = 4, /* in list 5; first and count are 0 where nothing is recorded */
+    DOGMA_ROW_SOURCE_COUNT = 5
+};
+
+/* list 3, entries, by row, then arrival; beside it entry_values: a buff's value, 0.0 for an effect */
+typedef uint32_t dogma_entry[11];
+enum dogma_entry_field {
+    DOGMA_ENTRY_ORIGIN = 0,              /* one of enum dogma_origin; what the other kind has is 0 */
+    DOGMA_ENTRY_EFFECT = 1,              /* signed */
+    DOGMA_ENTRY_SOURCE = 2,              /* object */
+    DOGMA_ENTRY_SOURCE_CATEGORY = 3,     /* one of enum dogma_category */
+    DOGMA_ENTRY_MODIFYING_ATTRIBUTE = 4, /* signed */
+    DOGMA_ENTRY_BUFF = 5,                /* signed */
+    DOGMA_ENTRY_OPERATOR = 6,            /* one of enum dogma_operator */
+    DOGMA_ENTRY_PENALTY = 7,             /* flag */
+    DOGMA_ENTRY_QUANTITY = 8,
+    DOGMA_ENTRY_RESISTANCE_GIVEN = 9,    /* flag */
+    DOGMA_ENTRY_RESISTANCE = 10          /* signed */
+};
+
+/* list 4, plain effects (those without modifiers), by arrival */
+typedef uint32_t dogma_plain[2];
+enum dogma_plain_field {
+    DOGMA_PLAIN_OBJECT = 0,
+    DOGMA_PLAIN_EFFECT = 1 /* signed */
+};
+
+/* list 5, source rows, by row, then arrival; only where the sheet asks for recording; beside it source_values */
+typedef uint32_t dogma_source[10];
+enum dogma_source_field {
+    DOGMA_SOURCE_FROM = 0,            /* 0 an object, 1 a buff */
+    DOGMA_SOURCE_OBJECT_OR_BUFF = 1,  /* an object's number, or a buff's id, signed */
+    DOGMA_SOURCE_EFFECT_GIVEN = 2,    /* flag */
+    DOGMA_SOURCE_EFFECT = 3,          /* signed */
+    DOGMA_SOURCE_ATTRIBUTE_GIVEN = 4, /* flag */
+    DOGMA_SOURCE_ATTRIBUTE = 5,       /* signed */
+    DOGMA_SOURCE_OPERATOR = 6,        /* one of enum dogma_operator */
+    DOGMA_SOURCE_QUANTITY = 7,
+    DOGMA_SOURCE_PENALTY_GIVEN = 8,   /* flag */
+    DOGMA_SOURCE_APPLIED = 9          /* flag */
+};
+typedef double dogma_source_value[2];
+enum dogma_source_value_field {
+    DOGMA_SOURCE_VALUE = 0,
+    DOGMA_SOURCE_PENALTY = 1 /* the weight of a penalised copy, 0.0 where none is given */
+};
+
+/* ---- codes that stand in the columns */
+
+enum dogma_origin { DOGMA_ORIGIN_EFFECT = 0, DOGMA_ORIGIN_BUFF = 1 };
+
+enum dogma_category {
+    DOGMA_CATEGORY_PASSIVE = 0, DOGMA_CATEGORY_ONLINE = 1, DOGMA_CATEGORY_ACTIVE = 2, DOGMA_CATEGORY_OVERLOAD = 3,
+    DOGMA_CATEGORY_TARGET = 4, DOGMA_CATEGORY_AREA = 5, DOGMA_CATEGORY_DUNGEON = 6, DOGMA_CATEGORY_SYSTEM = 7
+};
+
+enum dogma_func {
+    DOGMA_FUNC_LOCATION_REQUIRED_SKILL = 0, DOGMA_FUNC_LOCATION_GROUP = 1, DOGMA_FUNC_LOCATION = 2,
+    DOGMA_FUNC_OWNER_REQUIRED_SKILL = 3, DOGMA_FUNC_ITEM = 4
+};
+
+enum dogma_operator {
+    DOGMA_PRE_ASSIGN = 0, DOGMA_PRE_MUL = 1, DOGMA_PRE_DIV = 2, DOGMA_MOD_ADD = 3, DOGMA_MOD_SUB = 4,
+    DOGMA_POST_MUL = 5, DOGMA_POST_DIV = 6, DOGMA_POST_PERCENT = 7, DOGMA_POST_ASSIGN = 8
+};
+
+/* ---- the entry
+ *
+ * DOGMA_DEMANDS. The caller sees to it that
+ *  1. no pointer is null, also where its count is 0 (a pointer to anything of the type will do then);
+ *  2. states points to exactly DOGMA_OBJECTS pairs, and every other pointer to as many elements as the count after it says;
+ *  3. each is aligned as its element is: 4 bytes for numbers, 8 for floats, 1 for the sheet;
+ *  4. no two of the twelve overlap, the sheet included, and nothing else touches them during the call;
+ *  5. the stack has room: about 2 KB for each level of the sheet's depth, at most 256, and 100 KB beside.
+ * What the lists hold before the call does not matter.
+ */
+struct dogma_answer dogma_calculate(
+    dogma_state *states,
+    dogma_collected *collected, size_t collected_count,
+    double *collected_values, size_t collected_value_count,
+    dogma_row *rows, size_t row_count,
+    double *bases, size_t base_count,
+    double *values, size_t value_count,
+    dogma_entry *entries, size_t entry_count,
+    double *entry_values, size_t entry_value_count,
+    dogma_plain *plain, size_t plain_count,
+    dogma_source *sources, size_t source_count,
+    dogma_source_value *source_values, size_t source_value_count,
+    const uint8_t *sheet, size_t sheet_length);
+
+/* ---- the entry with its demands tested */
+
+/* the arguments, as MISUSED's place has them */
+enum dogma_argument {
+    DOGMA_ARGUMENT_STATES = 0, DOGMA_ARGUMENT_COLLECTED = 1, DOGMA_ARGUMENT_COLLECTED_VALUES = 2, DOGMA_ARGUMENT_ROWS = 3,
+    DOGMA_ARGUMENT_BASES = 4, DOGMA_ARGUMENT_VALUES = 5, DOGMA_ARGUMENT_ENTRIES = 6, DOGMA_ARGUMENT_ENTRY_VALUES = 7,
+    DOGMA_ARGUMENT_PLAIN = 8, DOGMA_ARGUMENT_SOURCES = 9, DOGMA_ARGUMENT_SOURCE_VALUES = 10, DOGMA_ARGUMENT_SHEET = 11,
+    DOGMA_ARGUMENTS = 12
+};
+
+/* everything that is lent, each column with the number of its elements */
+struct dogma_lent {
+    dogma_state *states; size_t state_count; /* DOGMA_OBJECTS, nothing else */
+    dogma_collected *collected; size_t collected_count;
+    double *collected_values; size_t collected_value_count;
+    dogma_row *rows; size_t row_count;
+    double *bases; size_t base_count;
+    double *values; size_t value_count;
+    dogma_entry *entries; size_t entry_count;
+    double *entry_values; size_t entry_value_count;
+    dogma_plain *plain; size_t plain_count;
+    dogma_source *sources; size_t source_count;
+    dogma_source_value *source_values; size_t source_value_count;
+};
+
+/* one argument as bytes, for the tests */
+struct dogma_part_ { uintptr_t at; size_t count, width, alignment; };
+
+/* whether a pointer may be lent by itself; where it ends must be no smaller than where it starts */
+static inline int dogma_sound_(struct dogma_part_ part)
+{
+    return part.at != 0 && part.at % part.alignment == 0 && part.count <= PTRDIFF_MAX / part.width
+        && part.at + part.count * part.width >= part.at;
+}
+
+static inline int dogma_apart_(struct dogma_part_ a, struct dogma_part_ b)
+{
+    return a.count == 0 || b.count == 0 || a.at + a.count * a.width <= b.at || b.at + b.count * b.width <= a.at;
+}
+
+/* The first argument that breaks a demand, or DOGMA_ARGUMENTS. That memory is there behind a pointer cannot be tested. */
+static inline unsigned dogma_misused(const struct dogma_lent *lent, const uint8_t *sheet, size_t sheet_length)
+{
+    const struct dogma_part_ parts[DOGMA_ARGUMENTS] = {
+        { (uintptr_t)lent->states, lent->state_count, sizeof(dogma_state), 4 },
+        { (uintptr_t)lent->collected, lent->collected_count, sizeof(dogma_collected), 4 },
+        { (uintptr_t)lent->collected_values, lent->collected_value_count, 8, 8 },
+        { (uintptr_t)lent->rows, lent->row_count, sizeof(dogma_row), 4 },
+        { (uintptr_t)lent->bases, lent->base_count, 8, 8 },
+        { (uintptr_t)lent->values, lent->value_count, 8, 8 },
+        { (uintptr_t)lent->entries, lent->entry_count, sizeof(dogma_entry), 4 },
+        { (uintptr_t)lent->entry_values, lent->entry_value_count, 8, 8 },
+        { (uintptr_t)lent->plain, lent->plain_count, sizeof(dogma_plain), 4 },
+        { (uintptr_t)lent->sources, lent->source_count, sizeof(dogma_source), 4 },
+        { (uintptr_t)lent->source_values, lent->source_value_count, 16, 8 },
+        { (uintptr_t)sheet, sheet_length, 1, 1 },
+    };
+    if (lent->state_count != DOGMA_OBJECTS)
+        return DOGMA_ARGUMENT_STATES;
+    for (unsigned i = 0; i < DOGMA_ARGUMENTS; i++) {
+        if (!dogma_sound_(parts[i]))
+            return i;
+        for (unsigned k = 0; k < i; k++)
+            if (!dogma_apart_(parts[k], parts[i]))
+                return i;
+    }
+    return DOGMA_ARGUMENTS;
+}
+
+/* dogma_calculate, or DOGMA_MISUSED with the argument that breaks a demand; then nothing was written. */
+static inline struct dogma_answer dogma_calculate_checked(const struct dogma_lent *lent, const uint8_t *sheet, size_t sheet_length)
+{
+    const unsigned misused = dogma_misused(lent, sheet, sheet_length);
+    if (misused != DOGMA_ARGUMENTS) {
+        const struct dogma_answer answer = { DOGMA_MISUSED, misused, 0, 0, 0, 0, 0 };
+        return answer;
+    }
+    return dogma_calculate(
+        lent->states, lent->collected, lent->collected_count, lent->collected_values, lent->collected_value_count,
+        lent->rows, lent->row_count, lent->bases, lent->base_count, lent->values, lent->value_count,
+        lent->entries, lent->entry_count, lent->entry_values, lent->entry_value_count, lent->plain, lent->plain_count,
+        lent->sources, lent->source_count, lent->source_values, lent->source_value_count, sheet, sheet_length);
+}
+
+#ifdef __cplusplus
+}
+#else
+
+_Static_assert(sizeof(size_t) == 8 && sizeof(double) == 8, "the library is for 64-bit machines");
+_Static_assert(sizeof(struct dogma_answer) == 56, "seven numbers of 64 bits");
+
+/* An array and the number of its elements. A pointer, or an array of another row, does not compile. */
+#define DOGMA_ARRAY_(array, row) \
+    _Generic(&(array), row (*)[sizeof(array) / sizeof((array)[0])]: (array)), sizeof(array) / sizeof((array)[0])
+
+/* Lends eleven arrays (not pointers), in the order of dogma_calculate; states must be dogma_state[DOGMA_OBJECTS]:
+ *     struct dogma_answer answer = dogma_calculate_checked(DOGMA_LEND(states, collected, ..), sheet, length);
+ */
+#define DOGMA_LEND(states, collected, collected_values, rows, bases, values, entries, entry_values, plain, sources, source_values) \
+    (&(const struct dogma_lent) { \
+        _Generic(&(states), dogma_state (*)[DOGMA_OBJECTS]: (states)), DOGMA_OBJECTS, \
+        DOGMA_ARRAY_(collected, dogma_collected), DOGMA_ARRAY_(collected_values, double), \
+        DOGMA_ARRAY_(rows, dogma_row), DOGMA_ARRAY_(bases, double), DOGMA_ARRAY_(values, double), \
+        DOGMA_ARRAY_(entries, dogma_entry), DOGMA_ARRAY_(entry_values, double), DOGMA_ARRAY_(plain, dogma_plain), \
+        DOGMA_ARRAY_(sources, dogma_source), DOGMA_ARRAY_(source_values, dogma_source_value) })
+
+#endif
+#endif

@@ -1,0 +1,25 @@
+/* The kit hands the place of a returned struct over as an ordinary first argument. On x86-64 that is the C convention; on
+ * another processor it is not. There `library/build` renames the engine's entry, and this gives it the form of dogma.h. */
+#include "dogma.h"
+
+extern void dogma_calculate_into(
+    struct dogma_answer *answer, dogma_state *states, dogma_collected *collected, size_t collected_count, double *collected_values,
+    size_t collected_value_count, dogma_row *rows, size_t row_count, double *bases, size_t base_count, double *values,
+    size_t value_count, dogma_entry *entries, size_t entry_count, double *entry_values, size_t entry_value_count,
+    dogma_plain *plain, size_t plain_count, dogma_source *sources, size_t source_count, dogma_source_value *source_values,
+    size_t source_value_count, const uint8_t *sheet, size_t sheet_length);
+
+struct dogma_answer dogma_calculate(
+    dogma_state *states, dogma_collected *collected, size_t collected_count, double *collected_values, size_t collected_value_count,
+    dogma_row *rows, size_t row_count, double *bases, size_t base_count, double *values, size_t value_count, dogma_entry *entries,
+    size_t entry_count, double *entry_values, size_t entry_value_count, dogma_plain *plain, size_t plain_count,
+    dogma_source *sources, size_t source_count, dogma_source_value *source_values, size_t source_value_count, const uint8_t *sheet,
+    size_t sheet_length)
+{
+    struct dogma_answer answer;
+    dogma_calculate_into(
+        &answer, states, collected, collected_count, collected_values, collected_value_count, rows, row_count, bases, base_count,
+        values, value_count, entries, entry_count, entry_values, entry_value_count, plain, plain_count, sources, source_count,
+        source_values, source_value_count, sheet, sheet_length);
+    return answer;
+}
