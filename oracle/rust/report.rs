@@ -83,6 +83,11 @@ pub fn take(list: usize) {
     }
 }
 
+// How many rows of each list were taken, the one that was refused not counted.
+pub fn reached() -> [u32; 5] {
+    GUARD.with_borrow(|guard| std::array::from_fn(|list| guard.used[list].min(guard.rooms[list])))
+}
+
 fn guard(sheet: &Sheet, rooms: [u32; 5]) {
     GUARD.set(Guard {
         depth: sheet.depth as usize,

@@ -1,0 +1,277 @@
+#!/usr/bin/env python3
+"""Holds the engine against the oracle, bit for bit, on many sheets.
+
+Usage: compare_engine.py [--seed SEED] [--workers N] [--reference EVERY] [--emulated] [--listing COUNT] [KIND=COUNT ..]
+
+Each sheet is run twice: with lists that are long enough, often to the row, and with some that are short. What is expected is the
+guarded oracle's answer; SHAPE, which the Rust does not have, is the reference's; and of every EVERYth sheet the reference's whole
+answer is taken too, with lengths by its own count (two lists full before one hit). Every line that oracle/engine.c prints must be
+the same: number, place, counts, states, all fields of all lists, floats by their bits, and that all else is zero and untouched.
+Without a KIND: a million sheets, as MILLION has them. The library is the one that library/build gives for this machine; with
+--emulated it is the shipped one for x86-64, under the kit's emulator where needed. --listing COUNT: the program target/bin/sheet
+on COUNT sheets of each kind, its text against the reference's listing. Sheets that differ go to target/compare.
+"""
+import argparse
+import collections
+import multiprocessing
+import pathlib
+import random
+import struct
+import subprocess
+import sys
+import tempfile
+import time
+
+import make_sheets
+import reference
+import sampled
+
+HERE = pathlib.Path(__file__).resolve().parent
+ROOT = HERE.parent
+PLACE = ROOT / "target" / "compare"
+GUARDED = ROOT / "target" / "oracle" / "guarded"
+AMPLE = (2 ** 32 - 2,) * 5
+BATCH = {"real": 40, "large": 10, "limits": 50}
+MILLION = {"dense": 520000, "tiny": 300000, "damaged": 110000, "tiny-damaged": 60000, "small-real": 8000, "real": 1500, "limits": 400, "large": 100}
+COLUMNS_OF = [columns for _, columns in sampled.LISTS]
+
+
+# ---- the parts
+
+def build(emulated):
+    """The driver, linked with the library, and the words that run it."""
+    PLACE.mkdir(parents=True, exist_ok=True)
+    words = [str(ROOT / "library" / "build")] + (["--shipped"] if emulated else [])
+    made = subprocess.run(words, cwd=ROOT, stdout=subprocess.PIPE, text=True)
+    if made.returncode != 0:
+        sys.exit(made.returncode)
+    library = made.stdout.strip()
+    driver = PLACE / ("engine-x86-64" if emulated else "engine")
+    if emulated:
+        subprocess.run([ROOT / "library" / "emulated", "build", driver, HERE / "engine.c", library], cwd=ROOT, check=True)
+        return [str(ROOT / "library" / "emulated"), "run", str(driver)]
+    command = ["cc", "-std=c11", "-O2", "-Iinclude", str(HERE / "engine.c"), library, "-o", str(driver)]
+    subprocess.run(command, cwd=ROOT, check=True)
+    return [str(driver)]
+
+
+def split(out, count, who):
+    """The answers to a batch; what comes after the last is not one."""
+    answers = out.split(b"end\n")
+    if len(answers) != count + 1:
+        raise RuntimeError(f"{who} gave {len(answers) - 1} answers to {count} sheets")
+    return answers[:-1]
+
+
+def ask_oracle(sheets, rooms):
+    if not sheets:
+        return []
+    with tempfile.NamedTemporaryFile(dir=PLACE) as file:
+        for data, room in zip(sheets, rooms):
+            file.write(struct.pack("<6I", len(data), *room) + data)
+        file.flush()
+        out = subprocess.run([str(GUARDED), "--told", file.name], check=True, stdout=subprocess.PIPE).stdout
+    return split(out, len(sheets), "the oracle")
+
+
+def ask_engine(words, sheets, lents, seed):
+    blob = b"".join(struct.pack("<12I", len(data), *lent, (seed + at) % 2 ** 32) + data for at, (data, lent) in enumerate(zip(sheets, lents)))
+    out = subprocess.run(words, input=blob, stdout=subprocess.PIPE, check=True).stdout
+    return split(out, len(sheets), "the engine")
+
+
+def shape_of(data):
+    """The first bad table, or none."""
+    return reference.bad_table(reference.tables_of(data)) if reference.header_good(data) else 0
+
+
+def reference_text(data, lent):
+    """The reference's answer, with the counts in the first line."""
+    answer = reference.answer(data, sampled.rooms(lent))
+    counts = [len(getattr(answer, name)) for name in ("collected", "rows", "entries", "plain", "sources")]
+    first, rest = answer.text().split("\n", 1)
+    return (" ".join([first, *map(str, counts)]) + "\n" + rest).encode()
+
+
+# ---- lent lengths
+
+def enough(r, reached):
+    """No list is too short; most are full to the row."""
+    slack = r.choice([(0,), (0,), (0, 0, 1), (0, 1, 2, 9)])
+    lent = [0] * 10
+    for need, columns in zip(reached, COLUMNS_OF):
+        for c in columns:
+            lent[c] = need + r.choice(slack)
+    return lent
+
+
+def short(r, reached):
+    """One list is one row short, or some are shorter, or all are of the same few rows."""
+    lent = enough(r, reached)
+    way = r.random()
+    if way < 0.08:
+        return [r.choice([0, 1, 2, 3, 5])] * 10 if r.random() < 0.5 else [r.choice([0, 1, 2, 3, 5, 40]) for _ in range(10)]
+    filled = [at for at in range(5) if reached[at] > 0] or [1]
+    some = [r.choice(filled)] if way < 0.6 else [1, 2] if way < 0.8 else r.sample(range(5), 2)
+    for at in some:
+        need = reached[at]
+        lent[r.choice(COLUMNS_OF[at])] = max(0, need - 1) if way < 0.5 else r.randint(need // 2 if way < 0.8 else 0, need)
+    return lent
+
+
+def told(text):
+    """Number, place and what was reached, and the answer as the engine gives it: after a refusal the counts are zero."""
+    first, rest = text.split(b"\n", 1)
+    words = first.split()
+    if words[0] == b"0":
+        return [int(word) for word in words[2:]], text
+    return [int(word) for word in words[2:]], b" ".join(words[:2] + [b"0"] * 5) + b"\n" + rest
+
+
+# ---- a batch
+
+class Clock:
+    def __init__(self):
+        self.spent, self.at = collections.Counter(), time.perf_counter()
+
+    def note(self, part):
+        now = time.perf_counter()
+        self.spent[part] += now - self.at
+        self.at = now
+
+
+def expected(kind, seed, numbers, sheets, bad, clock):
+    """Two lent lengths for each sheet, and the answers."""
+    r = random.Random(f"engine lent {kind} {seed} {numbers[0]}")
+    good = [at for at in range(len(sheets)) if bad[at] is None]
+    shapes = [f"1 {place} 0 0 0 0 0\n".encode() if place is not None else None for place in bad]
+    clock.note("shape")
+    first = {at: told(text) for at, text in zip(good, ask_oracle([sheets[at] for at in good], [AMPLE] * len(good)))}
+    clock.note("oracle")
+    anything = lambda: [r.choice([0, 1, 7, 60]) for _ in range(10)]
+    long = [enough(r, first[at][0]) if at in first else anything() for at in range(len(sheets))]
+    less = [short(r, first[at][0]) if at in first else anything() for at in range(len(sheets))]
+    clock.note("lengths")
+    second = dict(zip(good, ask_oracle([sheets[at] for at in good], [sampled.rooms(less[at]) for at in good])))
+    clock.note("oracle")
+    answers = [[first[at][1] if at in first else shapes[at] for at in range(len(sheets))],
+               [told(second[at])[1] if at in second else shapes[at] for at in range(len(sheets))]]
+    return [long, less], answers
+
+
+def keep(kind, seed, n, what, data, lent, theirs, ours):
+    name = PLACE / f"{kind}-{seed}-{n}-{what}"
+    name.with_suffix(".sheet").write_bytes(data)
+    name.with_suffix(".txt").write_text(f"lent {' '.join(map(str, lent))}\n---- expected\n{theirs.decode()}---- engine\n{ours.decode()}")
+
+
+def batch(job):
+    words, kind, seed, start, stop, every = job
+    clock = Clock()
+    numbers = list(range(start, stop))
+    sheets = [make_sheets.sheet(kind, seed, n) for n in numbers]
+    clock.note("make")
+    bad = [shape_of(data) for data in sheets]
+    lents, answers = expected(kind, seed, numbers, sheets, bad, clock)
+    runs = [(n, "enough", data, lent, text) for n, data, lent, text in zip(numbers, sheets, lents[0], answers[0])]
+    runs += [(n, "short", data, lent, text) for n, data, lent, text in zip(numbers, sheets, lents[1], answers[1])]
+    clock.note("lengths")
+    held = [at for at in range(len(sheets)) if every and numbers[at] % every == 0]
+    differ = []
+    for at in held:
+        for lent, text in zip((lents[0][at], lents[1][at]), (answers[0][at], answers[1][at])):
+            if reference_text(sheets[at], lent) != text:
+                differ.append(f"reference and oracle differ: {kind} {seed} {numbers[at]}")
+        lent = sampled.lengths(kind, seed, numbers[at], sheets[at])
+        runs.append((numbers[at], "reference", sheets[at], lent, reference_text(sheets[at], lent)))
+    clock.note("reference")
+    found = ask_engine(words, [run[2] for run in runs], [run[3] for run in runs], start)
+    clock.note("engine")
+    status, rows = collections.Counter(), collections.Counter()
+    for (n, what, data, lent, theirs), ours in zip(runs, found):
+        status[what, int(theirs.split(b" ", 1)[0])] += 1
+        rows["lines"] += theirs.count(b"\n")
+        rows["floats"] += 2 * theirs.count(b"\nR ") + theirs.count(b"\nE ") + theirs.count(b"\nC ") + 2 * theirs.count(b"\nQ ")
+        if ours != theirs:
+            differ.append(f"differs: {kind} {seed} {n} {what}: expected {theirs.split(b'end')[0].splitlines()[0].decode()}, engine {ours.splitlines()[0].decode()}")
+            if len(differ) <= 5:
+                keep(kind, seed, n, what, data, lent, theirs, ours)
+    clock.note("compare")
+    return kind, len(sheets), len(held), status, rows, differ, clock.spent
+
+
+# ---- the program
+
+def listings(kinds, seed, count):
+    """The program's text against the reference's, every list lent 4,096; longer than the buffer is SHAPE 0."""
+    program = ROOT / "target" / "bin" / "sheet"
+    words = [str(ROOT / "library" / "emulated"), "run", str(program)]
+    differ = runs = 0
+    for kind in kinds:
+        for n in range(count):
+            data = make_sheets.sheet(kind, f"{seed} listing", n)
+            wanted = "refused 1 0\n" if len(data) > 65536 else reference.listing(reference.answer(data, (4096,) * 5))
+            found = subprocess.run(words, input=data, stdout=subprocess.PIPE).stdout.decode(errors="replace")
+            runs += 1
+            if found != wanted:
+                differ += 1
+                (PLACE / f"listing-{kind}-{n}.sheet").write_bytes(data)
+                print(f"the listing differs: {kind} {n}: {found[:60]!r}")
+    print(f"listing: {runs} sheets through {program.relative_to(ROOT)}, {differ} differ")
+    return differ
+
+
+def report(kinds, totals, status, rows, held, spent, seed, differ, wall):
+    runs = collections.Counter()
+    for (kind, what, number), count in status.items():
+        runs[kind, number] += count
+    print(f"\nSeed {seed}: {sum(totals.values()):,} sheets, {sum(status.values()):,} runs, {rows['lines']:,} lines, {rows['floats']:,} floats, "
+          f"{sum(held.values()):,} sheets by the reference too; {differ} differences; {wall:.0f} s.\n")
+    print("| sheets | of them by the reference too | runs | " + " | ".join(str(k) for k in range(10)) + " |")
+    print("|---" * 13 + "|")
+    for kind in kinds:
+        print(f"| {kind} {totals[kind]:,} | {held[kind]:,} | {sum(runs[kind, k] for k in range(10)):,} | " + " | ".join(f"{runs[kind, k]:,}" for k in range(10)) + " |")
+    print("\nSeconds of processor time by part: " + ", ".join(f"{part} {spent[part]:.0f}" for part in ("make", "shape", "lengths", "oracle", "reference", "engine", "compare")) + ".")
+
+
+def main():
+    arguments = argparse.ArgumentParser(description=__doc__, formatter_class=argparse.RawDescriptionHelpFormatter)
+    arguments.add_argument("--seed", default="1")
+    arguments.add_argument("--workers", type=int, default=2)
+    arguments.add_argument("--reference", type=int, default=20, metavar="EVERY")
+    arguments.add_argument("--emulated", action="store_true")
+    arguments.add_argument("--listing", type=int, default=0, metavar="COUNT")
+    arguments.add_argument("kinds", nargs="*", metavar="KIND=COUNT")
+    given = arguments.parse_args()
+    kinds = {k: int(n) for k, n in (word.split("=") for word in given.kinds)} or MILLION
+    PLACE.mkdir(parents=True, exist_ok=True)
+    if given.listing:
+        sys.exit(listings(kinds, given.seed, given.listing) > 0)
+    if not GUARDED.exists():
+        subprocess.run([sys.executable, str(HERE / "build.py"), "--guarded"], check=True)
+    words = build(given.emulated)
+    jobs = []
+    for kind, count in kinds.items():
+        size = BATCH.get(kind, 1000)
+        jobs += [(words, kind, given.seed, start, min(start + size, count), given.reference) for start in range(0, count, size)]
+    totals, status, rows, held, spent, differ = (collections.Counter() for _ in range(6))
+    started = said = time.time()
+    with multiprocessing.Pool(given.workers) as pool:
+        for kind, count, some, numbers, lines, differing, seconds in pool.imap_unordered(batch, jobs):
+            totals[kind] += count
+            held[kind] += some
+            status.update({(kind, *key): value for key, value in numbers.items()})
+            rows.update(lines)
+            spent.update(seconds)
+            differ[kind] += len(differing)
+            for line in differing[: max(0, 20 - sum(differ.values()) + len(differing))]:
+                print(line, flush=True)
+            if time.time() - said > 60:
+                said = time.time()
+                print(f"{sum(totals.values()):,} sheets, {sum(differ.values())} differences, {said - started:.0f} s", flush=True)
+    report(kinds, totals, status, rows, held, spent, given.seed, sum(differ.values()), time.time() - started)
+    sys.exit(sum(differ.values()) > 0)
+
+
+if __name__ == "__main__":
+    main()
