@@ -1,0 +1,141 @@
+#!/usr/bin/env python3
+"""Document 01's marked cases, its four slips that look right and a sheet for each refusal, as files.
+
+Usage: marked.py: writes NAME.sheet and NAME.txt, what the program prints for it, beside this file, and README.md.
+The texts are the reference's; where document 01 has one, it is held to that. Case L is held to its bytes in
+crates/rules/proofs/Marked.antt, where what the definition prints for the marked cases is proved.
+"""
+import pathlib
+import re
+import sys
+
+HERE = pathlib.Path(__file__).resolve().parent
+sys.path.insert(0, str(HERE.parent / "oracle"))
+import make_sheets
+import reference
+
+SHIP, MODE, CHAR, ITEM, CHARGE, SKILL, PROJECTED = range(7)
+L_TEXT = "rows 3\n0 37 430.36\n2 20 50.00\n3 20 50.00\n"
+
+
+def thing(kind, type_id=0, category=0, slot=0, quantity=0, state=0, bases=(0, 0), effect=0):
+    return [kind, type_id, 0, category, slot, quantity, state, 0, 0, 0, effect, *bases, 0, 0, 0, 0]
+
+
+def module(bases, slot=3, quantity=1, state=1):
+    """An item of type 9 and category 7; Low and Online where nothing else is said."""
+    return thing(ITEM, 9, 7, slot, quantity, state, bases)
+
+
+def modifier(func, domain, operation, modifying, modified, skill=0):
+    return [func, domain, operation, modifying, modified, skill, 0]
+
+
+def sheet(attributes=(), effects=(), modifiers=(), types=(), objects=(), bases=(), asks=(), depth=2):
+    made = make_sheets.Sheet()
+    made.categories, made.depth = [7, 0, 0], depth
+    made.tables = [list(table) for table in (attributes, effects, modifiers, types, (), objects, bases, (), (), asks)]
+    return made.bytes()
+
+
+def attribute(i, flags=0, least=0, most=0):
+    return [i, flags, 0.0, least, most]
+
+
+def case_l(depth=2, asks=(), category=1, changes=None):
+    return sheet([attribute(20, 2), attribute(37, 2)], [[1, category, 0, 0, 0, 1]], [changes or modifier(4, 1, 7, 20, 37)], [[9, 1, 0]],
+                 [thing(SHIP, bases=(0, 1)), thing(CHAR), module((1, 1)), module((1, 1))], [[37, 200.0], [20, 50.0]], asks, depth)
+
+
+def changed(operation, start, first, quantity, second, flags=0):
+    return sheet([attribute(20), attribute(37, flags)], [[1, 1, 0, 0, 0, 1]], [modifier(4, 1, operation, 20, 37)], [[9, 1, 0]],
+                 [thing(SHIP, bases=(0, 1)), thing(CHAR), module((1, 1), quantity=quantity), module((2, 1), quantity=second)],
+                 [[37, start], [20, first], [20, 5.0]])
+
+
+def skilled(skill, required):
+    return sheet((), [[1, 0, 0, 0, 0, 1]], [modifier(0, 1, 3, 20, 37, skill)], [[8, 1, 0]],
+                 [thing(SHIP, 8, quantity=1, bases=(0, 1)), thing(CHAR), module((1, 2))], [[20, 5.0], [37, 1.0], [182, required]])
+
+
+def looped(asks=()):
+    return sheet((), [[1, 0, 0, 0, 0, 2]], [modifier(4, 0, 3, 37, 20), modifier(4, 0, 3, 20, 37)], [[8, 1, 0]],
+                 [thing(SHIP, 8, bases=(0, 2)), thing(CHAR)], [[20, 10.0], [37, 1.0]], asks)
+
+
+def by_ship(modifiers, objects, bases, **more):
+    """The ship is of type 8, whose one effect, Passive, has all the modifiers."""
+    return sheet((), [[1, 0, 0, 0, 0, len(modifiers)]], modifiers, [[8, 1, 0]], objects, bases, **more)
+
+
+HULL = thing(SHIP, 8, quantity=1, bases=(0, 1))
+
+CASES = [
+    ("L", "case L: two modules of 50 % each on the ship's 37, stacking penalised", case_l(), L_TEXT),
+    ("L-depth-1", "case L at depth 1: the ship's 37 needs a module's 20, one deeper", case_l(1), "refused 9 2\n"),
+    ("L-asked", "case L at depth 1, the modules' 20 asked first", case_l(1, [[2, 20], [3, 20]]), L_TEXT),
+    ("assign-high", "PreAssign 3 and 5, high is good: 5", changed(0, 10.0, 3.0, 1, 1, 2), "rows 3\n0 37 5.00\n2 20 3.00\n3 20 5.00\n"),
+    ("assign-low", "PreAssign 3 and 5, high is not good: 3", changed(0, 10.0, 3.0, 1, 1), "rows 3\n0 37 3.00\n2 20 3.00\n3 20 5.00\n"),
+    ("mod-add", "ModAdd 2, quantity 3, on 10: 16", changed(3, 10.0, 2.0, 3, 0), "rows 3\n0 37 16.00\n2 20 2.00\n3 20 5.00\n"),
+    ("mod-sub", "ModSub 2, quantity 1, on 10: 8", changed(4, 10.0, 2.0, 1, 0), "rows 3\n0 37 8.00\n2 20 2.00\n3 20 5.00\n"),
+    ("pre-div", "PreDiv by 4 on 8, quantity 1: 2", changed(2, 8.0, 4.0, 1, 0), "rows 3\n0 37 2.00\n2 20 4.00\n3 20 5.00\n"),
+    ("clamps", "value 4, min 5, max 3: 3", sheet([attribute(20, 0, 37, 38)], objects=[thing(SHIP, bases=(0, 3)), thing(CHAR)],
+     bases=[[20, 4.0], [37, 5.0], [38, 3.0]]), "rows 3\n0 20 3.00\n0 37 5.00\n0 38 3.00\n"),
+    ("skill-cut", "a skill base of 3.9 requires type 3", skilled(3, 3.9), "rows 3\n0 20 5.00\n2 37 6.00\n2 182 3.89\n"),
+    ("skill-cut-up", "one of -3.9 requires type -3", skilled(-3, -3.9), "rows 3\n0 20 5.00\n2 37 6.00\n2 182 -3.89\n"),
+    ("skill-held", "one of 3,000,000,000 requires type 2,147,483,647", skilled(2147483647, 3e9), "rows 3\n0 20 5.00\n2 37 6.00\n2 182 3000000000.00\n"),
+    ("not-resisted", "attribute 2138 at 0.9, the effect's own resistance 0: none", sheet((), [[1, 0, 0, 0, 0, 1]], [modifier(4, 5, 3, 20, 37)], (),
+     [thing(SHIP, bases=(0, 3)), thing(CHAR), thing(PROJECTED, quantity=1, bases=(3, 2), effect=1)],
+     [[0, 0.0], [1, 0.0], [37, 2.0], [20, 5.0], [2138, 0.9]]), "rows 5\n0 0 0.00\n0 1 0.00\n0 37 7.00\n2 20 5.00\n2 2138 0.90\n"),
+    ("loop-walked", "20 adds 37 and 37 adds 20, walked: 20 is 21, 37 is 11", looped(), "rows 2\n0 20 21.00\n0 37 11.00\n"),
+    ("loop-asked", "the same, 37 asked first: 20 is 11, 37 is 12", looped([[0, 37]]), "rows 2\n0 20 11.00\n0 37 12.00\n"),
+    ("divided-by-0", "PostDiv by 0: refused 8, place the object divided", sheet((), [[1, 1, 0, 0, 0, 1]], [modifier(4, 2, 6, 20, 37)], [[9, 1, 0]],
+     [thing(SHIP), thing(CHAR, bases=(0, 1)), module((1, 1))], [[37, 8.0], [20, 0.0]]), "refused 8 1\n"),
+    ("slip-walk", "char and projected object would both be refused at depth 1; the walk meets the projected one first",
+     sheet([attribute(20, 0, 37)], objects=[thing(SHIP), thing(CHAR, bases=(0, 2)), thing(PROJECTED, bases=(0, 2))], bases=[[20, 1.0], [37, 2.0]], depth=1),
+     "refused 9 2\n"),
+    ("slip-mode", "the ship adds 5 to 37 of all in its location; the mode's 37 stays", by_ship([modifier(2, 1, 3, 20, 37)],
+     [HULL, thing(MODE, bases=(1, 1)), thing(CHAR)], [[20, 5.0], [37, 10.0]]), None),
+    ("slip-skills", "182 is added to all in the ship before whatever requires type 0 is touched: the item requires nothing yet",
+     by_ship([modifier(2, 1, 3, 20, 182), modifier(0, 1, 3, 20, 37)], [HULL, thing(CHAR), module((1, 1))], [[20, 5.0], [37, 1.0]]), None),
+    ("slip-rig", "an offline rig's Passive effect on 1152 runs", sheet((), [[1, 0, 0, 0, 0, 1]], [modifier(4, 1, 3, 20, 1152)], [[9, 1, 0]],
+     [thing(SHIP, bases=(0, 1)), thing(CHAR), module((1, 1), slot=4, state=0)], [[1152, 10.0], [20, 5.0]]), "rows 2\n0 1152 15.00\n2 20 5.00\n"),
+    ("refused-1", "SHAPE: case L, a byte short", case_l()[:-1], "refused 1 0\n"),
+    ("refused-1-6", "SHAPE: an object of kind 7", make_sheets.set_word(case_l(), 212, 7), "refused 1 6\n"),
+    ("refused-2", "FUNC: func 6", case_l(changes=modifier(6, 1, 7, 20, 37)), "refused 2 0\n"),
+    ("refused-3", "DOMAIN: domain 7", case_l(changes=modifier(4, 7, 7, 20, 37)), "refused 3 0\n"),
+    ("refused-4", "CATEGORY: category 8", case_l(category=8), "refused 4 0\n"),
+    ("refused-5", "OPERATION: operation 10", case_l(changes=modifier(4, 1, 10, 20, 37)), "refused 5 0\n"),
+    ("refused-6", "OTHER: OtherID from the ship", by_ship([modifier(4, 3, 3, 20, 37)], [HULL, thing(CHAR)], [[20, 5.0]]), "refused 6 0\n"),
+    ("refused-7", "ROOM: 90 skills of 50 attributes each are 4,500 rows, and the program lends 4,096",
+     sheet(objects=[thing(SHIP), thing(CHAR)] + [thing(SKILL, bases=(0, 50))] * 90, bases=[[i, 1.0] for i in range(50)]), "refused 7 2\n"),
+]
+
+
+def held(name, data, text):
+    """What the program prints; where a text is given it is that."""
+    found = reference.listing(reference.answer(data, (4096,) * 5))
+    if text not in (None, found):
+        sys.exit(f"{name}: {found!r}, expected {text!r}")
+    return found
+
+
+def main():
+    proved = (HERE.parent / "crates" / "rules" / "proofs" / "Marked.antt").read_text()
+    if re.search(r'bytesL =\s*"([0-9a-f]+)"', proved).group(1) != CASES[0][2].hex():
+        sys.exit("case L is not the one in Marked.antt")
+    account = ["# Cases", "", "Made by `cases/marked.py`. A sheet is run by `target/bin/sheet <cases/NAME.sheet`; NAME.txt is what is printed.", "",
+               "| sheet | bytes | what | printed |", "|---|---|---|---|"]
+    for name, what, data, text in CASES:
+        printed = held(name, data, text)
+        (HERE / f"{name}.sheet").write_bytes(data)
+        (HERE / f"{name}.txt").write_text(printed)
+        account.append(f"| {name} | {len(data)} | {what} | {'; '.join(printed.splitlines())} |")
+    account += ["", "`kept.bin` has sheets with the oracle's answers, every list of them; [KEPT.md](KEPT.md) names each and says how it is read.",
+                "`make_damaged.py` makes the sheets of crates/shape_test."]
+    (HERE / "README.md").write_text("\n".join(account) + "\n")
+    print(len(CASES), "cases")
+
+
+if __name__ == "__main__":
+    main()

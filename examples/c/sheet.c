@@ -1,0 +1,70 @@
+/* Calculates a sheet from a file and prints it: every attribute's value, or the refusal. */
+#include <inttypes.h>
+#include <stdio.h>
+#include <string.h>
+
+#include "dogma.h"
+
+enum { ROOM = 4096, LONGEST = 1 << 20 };
+
+static uint8_t sheet[LONGEST];
+
+static dogma_state states[DOGMA_OBJECTS];
+static dogma_collected collected[ROOM];
+static double collected_values[ROOM];
+static dogma_row rows[ROOM];
+static double bases[ROOM], values[ROOM];
+static dogma_entry entries[ROOM];
+static double entry_values[ROOM];
+static dogma_plain plain[ROOM];
+static dogma_source sources[ROOM];
+static dogma_source_value source_values[ROOM];
+
+/* Two decimals, cut toward zero from the exact value; `*` from 10^12 up. */
+static void print_value(double value)
+{
+    uint64_t bits;
+    memcpy(&bits, &value, sizeof bits);
+    const double size = value < 0.0 ? -value : value;
+    if (size >= 1e12) {
+        putchar('*');
+        return;
+    }
+    /* below 10^12 the exponent is so small that hundredths are a shift to the right */
+    const int exponent = (int)(bits >> 52 & 0x7ff);
+    const uint64_t mantissa = (bits & 0xfffffffffffff) | (exponent > 0 ? UINT64_C(1) << 52 : 0);
+    const int shift = 1075 - (exponent > 0 ? exponent : 1);
+    const uint64_t hundredths = shift < 64 ? mantissa * 100 >> shift : 0;
+    printf("%s%" PRIu64 ".%02" PRIu64, value < 0.0 && hundredths > 0 ? "-" : "", hundredths / 100, hundredths % 100);
+}
+
+int main(int count, char **words)
+{
+    FILE *file = count == 2 ? fopen(words[1], "rb") : NULL;
+    if (!file) {
+        fprintf(stderr, "usage: %s FILE\n", words[0]);
+        return 2;
+    }
+    const size_t length = fread(sheet, 1, sizeof sheet, file);
+    fclose(file);
+
+    const struct dogma_answer answer = dogma_calculate_checked(
+        DOGMA_LEND(states, collected, collected_values, rows, bases, values, entries, entry_values, plain, sources, source_values),
+        sheet, length);
+
+    if (answer.number == DOGMA_MISUSED) {
+        fprintf(stderr, "argument %" PRIu64 " of dogma_calculate may not be lent\n", answer.place);
+        return 2;
+    }
+    if (answer.number != DOGMA_DONE) {
+        printf("refused %" PRIu64 " %" PRIu64 "\n", answer.number, answer.place);
+        return 1;
+    }
+    printf("rows %" PRIu64 "\n", answer.rows);
+    for (uint64_t i = 0; i < answer.rows; i++) {
+        printf("%" PRIu32 " %" PRId32 " ", rows[i][DOGMA_ROW_OBJECT], DOGMA_SIGNED(rows[i][DOGMA_ROW_ATTRIBUTE]));
+        print_value(values[i]);
+        putchar('\n');
+    }
+    return 0;
+}
