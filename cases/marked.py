@@ -102,6 +102,7 @@ CASES = [
      [thing(SHIP, bases=(0, 1)), thing(CHAR), module((1, 1), slot=4, state=0)], [[1152, 10.0], [20, 5.0]]), "rows 2\n0 1152 15.00\n2 20 5.00\n"),
     ("refused-1", "SHAPE: case L, a byte short", case_l()[:-1], "refused 1 0\n"),
     ("refused-1-6", "SHAPE: an object of kind 7", make_sheets.set_word(case_l(), 212, 7), "refused 1 6\n"),
+    ("refused-1-7", "SHAPE: a base attribute that no object has is infinite", sheet(objects=[thing(SHIP), thing(CHAR)], bases=[[1, float("inf")]]), "refused 1 7\n"),
     ("refused-2", "FUNC: func 6", case_l(changes=modifier(6, 1, 7, 20, 37)), "refused 2 0\n"),
     ("refused-3", "DOMAIN: domain 7", case_l(changes=modifier(4, 7, 7, 20, 37)), "refused 3 0\n"),
     ("refused-4", "CATEGORY: category 8", case_l(category=8), "refused 4 0\n"),
