@@ -28,7 +28,7 @@ struct Answer {
     sources: u64,
 }
 
-extern "C" {
+unsafe extern "C" {
     fn dogma_calculate(
         states: *mut States,
         collected: *mut [u32; 14],
@@ -308,6 +308,12 @@ pub struct Fit<'a> {
 impl Fit<'_> {
     pub fn row_count(&self) -> usize {
         self.answer.rows as usize
+    }
+
+    /// The rows used of the five lists.
+    pub fn counts(&self) -> [usize; 5] {
+        let a = &self.answer;
+        [a.collected, a.rows, a.entries, a.plain, a.sources].map(|count| count as usize)
     }
 
     /// State and max state of an object.
