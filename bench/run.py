@@ -82,6 +82,11 @@ class Timed:
         self.lent, self.exact, self.alone, self.whole, self.clearing = numbers[:5]
         self.ratio_a, self.ratio_b, self.exact_a, self.exact_b = numbers[5:]
 
+    def memory(self):
+        """The bytes of all lists lent to the row, and of the states."""
+        counts = {"collected": self.collected, "rows": self.rows, "entries": self.entries, "plain": self.plain, "sources": self.sources}
+        return sum(size * counts[name] for name, size in ROW_BYTES.items()) + 8 * 1024
+
 
 def timed(files, seconds):
     for file in files:
@@ -102,13 +107,13 @@ def ratio_text(ratio):
 def kinds_table(names, seconds):
     chosen = [(name, what, data) for name, what, data in sheets.kinds() if not names or name.split(",")[0] in names]
     print("| sheet | bytes | objects | collected, rows, entries, sources | ours | (a) Rust, objects built | (b) Rust, from the sheet | "
-          "ours to (a) | ours to (b) | lent to the row: ours, to (a), to (b) | refused at once | rounds |")
+          "ours to (a) | ours to (b) | lent to the row: bytes, ours, to (a), to (b) | refused at once | rounds |")
     print("|---" * 12 + "|", flush=True)
     files = [write(name, data) for name, _, data in chosen]
     for (name, _, _), t in zip(chosen, timed(files, seconds)):
         print(f"| {name} | {t.bytes:,} | {t.objects:,} | {t.collected:,}, {t.rows:,}, {t.entries:,}, {t.sources:,} | {time_text(t.lent[0])} | "
               f"{time_text(t.alone[0])} | {time_text(t.whole[0])} | {ratio_text(t.ratio_a)} | {ratio_text(t.ratio_b)} | "
-              f"{time_text(t.exact[0])}, {t.exact_a[0]:.2f}, {t.exact_b[0]:.2f} | {time_text(t.clearing[0])} | {t.rounds} |", flush=True)
+              f"{t.memory():,}, {time_text(t.exact[0])}, {t.exact_a[0]:.2f}, {t.exact_b[0]:.2f} | {time_text(t.clearing[0])} | {t.rounds} |", flush=True)
     print("\n" + "; ".join(f"{name}: {what}" for name, what, _ in chosen if "recorded" not in name) + ".")
 
 

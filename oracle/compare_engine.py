@@ -9,7 +9,7 @@ answer is taken too, with lengths by its own count (two lists full before one hi
 the same: number, place, counts, states, all fields of all lists, floats by their bits, and that all else is zero and untouched.
 Without a KIND: a million sheets, as MILLION has them. The library is the one that library/build gives for this machine; with
 --emulated it is the shipped one for x86-64, under the kit's emulator where needed. --listing COUNT: the program target/bin/sheet
-on COUNT sheets of each kind, its text against the reference's listing. Sheets that differ go to target/compare.
+on the cases, inputs at its buffer's edge and COUNT sheets of each kind, whole and in pieces, its text against the reference's listing. Sheets that differ go to target/compare.
 """
 import argparse
 import collections
@@ -202,22 +202,60 @@ def batch(job):
 
 # ---- the program
 
+def buffer_full():
+    """A sound sheet of as many bytes as the program's buffer has: ship, char, and base attributes and ids that nobody has."""
+    sheet = make_sheets.Sheet()
+    sheet.tables[5] = [make_sheets.object_record(kind, 1) for kind in (make_sheets.SHIP, make_sheets.CHAR)]
+    sheet.tables[6] = [[1, 0.5]] * 5441
+    sheet.tables[7] = [[1]] * 2
+    return sheet.bytes()
+
+
+def inputs(kinds, seed, count):
+    """Names and bytes: the cases, the buffer's edges, and sheets that are made."""
+    for file in sorted((ROOT / "cases").glob("*.sheet")):
+        yield file.stem, file.read_bytes()
+    full = buffer_full()
+    assert len(full) == 65536
+    yield from [("nothing", b""), ("a full buffer", full), ("one byte more", full + b"\0"), ("twice the buffer", full + full)]
+    for kind in kinds:
+        for n in range(count):
+            yield f"{kind}-{n}", make_sheets.sheet(kind, f"{seed} listing", n)
+
+
+def in_pieces(words, data, size):
+    """What is printed for bytes that come by a pipe, so many at a time."""
+    process = subprocess.Popen(words, stdin=subprocess.PIPE, stdout=subprocess.PIPE, bufsize=0)
+    try:
+        for at in range(0, len(data), size):
+            process.stdin.write(data[at:at + size])
+            time.sleep(0.002)
+    except BrokenPipeError:
+        pass  # it has read enough to refuse
+    process.stdin.close()
+    text = process.stdout.read()
+    process.wait()
+    return text
+
+
 def listings(kinds, seed, count):
     """The program's text against the reference's, every list lent 4,096; longer than the buffer is SHAPE 0."""
     program = ROOT / "target" / "bin" / "sheet"
+    if not program.exists():
+        sys.exit("target/bin/sheet is not there: `rt check sheet` makes it")
     words = [str(ROOT / "library" / "emulated"), "run", str(program)]
     differ = runs = 0
-    for kind in kinds:
-        for n in range(count):
-            data = make_sheets.sheet(kind, f"{seed} listing", n)
-            wanted = "refused 1 0\n" if len(data) > 65536 else reference.listing(reference.answer(data, (4096,) * 5))
-            found = subprocess.run(words, input=data, stdout=subprocess.PIPE).stdout.decode(errors="replace")
-            runs += 1
-            if found != wanted:
-                differ += 1
-                (PLACE / f"listing-{kind}-{n}.sheet").write_bytes(data)
-                print(f"the listing differs: {kind} {n}: {found[:60]!r}")
-    print(f"listing: {runs} sheets through {program.relative_to(ROOT)}, {differ} differ")
+    for at, (name, data) in enumerate(inputs(kinds, seed, count)):
+        wanted = "refused 1 0\n" if len(data) > 65536 else reference.listing(reference.answer(data, (4096,) * 5))
+        found = [subprocess.run(words, input=data, stdout=subprocess.PIPE).stdout]
+        if at % 20 == 0 or name == "a full buffer":
+            found.append(in_pieces(words, data, 4000 if len(data) > 4000 else 77))
+        runs += len(found)
+        if any(text != wanted.encode() for text in found):
+            differ += 1
+            (PLACE / f"listing-{name.replace(' ', '-')}.sheet").write_bytes(data)
+            print(f"the listing differs: {name}: {found[0][:60]!r}")
+    print(f"listing: {runs} runs of {program.relative_to(ROOT)}, {differ} differ")
     return differ
 
 

@@ -1,0 +1,41 @@
+/* `once SHEET TIMES`: calculates a sheet so many times and prints number and place; for profiles. */
+#include <stdio.h>
+#include <stdlib.h>
+
+#include "dogma.h"
+
+enum { ROOM = 65536 };
+
+static uint8_t sheet[1 << 20];
+static dogma_state states[DOGMA_OBJECTS];
+static dogma_collected collected[ROOM];
+static double collected_values[ROOM], bases[ROOM], values[ROOM], entry_values[ROOM];
+static dogma_row rows[ROOM];
+static dogma_entry entries[ROOM];
+static dogma_plain plain[ROOM];
+static dogma_source sources[ROOM];
+static dogma_source_value source_values[ROOM];
+
+static struct dogma_answer run(size_t length, const struct dogma_answer *need)
+{
+    return dogma_calculate(
+        states, collected, need->collected, collected_values, need->collected, rows, need->rows, bases, need->rows, values, need->rows,
+        entries, need->entries, entry_values, need->entries, plain, need->plain, sources, need->sources, source_values, need->sources,
+        sheet, length);
+}
+
+int main(int count, char **words)
+{
+    FILE *file = count == 3 ? fopen(words[1], "rb") : NULL;
+    if (!file)
+        return 2;
+    const size_t length = fread(sheet, 1, sizeof sheet, file);
+    fclose(file);
+    /* first with ample room, then lent to the row */
+    struct dogma_answer answer = { 0, 0, ROOM, ROOM, ROOM, ROOM, ROOM };
+    answer = run(length, &answer);
+    for (int i = 0; i < atoi(words[2]) && answer.number == DOGMA_DONE; i++)
+        answer = run(length, &answer);
+    printf("%d %d\n", (int)answer.number, (int)answer.place);
+    return answer.number != DOGMA_DONE;
+}
