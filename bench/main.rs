@@ -62,7 +62,7 @@ fn time(file: &str, seconds: f64) {
     let mut times: [Vec<f64>; 5] = Default::default();
     let start = Instant::now();
     let mut round = 0;
-    while round < 15 || (start.elapsed().as_secs_f64() < seconds && round < 5000) {
+    while round < 33 || (start.elapsed().as_secs_f64() < seconds && round < 5000) {
         let a = nanoseconds(|| { black_box(lent.calculate(black_box(&bytes)).is_ok()); });
         let mut objects = built(&sheet);
         let b = nanoseconds(|| calculated(black_box(&sheet), black_box(&mut objects)));

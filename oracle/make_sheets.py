@@ -334,6 +334,28 @@ def limits(r, tiny=False):
     return sheet.bytes()
 
 
+def huge(r):
+    """A small sheet whose ranges overlap so that a list would take thousands to billions of rows: some list is full."""
+    sheet = Sheet()
+    t = sheet.tables
+    sheet.recording = r.randint(0, 1)
+    way = r.choice(["rows", "collected", "plain", "entries", "sources", "copies"])
+    objects, modifiers = r.choice([3, 60, 1022]), r.choice([1, 50, 4096])
+    bases = r.choice([200, 16384]) if way == "rows" else 3
+    t[0] = [[i, 1 if way == "entries" else 0, 0.0, 0, 0] for i in range(1, 4)]
+    t[6] = [[i + 1, 1.0] for i in range(bases)]
+    located = [2, 1, 3 if way == "entries" else 7, 1, 2, 0, 0]
+    t[2] = [list(located) for _ in range(modifiers)]
+    effects = 1024 if way in ("collected", "plain") else 1
+    t[1] = [[i, 0, 0, 0, 0, 0 if way == "plain" else modifiers] for i in range(effects)]
+    t[3] = [[9 if way in ("collected", "plain") else 8, i, 0] for i in range(effects)]
+    shared = (0, bases)
+    quantity = r.choice([8, 9, 2 ** 32 - 1]) if way == "copies" else 1
+    t[5] = [object_record(SHIP, 8, category=7, quantity=quantity, bases=shared), object_record(CHAR, 1)]
+    t[5] += [object_record(ITEM, 9, 1, 7, 3, 1, bases=shared) for _ in range(objects)]
+    return sheet
+
+
 # ---- damaged ones
 
 def set_word(data, at, value):
@@ -446,6 +468,7 @@ KINDS = {
     "small-real": lambda r: Real(r, 30).make().bytes(),
     "large": lambda r: large(r).bytes(),
     "damaged": damaged,
+    "huge": lambda r: huge(r).bytes(),
     "limits": limits,
     "small-limits": lambda r: limits(r, tiny=True),
     "tiny-damaged": lambda r: damaged(r, tiny=True),
