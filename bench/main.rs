@@ -92,8 +92,37 @@ fn time(file: &str, seconds: f64) {
     println!("{file} {} {objects} {c} {r} {e} {p} {s} {} {medians} {ratios}", bytes.len(), round - 2);
 }
 
+// `bench count WHAT TIMES FILE`: one thing so many times, for a tool that counts instructions: `ours` lent to the row, the Rust's
+// objects `built`, those and pass two and values (`alone`), the same from the sheet's bytes (`whole`). What is built is left.
+fn count(what: &str, times: usize, file: &str) {
+    let bytes = std::fs::read(file).expect("the sheet can be read");
+    let sheet = Sheet::read(&bytes);
+    let counts = counts_of(&mut Engine::new(Rooms::all(1 << 17)), &bytes);
+    let mut engine = Engine::new(rooms(counts, 0));
+    for _ in 0..times {
+        match what {
+            "ours" => { black_box(engine.calculate(black_box(&bytes)).is_ok()); }
+            "built" => std::mem::forget(black_box(built(black_box(&sheet)))),
+            "alone" => {
+                let mut objects = built(black_box(&sheet));
+                calculated(black_box(&sheet), black_box(&mut objects));
+                std::mem::forget(objects);
+            }
+            _ => {
+                let sheet = Sheet::read(black_box(&bytes));
+                let mut objects = built(&sheet);
+                calculated(&sheet, black_box(&mut objects));
+                std::mem::forget((sheet, objects));
+            }
+        }
+    }
+}
+
 fn run() {
     let words: Vec<String> = std::env::args().skip(1).collect();
+    if words[0] == "count" {
+        return count(&words[1], words[2].parse().unwrap(), &words[3]);
+    }
     let seconds = words[0].parse().expect("seconds for each sheet");
     words[1..].iter().for_each(|file| time(file, seconds));
 }

@@ -1,7 +1,8 @@
 #!/usr/bin/env python3
 """Times the library against the patched Rust, on the same sheets, in turn, and prints the tables of docs/SPEED.md.
 
-Usage: run.py [--seconds S] [--shared DIR] [NAME ..]: S seconds for each sheet (default 2); with names, of the kinds only these.
+Usage: run.py [--seconds S] [--counted] [--shared DIR] [NAME ..]: S seconds for each sheet (default 2); with names, of the kinds only
+these. Where valgrind is at hand instructions are counted too; --counted: nothing else.
 Both are built for release first: the library by library/build, the Rust from the sources in DIR by the edits of oracle/build.py,
 without what the oracle adds to print lists and to know places.
 """
@@ -9,6 +10,8 @@ import argparse
 import math
 import pathlib
 import platform
+import re
+import shutil
 import subprocess
 import sys
 
@@ -117,6 +120,27 @@ def kinds_table(names, seconds):
     print("\n" + "; ".join(f"{name}: {what}" for name, what, _ in chosen if "recorded" not in name) + ".")
 
 
+def instructions(file, what):
+    """The instructions of one run, by valgrind: what two more runs take, halved."""
+    def all_of(times):
+        words = ["valgrind", "--tool=callgrind", f"--callgrind-out-file={PLACE / 'callgrind'}", str(PLACE / "bench"), "count", what, str(times), file]
+        said = subprocess.run(words, stdout=subprocess.DEVNULL, stderr=subprocess.PIPE, text=True).stderr
+        return int(re.search(r"Collected : (\d+)", said).group(1))
+    return (all_of(3) - all_of(1)) // 2
+
+
+def counted_table(names):
+    """The same without a clock: counted instructions, which a busy machine does not change."""
+    print("\n| sheet | ours, lent to the row: instructions | (a) Rust, objects built | (b) Rust, from the sheet | ours to (a) | ours to (b) |")
+    print("|---" * 6 + "|", flush=True)
+    for name, _, data in sheets.kinds():
+        if not names or name.split(",")[0] in names:
+            file = write(name, data)
+            ours, objects, alone, whole = (instructions(file, what) for what in ("ours", "built", "alone", "whole"))
+            alone -= objects
+            print(f"| {name} | {ours:,} | {alone:,} | {whole:,} | **{ours / alone:.2f}** | **{ours / whole:.2f}** |", flush=True)
+
+
 def slope(points):
     """The exponent: the slope of the logarithms, by least squares."""
     xs, ys = [math.log(x) for x, _ in points], [math.log(y) for _, y in points]
@@ -150,6 +174,7 @@ def main():
     arguments = argparse.ArgumentParser()
     arguments.add_argument("--seconds", type=float, default=2.0)
     arguments.add_argument("--shared", type=pathlib.Path, default=ROOT.parent / "shared")
+    arguments.add_argument("--counted", action="store_true")
     arguments.add_argument("names", nargs="*")
     given = arguments.parse_args()
     PLACE.mkdir(parents=True, exist_ok=True)
@@ -159,7 +184,11 @@ def main():
     print(f"Measured by `bench/run.py --seconds {given.seconds:g}` on {platform.machine()} Linux, {native}; rustc {rustc}, opt-level 3.")
     print("Medians; in brackets the tenth and ninetieth of a hundred of the ratios of neighbouring runs. Ours is the whole run, from bytes to all lists, "
           "clearing included, every list lent 4,096 rows or what it needs.\n")
+    if given.counted:
+        return counted_table(given.names)
     kinds_table(given.names, given.seconds)
+    if shutil.which("valgrind"):
+        counted_table(given.names)
     if not given.names:
         growth_table(given.seconds)
         memory_table()
