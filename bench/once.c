@@ -31,9 +31,15 @@ int main(int count, char **words)
         return 2;
     const size_t length = fread(sheet, 1, sizeof sheet, file);
     fclose(file);
-    /* first with ample room, then lent to the row */
-    struct dogma_answer answer = { 0, 0, ROOM, ROOM, ROOM, ROOM, ROOM };
-    answer = run(length, &answer);
+    /* a list that is full is lent twice as much, until all suffice; then they are lent to the row */
+    uint64_t rooms[6] = { 0, 1, 1, 1, 1, 1 };
+    struct dogma_answer answer;
+    do {
+        const struct dogma_answer lent = { 0, 0, rooms[1], rooms[2], rooms[3], rooms[4], rooms[5] };
+        answer = run(length, &lent);
+        if (answer.number == DOGMA_ROOM)
+            rooms[answer.place] *= 2;
+    } while (answer.number == DOGMA_ROOM && rooms[answer.place] <= ROOM);
     for (int i = 0; i < atoi(words[2]) && answer.number == DOGMA_DONE; i++)
         answer = run(length, &answer);
     printf("%d %d\n", (int)answer.number, (int)answer.place);
