@@ -8,6 +8,7 @@ without what the oracle adds to print lists and to know places.
 """
 import argparse
 import math
+import os
 import pathlib
 import platform
 import re
@@ -178,8 +179,10 @@ def main():
     arguments.add_argument("names", nargs="*")
     given = arguments.parse_args()
     PLACE.mkdir(parents=True, exist_ok=True)
-    library = built(given.shared)
+    built(given.shared)
     native = "the library as shipped" if platform.machine() == "x86_64" else "the same proved module as the shipped library's, compiled for this processor (native-lib)"
+    if os.environ.get("DOGMA_LIBRARY"):
+        native = "an archive that was given, and may be anything"
     rustc = subprocess.run(["rustc", "--version"], stdout=subprocess.PIPE, text=True).stdout.split()[1]
     print(f"Measured by `bench/run.py --seconds {given.seconds:g}` on {platform.machine()} Linux, {native}; rustc {rustc}, opt-level 3.")
     print("Medians; in brackets the tenth and ninetieth of a hundred of the ratios of neighbouring runs. Ours is the whole run, from bytes to all lists, "

@@ -14,7 +14,9 @@ on the cases, inputs at its buffer's edge and COUNT sheets of each kind, whole a
 import argparse
 import collections
 import multiprocessing
+import os
 import pathlib
+import platform
 import random
 import struct
 import subprocess
@@ -266,6 +268,14 @@ def listings(kinds, seed, count):
     return differ
 
 
+def library_text(emulated):
+    if os.environ.get("DOGMA_LIBRARY"):
+        return "an archive that was given, and may be anything"
+    if platform.machine() == "x86_64":
+        return "the library as shipped"
+    return "the library as shipped, under the kit's emulator" if emulated else "the proved module compiled for this processor (native-lib)"
+
+
 def report(kinds, totals, status, rows, held, spent, seed, differ, wall):
     runs = collections.Counter()
     for (kind, what, number), count in status.items():
@@ -314,6 +324,7 @@ def main():
             if time.time() - said > 60:
                 said = time.time()
                 print(f"{sum(totals.values()):,} sheets, {sum(differ.values())} differences, {said - started:.0f} s", flush=True)
+    print(f"\nOn {platform.machine()}: {library_text(given.emulated)}.")
     report(kinds, totals, status, rows, held, spent, given.seed, sum(differ.values()), time.time() - started)
     sys.exit(sum(differ.values()) > 0)
 
