@@ -13,6 +13,7 @@ on the cases, inputs at its buffer's edge and COUNT sheets of each kind, whole a
 """
 import argparse
 import collections
+import hashlib
 import multiprocessing
 import os
 import pathlib
@@ -48,7 +49,9 @@ def build(emulated):
     if made.returncode != 0:
         sys.exit(made.returncode)
     library = made.stdout.strip()
-    driver = PLACE / ("engine-x86-64" if emulated else "engine")
+    # named by the library, so that two comparisons at once do not mix
+    digest = hashlib.sha256((ROOT / library).read_bytes()).hexdigest()[:12]
+    driver = PLACE / f"engine{'-x86-64' if emulated else ''}-{digest}"
     if emulated:
         subprocess.run([ROOT / "library" / "emulated", "build", driver, HERE / "engine.c", library], cwd=ROOT, check=True)
         return [str(ROOT / "library" / "emulated"), "run", str(driver)]
