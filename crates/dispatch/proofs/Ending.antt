@@ -84,7 +84,7 @@ module _ (k : Book) (fit : List ℕ) (pairs : List (List ℕ)) (S : SoundFit fit
             full-list k (fitOf fit pairs) objects (objects-length fit pairs) (numbered fit pairs) (bases-ascend fit pairs S) es room3 (bases-narrow fit pairs) (C .held .narrow) room based over m l (X .0) (X .1) (X .3 .rows) (G .left over) q
 
         pub ending-done : length entries ≡ length entries₀ → used ≤ room3 → (full room room3 k (fitOf fit pairs) es ≡ none) × (m ≡ length (rows k (fitOf fit pairs) es)) × (used ≡ length (entriesOf (rows k (fitOf fit pairs) es)))
-            × ListsLaid (rows k (fitOf fit pairs) es) rows₀ rows′ bases₀ bases′ entries₀ entries′ values₀ values′
+            × ListsLaid (rows k (fitOf fit pairs) es) rows₀ rows′ bases₀ bases′ entries₀ entries′ values₀ values′ × (m ≤ room)
         ending-done z h =
             let X = answer (Rows m) e in
             let l : length hs ≤ room3 = rw (G .count) at h in
@@ -98,4 +98,5 @@ module _ (k : Book) (fit : List ℕ) (pairs : List (List ℕ)) (S : SoundFit fit
               sym (ap (λ (x : List Row). length (entriesOf x)) (sym same) ∙ X .2 ∙ hits),
               subst (λ (x : List Row). ListsLaid x rows₀ rows′ bases₀ bases′ entries₀ entries′ values₀ values′) same
                   (record { rows = X .3 .rows; bases = X .3 .bases; entries = col-kept entryNumbers (entriesOf all) ends-kept z (X .3 .entries); values = X .3 .values }),
+              omega (arith, X .0, X .1),
             )

@@ -36,5 +36,5 @@ full room2 room3 k f es = fullAt room2 room3 (baseKeys f) (length (baseKeys f)) 
 -- the columns of lists 2 and 3 hold the definition's rows and entries, counted; or a list is full
 abbrev pub Given : Dispatched → ℕ → ℕ → Book → Fit → List Pass2Effect → List (List ℕ) → List (List ℕ) → List Float → List Float → List (List ℕ) → List (List ℕ) → List Float → List Float → Type 0
 Given (Lists a b) room2 room3 k f es r₀ r b₀ b′ e₀ e v₀ v =
-    (full room2 room3 k f es ≡ none) × (a ≡ length (rows k f es)) × (b ≡ length (entriesOf (rows k f es))) × ListsLaid (rows k f es) r₀ r b₀ b′ e₀ e v₀ v
+    (full room2 room3 k f es ≡ none) × (a ≡ length (rows k f es)) × (b ≡ length (entriesOf (rows k f es))) × ListsLaid (rows k f es) r₀ r b₀ b′ e₀ e v₀ v × (a ≤ room2)
 Given (Full l) room2 room3 k f es r₀ r b₀ b′ e₀ e v₀ v = full room2 room3 k f es ≡ some l

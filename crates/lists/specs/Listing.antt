@@ -76,6 +76,11 @@ abbrev pub listedOf : Dispatched → ℕ → ℕ → Listed
 listedOf (Lists a m) n p = Done (record { collected = n; rows = a; entries = m; plain = p })
 listedOf (Full t) n p = Refused (Room t)
 
+-- the rows have room
+abbrev pub RowsWithin : ℕ → Listed → Type 0
+RowsWithin room (Done n) = n .rows ≤ room
+RowsWithin room (Refused x) = Unit {0}
+
 -- what an answer says of the steps and of the columns
 abbrev pub ListedAs : Res Unit → Listed → Book → Fit → List (List ℕ) → List (List ℕ) → List Float → List Float → List (List ℕ) → List (List ℕ) → List Float → List Float → List (List ℕ) → List (List ℕ) → List Float → List Float → List (List ℕ) → List (List ℕ) → Type 0
 ListedAs s (Done n) k f c₀ c v₀ v r₀ r b₀ b e₀ e w₀ w p₀ p = (s ≡ ok tt) × CountsOf n k f × AllLaid k f c₀ c v₀ v r₀ r b₀ b e₀ e w₀ w p₀ p
