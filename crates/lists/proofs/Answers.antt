@@ -27,12 +27,12 @@ use Rattle.dispatch.specs.declared.Dispatched.the-variants.{Lists, Full}
 use Rattle.dispatch.specs.Whole.{Collection, Collecting, Given}
 use Rattle.lists.specs.declared.Rooms.{Rooms}
 use Rattle.lists.specs.declared.Listed.{Listed}
-use Rattle.lists.specs.Listing.{listsIn, RoomsOf, Lent, ListedAs, listedOf}
+use Rattle.lists.specs.Listing.{listsIn, RoomsOf, Lent, ListedAs, listedOf, RowsWithin}
 use Rattle.lists.proofs.Steps.{base-full, not-collected, dispatched}
 use Rattle.lists.proofs.Gathered.{Gathered, gathered, collection}
 
 -- the definition's rooms, by the rooms given
-abbrev roomsBy : Rooms → outcome.Rooms
+abbrev pub roomsBy : Rooms → outcome.Rooms
 roomsBy s = record { collected = s .collected; rows = s .rows; entries = s .entries; plain = s .plain; sources = 0 }
 
 pub no-base-room : (k : Book) (f : Fit) (s : Rooms) (q : outcome.Rooms) → RoomsOf q s → s .rows < length (baseKeys f) → listsIn k f q ≡ refused (Room 2)
@@ -82,3 +82,10 @@ module _ (book fit : List ℕ) (pairs : List (List ℕ)) (S : SoundFit fit pairs
       pub all-listed : (d : Dispatched) → ((es : List Pass2Effect) → Collection es n c′ v′ (countOf pairs 6) → Given d (s .rows) (s .entries) (bookOf book pairs) (fitOf fit pairs) es r r′ b b′ e e′ w w′) → (y : Listed) → y ≡ listedOf d n p → ListedAs (listsIn (bookOf book pairs) (fitOf fit pairs) q) y (bookOf book pairs) (fitOf fit pairs) c c′ v v′ r r′ b b′ e e′ w w′ l l′
       all-listed d D y a =
           subst (λ (z : Listed). ListedAs (listsIn k f q) z k f c c′ v v′ r r′ b b′ e e′ w w′ l l′) (sym a) (by d (D (collectedIn k f) (collects g)))
+
+      pub all-within : (d : Dispatched) → ((es : List Pass2Effect) → Collection es n c′ v′ (countOf pairs 6) → Given d (s .rows) (s .entries) (bookOf book pairs) (fitOf fit pairs) es r r′ b b′ e e′ w w′) → (y : Listed) → y ≡ listedOf d n p → RowsWithin (s .rows) y
+      all-within d D y a = subst (RowsWithin (s .rows)) (sym a) (within d (D (collectedIn k f) (collects g)))
+        where
+          within : (d : Dispatched) → Given d (s .rows) (s .entries) k f (collectedIn k f) r r′ b b′ e e′ w w′ → RowsWithin (s .rows) (listedOf d n p)
+          within (Lists a m) i = i .4
+          within (Full t) i = tt

@@ -9,7 +9,7 @@ ghost use mathlib.Core.Path.{_≡_};
 ghost use Rattle.rules.specs.Sheet.{bookOf, fitOf};
 ghost use Rattle.rules.specs.Outcome as outcome;
 ghost use Rattle.info.specs.Sound.{SoundBook, SoundFit};
-ghost use Rattle.lists.specs.Listing.{RoomsOf, Lent, ListedAs, listedOf, listsIn};
+ghost use Rattle.lists.specs.Listing.{RoomsOf, Lent, ListedAs, RowsWithin, listedOf, listsIn};
 
 // The rooms of lists 1 to 4.
 pub struct Rooms {
@@ -68,6 +68,7 @@ pub fn set_lists(
     requires { ⌜ SoundFit (now fit) (now pairs) ⌝ }
     requires { ⌜ Lent rooms (now collected) (now «collected_values») (now rows) (now bases) (now entries) (now «entry_values») (now plain) ⌝ }
     ensures { λ r. ⌜ ((q : outcome.Rooms) → RoomsOf q rooms → ListedAs (listsIn (bookOf (now (book .entry)) (now (pairs .entry))) (fitOf (now (fit .entry)) (now (pairs .entry))) q) r (bookOf (now (book .entry)) (now (pairs .entry))) (fitOf (now (fit .entry)) (now (pairs .entry))) (now (collected .entry)) (now (collected .exit)) (now («collected_values» .entry)) (now («collected_values» .exit)) (now (rows .entry)) (now (rows .exit)) (now (bases .entry)) (now (bases .exit)) (now (entries .entry)) (now (entries .exit)) (now («entry_values» .entry)) (now («entry_values» .exit)) (now (plain .entry)) (now (plain .exit))) ⌝ }
+    ensures { λ r. ⌜ RowsWithin (rooms .rows) r ⌝ }
 {
     let base = base_total(fit, pairs);
     if rooms.rows < base {
