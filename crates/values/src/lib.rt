@@ -1,0 +1,80 @@
+// The values and the source rows of a sound sheet, once lists 1 to 4 are made (pass_3.rs).
+use pass_3::unstarted;
+use plan::set_sources;
+use sources::Run;
+use stretches::set_limits;
+use stretches::set_stretches;
+use walk::Valued;
+use walk::calculate_values;
+ghost use mathlib.Core.Path.{_≡_};
+ghost use mathlib.Core.List.{List};
+ghost use Prim.Native.Nat.{_≤_, _<_, _^_};
+ghost use lib.ListN.{length};
+ghost use Rattle.rules.specs.Sheet.{bookOf, fitOf};
+ghost use Rattle.rules.specs.Dispatch.{Row};
+ghost use Rattle.rules.specs.Outcome.{blank, rowsIn, startsOf, valued, worldOf};
+ghost use Rattle.info.specs.Sound.{SoundBook, SoundFit};
+ghost use Rattle.plan.specs.Rows.{Dispatched, Planning};
+ghost use Rattle.values.specs.Setting.{plannedIf, Listed, SetAs};
+
+// Where source rows are recorded, first and count in list 5 of the first n rows.
+fn plan_sources(
+    rows: &mut [[u32; 6]],
+    entries: &[[u32; 11]],
+    values: &[f64],
+    states: &[[u32; 2]; 1024],
+    n: usize,
+    recording: bool,
+)
+    requires { ⌜ Planning n (now rows) (now entries) (now values) ⌝ }
+    ensures { λ _. ⌜ ((rs : List Row) → Dispatched rs n (now (rows .entry)) (now (entries .entry)) (now (values .entry)) → now (rows .exit) ≡ plannedIf recording n rs (now (states .entry)) (now (rows .entry))) ⌝ }
+{
+    if recording {
+        set_sources(rows, entries, values, states, n);
+    }
+}
+
+// The values of the n rows, and their source rows. Where it is refused, the columns that are written may hold anything.
+pub fn set_values(
+    rows: &mut [[u32; 6]],
+    values: &mut [f64],
+    sources: &mut [[u32; 10]],
+    floats: &mut [[f64; 2]],
+    bases: &[f64],
+    entries: &[[u32; 11]],
+    entry_values: &[f64],
+    states: &[[u32; 2]; 1024],
+    book: &[u8],
+    fit: &[u8],
+    pairs: &[[u32; 2]; 10],
+    n: usize,
+    run: Run,
+) -> Valued
+    requires { ⌜ SoundBook (now book) (now pairs) ⌝ }
+    requires { ⌜ SoundFit (now fit) (now pairs) ⌝ }
+    requires { ⌜ Listed (bookOf (now book) (now pairs)) (fitOf (now fit) (now pairs)) n run (now states) (now rows) (now bases) (now entries) (now «entry_values») ⌝ }
+    requires { ⌜ (n ≤ length (now values)) × (n < 2 ^ 32) ⌝ }
+    requires { ⌜ (run .room ≤ length (now sources)) × (run .room ≤ length (now floats)) × (run .room ≤ 4294967295) ⌝ }
+    ensures { λ r. ⌜ ((h : Listed (bookOf (now (book .entry)) (now (pairs .entry))) (fitOf (now (fit .entry)) (now (pairs .entry))) n run (now (states .entry)) (now (rows .entry)) (now (bases .entry)) (now (entries .entry)) (now («entry_values» .entry))) → SetAs (rowsIn (bookOf (now (book .entry)) (now (pairs .entry))) (fitOf (now (fit .entry)) (now (pairs .entry)))) (valued (worldOf (bookOf (now (book .entry)) (now (pairs .entry))) (fitOf (now (fit .entry)) (now (pairs .entry))) (run .room)) (fitOf (now (fit .entry)) (now (pairs .entry)) .depth) (startsOf (fitOf (now (fit .entry)) (now (pairs .entry))) (rowsIn (bookOf (now (book .entry)) (now (pairs .entry))) (fitOf (now (fit .entry)) (now (pairs .entry))))) (blank (rowsIn (bookOf (now (book .entry)) (now (pairs .entry))) (fitOf (now (fit .entry)) (now (pairs .entry)))))) r (h .rows₀) (now (rows .exit)) (now (values .entry)) (now (values .exit)) (now (sources .entry)) (now (sources .exit)) (now (floats .entry)) (now (floats .exit))) ⌝ }
+{
+    plan_sources(rows, entries, entry_values, states, n, run.recording);
+    unstarted(values, n);
+    let stretches = set_stretches(&rows[..n]);
+    let limits = set_limits(book, pairs);
+    calculate_values(
+        &mut values[..n],
+        sources,
+        floats,
+        book,
+        pairs,
+        states,
+        &stretches,
+        &limits,
+        &rows[..n],
+        &bases[..n],
+        entries,
+        entry_values,
+        run,
+        fit,
+    )
+}
