@@ -44,14 +44,14 @@ use Rattle.prepared.proofs.Told.{told}
 use Rattle.walk.specs.declared.Valued.{Valued}
 use Rattle.walk.specs.declared.Valued.the-variants as answer
 use Rattle.walk.specs.Starting.{Walkable, ValuedAs}
-use Rattle.values.specs.Setting.{plannedIf, Listed, Set, SetAs}
+use Rattle.values.specs.Setting.{plannedRows, Listed, Set, SetAs}
 
 -- where nothing is recorded the rows stay, and where it is they are planned
-pub planned-is : (t u : Bool) → t ≡ u → (n : ℕ) (rs : List Row) (st r : List (List ℕ)) {r′ : List (List ℕ)} → r′ ≡ plannedIf u n rs st r → r′ ≡ plannedIf t n rs st r
-planned-is t u e n rs st r p = p ∙ sym (ap (λ (x : Bool). plannedIf x n rs st r) e)
+pub planned-is : (t u : Bool) → t ≡ u → (n : ℕ) (rs : List Row) (st r : List (List ℕ)) {r′ : List (List ℕ)} → r′ ≡ plannedRows u n rs st r → r′ ≡ plannedRows t n rs st r
+planned-is t u e n rs st r p = p ∙ sym (ap (λ (x : Bool). plannedRows x n rs st r) e)
 
 module _ (k : Book) (f : Fit) (room : ℕ) where
-  pub world-rows : worldOf k f room .rows ≡ rowsIn k f
+  world-rows : worldOf k f room .rows ≡ rowsIn k f
   unfolding worldOf
   world-rows = refl
 
@@ -86,22 +86,18 @@ module _ (book fit : List ℕ) (pairs : List (List ℕ)) (sb : SoundBook book pa
 
   -- ---- after planning
 
-  recorded : world .recording ≡ run .recording
-  unfolding worldOf
-  recorded = sym (h .recording)
-
   is-run : RunOf world run
   unfolding worldOf
   is-run = record { room = refl; recording = sym (h .recording) }
 
-  planned-by : (t : Bool) → run .recording ≡ t → (r′ : List (List ℕ)) → r′ ≡ plannedIf t n rs st r → r′ ≡ numbers ++ drop n r
+  planned-by : (t : Bool) → run .recording ≡ t → (r′ : List (List ℕ)) → r′ ≡ plannedRows t n rs st r → r′ ≡ numbers ++ drop n r
   planned-by true t r′ p =
       p ∙ ap (λ (l : List (List ℕ)). l ++ drop n r)
-      (sym (ap (take n) p ∙ planned-front rs (countsBy st rs) n r (h .count)) ∙ planned-on book fit pairs sf n (h .count) (h .lists) (run .room) (recorded ∙ t) (h .states) p)
+      (sym (ap (take n) p ∙ planned-front rs (countsBy st rs) n r (h .count)) ∙ planned-on book fit pairs sf n (h .count) (h .lists) (run .room) (is-run .recording ∙ t) (h .states) p)
   planned-by false t r′ p =
-      p ∙ sym (take-append-drop n r) ∙ ap (λ (l : List (List ℕ)). l ++ drop n r) (planned-off book fit pairs sf n (h .count) (h .lists) (run .room) (recorded ∙ t))
+      p ∙ sym (take-append-drop n r) ∙ ap (λ (l : List (List ℕ)). l ++ drop n r) (planned-off book fit pairs sf n (h .count) (h .lists) (run .room) (is-run .recording ∙ t))
 
-  module _ {r′ : List (List ℕ)} (p : r′ ≡ plannedIf (run .recording) n (rowsIn (bookOf book pairs) (fitOf fit pairs)) st r) where
+  module _ {r′ : List (List ℕ)} (p : r′ ≡ plannedRows (run .recording) n (rowsIn (bookOf book pairs) (fitOf fit pairs)) st r) where
     whole : r′ ≡ numbers ++ drop n r
     whole = planned-by (run .recording) refl r′ p
 

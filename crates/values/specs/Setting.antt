@@ -24,9 +24,9 @@ use Rattle.walk.specs.declared.Valued.{Valued}
 use Rattle.walk.specs.declared.Valued.the-variants as valued
 
 -- the column r after planning, by whether source rows are recorded
-abbrev pub plannedIf : Bool → ℕ → List Row → List (List ℕ) → List (List ℕ) → List (List ℕ)
-plannedIf true n rs st r = plannedNumbers 0 0 rs (countsBy st rs) ++ drop n r
-plannedIf false n rs st r = r
+abbrev pub plannedRows : Bool → ℕ → List Row → List (List ℕ) → List (List ℕ) → List (List ℕ)
+plannedRows true n rs st r = plannedNumbers 0 0 rs (countsBy st rs) ++ drop n r
+plannedRows false n rs st r = r
 
 -- the n rows of the sheet are laid, with their entries, over some columns, and its states are there
 pub record Listed (k : Book) (f : Fit) (n : ℕ) (run : Run) (st r : List (List ℕ)) (b : List Float) (e : List (List ℕ)) (v : List Float) : Type 0 where

@@ -15,7 +15,7 @@ ghost use Rattle.rules.specs.Dispatch.{Row};
 ghost use Rattle.rules.specs.Outcome.{blank, rowsIn, startsOf, valued, worldOf};
 ghost use Rattle.info.specs.Sound.{SoundBook, SoundFit};
 ghost use Rattle.plan.specs.Rows.{Dispatched, Planning};
-ghost use Rattle.values.specs.Setting.{plannedIf, Listed, SetAs};
+ghost use Rattle.values.specs.Setting.{plannedRows, Listed, SetAs};
 
 // Where source rows are recorded, first and count in list 5 of the first n rows.
 fn plan_sources(
@@ -27,7 +27,7 @@ fn plan_sources(
     recording: bool,
 )
     requires { ⌜ Planning n (now rows) (now entries) (now values) ⌝ }
-    ensures { λ _. ⌜ ((rs : List Row) → Dispatched rs n (now (rows .entry)) (now (entries .entry)) (now (values .entry)) → now (rows .exit) ≡ plannedIf recording n rs (now (states .entry)) (now (rows .entry))) ⌝ }
+    ensures { λ _. ⌜ ((rs : List Row) → Dispatched rs n (now (rows .entry)) (now (entries .entry)) (now (values .entry)) → now (rows .exit) ≡ plannedRows recording n rs (now (states .entry)) (now (rows .entry))) ⌝ }
 {
     if recording {
         set_sources(rows, entries, values, states, n);
