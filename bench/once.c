@@ -2,19 +2,9 @@
 #include <stdio.h>
 #include <stdlib.h>
 
-#include "dogma.h"
-
 enum { ROOM = 65536 };
 
-static uint8_t sheet[1 << 20];
-static dogma_state states[DOGMA_OBJECTS];
-static dogma_collected collected[ROOM];
-static double collected_values[ROOM], bases[ROOM], values[ROOM], entry_values[ROOM];
-static dogma_row rows[ROOM];
-static dogma_entry entries[ROOM];
-static dogma_plain plain[ROOM];
-static dogma_source sources[ROOM];
-static dogma_source_value source_values[ROOM];
+#include "lent.h"
 
 static struct dogma_answer run(size_t length, const struct dogma_answer *need)
 {

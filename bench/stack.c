@@ -6,20 +6,11 @@
 #include <stdlib.h>
 #include <string.h>
 
-#include "dogma.h"
-
 enum { SIZE = 16 << 20, ROOM = 20000, PATTERN = 0xa5 };
 
-static uint8_t sheet[1 << 20];
+#include "lent.h"
+
 static size_t length;
-static dogma_state states[DOGMA_OBJECTS];
-static dogma_collected collected[ROOM];
-static double collected_values[ROOM], bases[ROOM], values[ROOM], entry_values[ROOM];
-static dogma_row rows[ROOM];
-static dogma_entry entries[ROOM];
-static dogma_plain plain[ROOM];
-static dogma_source sources[ROOM];
-static dogma_source_value source_values[ROOM];
 static struct dogma_answer answer;
 
 static void *nothing(void *unused)

@@ -173,7 +173,7 @@ enum dogma_operator {
  *  2. states points to exactly DOGMA_OBJECTS pairs, and every other pointer to as many elements as the count after it says;
  *  3. each is aligned as its element is: 4 bytes for numbers, 8 for floats, 1 for the sheet;
  *  4. no two of the twelve overlap, the sheet included, and nothing else touches them during the call;
- *  5. the stack has 1 MB left: at depth 256, the greatest, a call takes some 550 KB of it (bench/run.py measures it).
+ *  5. the stack has 1 MiB left: the frames of 256 levels, the greatest depth, fit it (docs/DECISIONS.md, section 6).
  * What the lists hold before the call does not matter.
  */
 struct dogma_answer dogma_calculate(
