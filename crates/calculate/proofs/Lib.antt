@@ -1,0 +1,3 @@
+pub mod Clearing
+pub mod Joining
+pub mod Filling
