@@ -8,11 +8,10 @@ use lib.ListN.{length, replicate, length-map}
 use Rattle.laws.specs.Columns.{Col, column}
 use Rattle.laws.specs.Floats.{zeroF}
 use Rattle.laws.specs.Lists.{flat}
-use Rattle.laws.proofs.Laid.{column-none}
-use Rattle.rules.specs.Answer.{Res, ok, refused, number, place, answerOf}
-use Rattle.rules.specs.Columns.{Counts, collectedNumbers, originValue, rowsNumbers, entryNumbers, plainNumbers, sourceNumbers, sourceFloats, countsOf, collectedColumn, collectedValueColumn, rowColumn, baseColumn, valueColumn, entryColumn, entryValueColumn, plainColumn, sourceColumn, sourceFloatColumn, stateColumn}
+use Rattle.rules.specs.Answer.{Res, ok, refused, number, place}
+use Rattle.rules.specs.Columns.{Counts, collectedNumbers, originValue, rowsNumbers, entryNumbers, plainNumbers, sourceNumbers, sourceFloats, collectedColumn, collectedValueColumn, rowColumn, baseColumn, valueColumn, entryColumn, entryValueColumn, plainColumn, sourceColumn, sourceFloatColumn, stateColumn}
 use Rattle.rules.specs.Dispatch.{Row}
-use Rattle.rules.specs.Outcome.{Lent, Done, outcome}
+use Rattle.rules.specs.Outcome.{Done, outcome}
 use Rattle.rules.specs.declared.Source.{Source}
 use Rattle.rules.specs.declared.Refusal.{Refusal}
 use Rattle.rules.specs.declared.Answer.{Answer}
@@ -20,11 +19,12 @@ use Rattle.rules.specs.declared.Answer.the-variants as answer
 use Rattle.clear.specs.Ends.{cleared}
 use Rattle.clear.specs.declared.Counts as clear
 use Rattle.clear.proofs.Columned.{cleared-column, cleared-all, cleared-same}
-use Rattle.promises.specs.Result.{Result, Meets}
-use Rattle.calculate.specs.Filled.{Columns, lentOf, Filled, RanAs, countsGiven, answerGiven, resultOf}
+use Rattle.promises.specs.Result.{Meets}
+use Rattle.run.specs.Filled.{Columns, lentOf, Filled, RanAs}
+use Rattle.calculate.specs.Given.{countsGiven, answerGiven, resultOf}
 use Rattle.calculate.specs.declared.Outcome.{Outcome}
-use Rattle.calculate.specs.declared.Ran.{Ran}
-use Rattle.calculate.specs.declared.Ran.the-variants as ran
+use Rattle.run.specs.declared.Ran.{Ran}
+use Rattle.run.specs.declared.Ran.the-variants as ran
 
 -- ---- one column
 

@@ -6,7 +6,7 @@ use Rattle.calculate.proofs.answer_of.Tie as tie
 use Rattle.calculate.proofs.answer_of.Reads as reads
 use Rattle.calculate.proofs.answer_of.Lts as lts
 use mathlib.Core.Path.{sym, ap}
-use Rattle.calculate.specs.Filled.{answerGiven}
+use Rattle.calculate.specs.Given.{answerGiven}
 
 enum-told : tie.Need-enum-told
 enum-told c = search needs

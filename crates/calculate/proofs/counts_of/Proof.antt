@@ -6,7 +6,7 @@ use Rattle.calculate.proofs.counts_of.Tie as tie
 use Rattle.calculate.proofs.counts_of.Reads as reads
 use Rattle.calculate.proofs.counts_of.Lts as lts
 use mathlib.Core.Path.{sym, ap}
-use Rattle.calculate.specs.Filled.{countsGiven}
+use Rattle.calculate.specs.Given.{countsGiven}
 
 enum-known-ran : tie.Need-enum-known-ran
 enum-known-ran c = search needs

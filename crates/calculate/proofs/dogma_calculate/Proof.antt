@@ -6,7 +6,7 @@ use Rattle.calculate.proofs.dogma_calculate.Tie as tie
 use Rattle.calculate.proofs.dogma_calculate.Reads as reads
 use Rattle.calculate.proofs.dogma_calculate.Lts as lts
 use mathlib.Core.Path.{refl, _∙_}
-use Rattle.calculate.specs.Filled.{columns}
+use Rattle.run.specs.Filled.{columns}
 use Rattle.calculate.proofs.Clearing.{meets}
 
 filled-requires : tie.Need-filled-requires

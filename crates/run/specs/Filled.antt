@@ -1,4 +1,4 @@
--- What a run leaves in the lent columns before their ends are cleared, and what a call gives back. Definitions only.
+-- What a run leaves in the lent columns before their ends are cleared. Definitions only.
 use Prim.Native.Nat.{ℕ, _≤_}
 use mathlib.Core.Path.{_≡_}
 use mathlib.Core.List.{List, [], _∷_, map}
@@ -11,16 +11,12 @@ use Rattle.laws.specs.Lists.{flat}
 use Rattle.rules.specs.Answer.{Res, ok, refused}
 use Rattle.rules.specs.Columns.{collectedNumbers, rowsNumbers, entryNumbers, originValue, plainNumbers, sourceNumbers, sourceFloats}
 use Rattle.rules.specs.Outcome.{Lent, Done}
-use Rattle.rules.specs.declared.Answer.{Answer}
-use Rattle.rules.specs.declared.Answer.the-variants as answer
 use Rattle.clear.specs.declared.Counts.{Counts}
 use Rattle.lists.specs.declared.Counts as lists
 use Rattle.walk.specs.declared.Valued.{Valued}
 use Rattle.walk.specs.declared.Valued.the-variants as valued
-use Rattle.promises.specs.Result.{Result}
-use Rattle.calculate.specs.declared.Ran.{Ran}
-use Rattle.calculate.specs.declared.Ran.the-variants as ran
-use Rattle.calculate.specs.declared.Outcome.{Outcome}
+use Rattle.run.specs.declared.Ran.{Ran}
+use Rattle.run.specs.declared.Ran.the-variants as ran
 
 -- the ten lent columns
 pub record Columns : Type 0 where
@@ -99,31 +95,3 @@ abbrev pub ranBy : Valued → lists.Counts → ℕ → Ran
 ranBy (valued.At used) n objects =
     ran.Done (record { objects = objects; collected = n .collected; rows = n .rows; entries = n .entries; plain = n .plain; sources = used })
 ranBy (valued.Refused y) n objects = ran.Refused y
-
-abbrev pub countsGiven : Ran → Counts
-countsGiven (ran.Done n) = n
-countsGiven (ran.Refused y) = record { objects = 0; collected = 0; rows = 0; entries = 0; plain = 0; sources = 0 }
-
-abbrev pub answerGiven : Ran → Answer
-answerGiven (ran.Done n) = answer.Done
-answerGiven (ran.Refused y) = answer.Refused y
-
--- what a call gives back, with the columns as they are then
-abbrev pub resultOf : Outcome → List (List ℕ) → Columns → Result
-resultOf r st c =
-    record {
-      number = r .number;
-      place = r .place;
-      counts = record { collected = r .collected; rows = r .rows; entries = r .entries; plain = r .plain; sources = r .sources };
-      states = st;
-      collected = c .collected;
-      collectedValues = c .collectedValues;
-      rows = c .rows;
-      bases = c .bases;
-      values = c .values;
-      entries = c .entries;
-      entryValues = c .entryValues;
-      plain = c .plain;
-      sources = c .sources;
-      sourceFloats = c .sourceFloats;
-    }

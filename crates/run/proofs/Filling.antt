@@ -1,23 +1,19 @@
 -- What the parts of a run ask for and give: the rooms, the lists, the values.
 use Prim.Native.Nat.{ℕ, _≤_, _<_, _^_, min}
 use native.Mathlib.Omega.{arith}
-use mathlib.Core.Path.{_≡_, refl, sym, ap, _∙_, subst}
+use mathlib.Core.Path.{_≡_, sym, ap, _∙_, subst}
 use mathlib.Core.Bool.{Bool}
 use mathlib.Core.List.{List}
 use lib.Dec.{eqb}
 use lib.ListN.{length}
-use Rattle.rules.specs.Answer.{Res, ok, refused}
-use Rattle.rules.specs.Bytes.{countOf, u32At, pairsOf}
+use Rattle.rules.specs.Answer.{ok, refused}
+use Rattle.rules.specs.Bytes.{countOf, u32At}
 use Rattle.rules.specs.Sheet.{Book, Fit, bookOf, fitOf}
-use Rattle.rules.specs.Shape.{badShape}
-use Rattle.rules.specs.Outcome.{Done, Rooms, worldOf, startsOf, blank, valued, run, roomsOf, counted, rowsIn}
+use Rattle.rules.specs.Outcome.{Rooms, worldOf, startsOf, blank, valued, run, roomsOf, counted, rowsIn}
 use Rattle.rules.specs.declared.Refusal.{Refusal}
-use Rattle.info.specs.Sound.{SoundBook, SoundFit}
+use Rattle.info.specs.Sound.{SoundFit}
 use Rattle.info.proofs.Elements.{objects-length}
 use Rattle.states.specs.Raised.{rowsOf}
-use Rattle.shape.specs.Shaped.{shapedOf}
-use Rattle.shape.specs.declared.Shaped.the-variants as shaped
-use Rattle.shape.proofs.Shapes.{sound-book, sound-fit}
 use Rattle.lists.specs.Listing.{listsIn, RoomsOf, Lent, CountsOf, AllLaid, ListedAs, RowsWithin}
 use Rattle.lists.specs.declared.Counts as lists
 use Rattle.lists.specs.declared.Rooms as given
@@ -27,10 +23,10 @@ use Rattle.prepared.proofs.Taken.{few-objects}
 use Rattle.walk.specs.declared.Valued.{Valued}
 use Rattle.values.specs.Setting as values
 use Rattle.values.specs.Setting.{SetAs}
-use Rattle.calculate.specs.Filled.{Columns, lentOf, RanAs, ranBy}
-use Rattle.calculate.specs.declared.Ran.{Ran}
-use Rattle.calculate.specs.declared.Ran.the-variants as ran
-use Rattle.calculate.proofs.Joining.{refused-as, lists-refused, ran-as}
+use Rattle.run.specs.Filled.{Columns, lentOf, RanAs, ranBy}
+use Rattle.run.specs.declared.Ran.{Ran}
+use Rattle.run.specs.declared.Ran.the-variants as ran
+use Rattle.run.proofs.Joining.{refused-as, lists-refused, ran-as}
 
 -- ---- rooms
 
@@ -137,7 +133,3 @@ module _ (b : List ℕ) (p : List (List ℕ)) (sf : SoundFit b p) (c₀ c : Colu
         subst (λ (x : Ran). RanAs (run k f (roomsOf (lentOf c₀))) x st c₀ c) (sym a)
         (ran-as k f (roomsOf (lentOf c₀)) (by-lists .0) c₀ c st n objects (by-lists .1) (by-lists .2) S (o ∙ sym (objects-length b p)) (few-objects b p sf) v
         (subst (λ (x : ℕ). SetAs (rowsIn k f) (valued (worldOf k f x) (f .depth) (startsOf f (rowsIn k f)) (blank (rowsIn k f))) v (c₀ .rows) (c .rows) (c₀ .values) (c .values) (c₀ .sources) (c .sources) (c₀ .sourceFloats) (c .sourceFloats)) g w))
-
--- a sound sheet's tables, with the pairs as they were read
-pub sound-parts : (b : List ℕ) (p : List (List ℕ)) → shaped.Sound ≡ shapedOf (badShape b) → p ≡ pairsOf b → SoundBook b p × SoundFit b p
-sound-parts b p s e = (subst (λ (x : List (List ℕ)). SoundBook b x) (sym e) (sound-book b s), subst (λ (x : List (List ℕ)). SoundFit b x) (sym e) (sound-fit b s))

@@ -1,38 +1,28 @@
--- Lists 1 to 4 and the values together are a run; a run, or a bad table, is the outcome.
-use Prim.Native.Nat.{ℕ, _≤_, _<_, _^_, min}
+-- Lists 1 to 4 and the values together are a run.
+use Prim.Native.Nat.{ℕ, _≤_}
 use native.Mathlib.Omega.{arith}
-use mathlib.Core.Path.{_≡_, refl, sym, ap, _∙_, subst}
-use mathlib.Core.List.{List, [], map}
-use mathlib.Core.Option.{Option, none, some}
-use lib.Ieee.{Float}
+use mathlib.Core.Path.{_≡_, refl, sym, ap, _∙_}
+use mathlib.Core.List.{List, map}
+use mathlib.Core.Option.{none}
 use lib.ListN.{length, length-map}
 use Rattle.rules.specs.Answer.{Res, ok, refused, _>>=_}
-use Rattle.rules.specs.Bytes.{pairsOf}
-use Rattle.rules.specs.Sheet.{Book, Fit, bookOf, fitOf}
+use Rattle.rules.specs.Sheet.{Book, Fit}
 use Rattle.rules.specs.Collect.{moves, plainOf}
 use Rattle.rules.specs.Dispatch.{Row}
-use Rattle.rules.specs.Shape.{badShape}
 use Rattle.rules.specs.States.{statesOf}
 use Rattle.rules.specs.Value.{Mem}
-use Rattle.rules.specs.Outcome.{Lent, Done, Rooms, worldOf, startsOf, blank, valued, run, outcome, roomsOf, collectedIn, rowsIn}
+use Rattle.rules.specs.Outcome.{Done, Rooms, worldOf, startsOf, blank, valued, run, collectedIn, rowsIn}
 use Rattle.rules.specs.declared.Refusal.{Refusal}
-use Rattle.rules.specs.declared.Refusal.the-variants.{Shape}
 use Rattle.states.specs.Raised.{rowsOf}
-use Rattle.shape.specs.Shaped.{shapedOf}
-use Rattle.shape.specs.declared.Shaped.{Shaped}
-use Rattle.shape.specs.declared.Shaped.the-variants as shaped
-use Rattle.lists.specs.Listing.{listsIn, valuedIn, CountsOf, AllLaid, ListedAs, RowsWithin}
+use Rattle.lists.specs.Listing.{listsIn, valuedIn, CountsOf, AllLaid}
 use Rattle.lists.specs.declared.Counts as lists
-use Rattle.lists.specs.declared.Listed.{Listed}
-use Rattle.lists.specs.declared.Listed.the-variants as listed
 use Rattle.lists.proofs.Steps.{run-lists}
 use Rattle.whole.proofs.Starts.{valued-grows}
 use Rattle.walk.specs.declared.Valued.{Valued}
 use Rattle.walk.specs.declared.Valued.the-variants as got
 use Rattle.values.specs.Setting.{SetAs, Set}
-use Rattle.calculate.specs.Filled.{Columns, lentOf, Filled, RanAs, ranBy}
-use Rattle.calculate.specs.declared.Ran.{Ran}
-use Rattle.calculate.specs.declared.Ran.the-variants as ran
+use Rattle.run.specs.Filled.{Columns, Filled, RanAs, ranBy}
+use Rattle.run.specs.declared.Ran.the-variants as ran
 
 -- a refusal, wherever it is met
 pub refused-as : {s : Res Done} {x : Refusal} (st : List (List ℕ)) (c₀ c : Columns) → s ≡ refused x → RanAs s (ran.Refused x) st c₀ c
@@ -94,32 +84,3 @@ module _ (k : Book) (f : Fit) (q : Rooms) where
 
       pub ran-as : (x : Valued) → SetAs (rowsIn k f) memory x (c₀ .rows) (c .rows) (c₀ .values) (c .values) (c₀ .sources) (c .sources) (c₀ .sourceFloats) (c .sourceFloats) → RanAs (run k f q) (ranBy x n objects) st c₀ c
       ran-as x v = by-memory memory x refl v
-
--- ---- any bytes
-
-module _ (b : List ℕ) (l : Lent) where
-  abbrev decided : Option ℕ → Res Done
-  decided o = elim o [ some t ↦ refused (Shape t) | none ↦ run (bookOf b (pairsOf b)) (fitOf b (pairsOf b)) (roomsOf l) ]
-
-  by-table : {o : Option ℕ} → badShape b ≡ o → outcome b l ≡ decided o
-  unfolding outcome
-  by-table e = ap decided e
-
-  bad-table : (o : Option ℕ) (t : ℕ) → shaped.Bad t ≡ shapedOf o → o ≡ some t
-  bad-table none t e = absurd (let z : _≡_ {A = ℕ} 0 1 = cc in omega arith)
-  bad-table (some x) t e = cc
-
-  no-table : (o : Option ℕ) → shaped.Sound ≡ shapedOf o → o ≡ none
-  no-table none e = refl
-  no-table (some x) e = absurd (let z : _≡_ {A = ℕ} 0 1 = cc in omega arith)
-
-  pub bad : (t : ℕ) → shaped.Bad t ≡ shapedOf (badShape b) → outcome b l ≡ refused (Shape t)
-  bad t e = by-table (bad-table (badShape b) t e)
-
-  pub sound : shaped.Sound ≡ shapedOf (badShape b) → outcome b l ≡ run (bookOf b (pairsOf b)) (fitOf b (pairsOf b)) (roomsOf l)
-  sound e = by-table (no-table (badShape b) e)
-
-pub sound-as : (b : List ℕ) (c₀ c : Columns) (st : List (List ℕ)) (r : Ran) (p : List (List ℕ)) → shaped.Sound ≡ shapedOf (badShape b) → p ≡ pairsOf b → RanAs (run (bookOf b p) (fitOf b p) (roomsOf (lentOf c₀))) r st c₀ c → RanAs (outcome b (lentOf c₀)) r st c₀ c
-sound-as b c₀ c st r p e h g =
-    let w : run (bookOf b p) (fitOf b p) (roomsOf (lentOf c₀)) ≡ outcome b (lentOf c₀) = ap (λ (x : List (List ℕ)). run (bookOf b x) (fitOf b x) (roomsOf (lentOf c₀))) h ∙ sym (sound b (lentOf c₀) e) in
-    subst (λ (s : Res Done). RanAs s r st c₀ c) w g
