@@ -2,6 +2,7 @@
 """Slips put into the reference one at a time: each must be seen by the sheets that are made.
 
 Usage: slips.py SEED [MOST [FILE]]: for each slip the first sheets, up to MOST, of 10,000 in which it shows; their names go to FILE.
+One that shows in none is looked for among the kept sheets.
 """
 import pathlib
 import sys
@@ -12,6 +13,7 @@ import reference
 import sampled
 
 SOURCE = (pathlib.Path(__file__).resolve().parent / "reference.py").read_text()
+CASES = pathlib.Path(__file__).resolve().parent.parent / "cases"
 
 SLIPS = [
     # the four that look right
@@ -260,6 +262,18 @@ def stream(seed, count):
         yield kind, n, data, rooms, shown(reference, data, rooms)
 
 
+def kept_sheets():
+    """The kept sheets with their lent lengths (cases/kept.bin)."""
+    sys.path.insert(0, str(CASES))
+    import check_kept
+    blob, at, number = (CASES / "kept.bin").read_bytes(), 0, 0
+    while at < len(blob):
+        case = check_kept.Kept(blob, at)
+        rooms = sampled.rooms(case.lent)
+        yield "kept", number, case.data, rooms, shown(reference, case.data, rooms)
+        at, number = case.end, number + 1
+
+
 def seen_in(module, sheets, most):
     """The first sheets in which the slip shows."""
     found = []
@@ -277,15 +291,19 @@ def seen_in(module, sheets, most):
 
 def main():
     seed, most = sys.argv[1], int(sys.argv[2]) if len(sys.argv) > 2 else 1
-    sheets = list(stream(seed, 10000))
-    wrong, chosen = [], set()
+    sheets, kept = list(stream(seed, 10000)), list(kept_sheets())
+    wrong, chosen, by_kept = [], set(), []
     for name, old, new in SLIPS:
-        found = seen_in(slipped(name, old, new), sheets, most)
+        module = slipped(name, old, new)
+        found = seen_in(module, sheets, most)
+        if not found:
+            found = seen_in(module, kept, most)
+            by_kept += [name] if found else []
         if (not found) != (name in SAME):
             wrong.append(name)
         chosen |= {(kind, n) for _, kind, n in found}
         print(f"{name}: {', '.join(f'sheet {at} ({kind} {n})' for at, kind, n in found) or 'not seen'}", flush=True)
-    print(f"{len(SLIPS)} slips, {len(chosen)} sheets, unexpected: {wrong}")
+    print(f"{len(SLIPS) - len(SAME)} slips, {len(chosen)} sheets, by kept sheets alone: {by_kept}, unexpected: {wrong}")
     if len(sys.argv) > 3:
         pathlib.Path(sys.argv[3]).write_text("".join(f"{kind} {n}\n" for kind, n in sorted(chosen)))
     sys.exit(bool(wrong))
