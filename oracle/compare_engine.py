@@ -1,7 +1,7 @@
 #!/usr/bin/env python3
 """Holds the engine against the oracle, bit for bit, on many sheets.
 
-Usage: compare_engine.py [--seed SEED] [--workers N] [--reference EVERY] [--emulated] [--listing COUNT] [KIND=COUNT ..]
+Usage: compare_engine.py [--seed SEED] [--workers N] [--reference EVERY] [--emulated] [--part K/N] [--listing COUNT] [KIND=COUNT ..]
 
 Each sheet is run twice: with lists that are long enough, often to the row, and with some that are short. What is expected is the
 guarded oracle's answer; SHAPE, which the Rust does not have, is the reference's; and of every EVERYth sheet the reference's whole
@@ -10,6 +10,7 @@ the same: number, place, counts, states, all fields of all lists, floats by thei
 Without a KIND: a million sheets, as MILLION has them. The library is the one that library/build gives for this machine; with
 --emulated it is the shipped one for x86-64, under the kit's emulator where needed. --listing COUNT: the program target/bin/sheet
 on the cases, inputs at its buffer's edge and COUNT sheets of each kind, whole and in pieces, its text against the reference's listing. Sheets that differ go to target/compare.
+--part K/N: the Kth of N shares of the same sheets, with a report on all shares of this library that have been run.
 """
 import argparse
 import collections
@@ -17,6 +18,7 @@ import hashlib
 import multiprocessing
 import os
 import pathlib
+import pickle
 import platform
 import random
 import struct
@@ -133,6 +135,37 @@ def told(text):
     return [int(word) for word in words[2:]], b" ".join(words[:2] + [b"0"] * 5) + b"\n" + rest
 
 
+# ---- edges
+
+def overlap(ranges):
+    """Whether two ranges that are not empty, each a first and a count, have an element in common."""
+    some = sorted((first, first + count) for first, count in ranges if count > 0)
+    return any(b[0] < a[1] for a, b in zip(some, some[1:]))
+
+
+def edges_of(data, bad):
+    """What a sheet has of ranges that overlap, and of a byte too few or too many."""
+    if bad == 0:
+        return [name for name, other in (("a byte short", data + b"\0"), ("a byte more", data[:-1])) if reference.header_good(other)]
+    if bad is not None:
+        return []
+    _, effects, _, _, collections, objects, _, _, _, _ = reference.tables_of(data)
+    ranges = {"modifiers": [r[4:6] for r in effects] + [r[2:4] for r in collections], "bases": [r[11:13] for r in objects],
+              "ids": [part for r in objects for part in (r[13:15], r[15:17])]}
+    return [f"overlapping ranges of {name}" for name, some in ranges.items() if overlap(some)]
+
+
+def edges_of_run(lent, reached, text):
+    """Which lists are full to the row in a run that is done, and which was one row short."""
+    number, place, *counts = (int(word) for word in text.split(b"\n", 1)[0].split())
+    rooms = sampled.rooms(lent)
+    if number == 0:
+        return [f"list {k + 1} full to the row" for k in range(5) if counts[k] == rooms[k] > 0]
+    if number == 7 and rooms[place - 1] + 1 == reached[place - 1]:
+        return [f"list {place} a row short"]
+    return []
+
+
 # ---- a batch
 
 class Clock:
@@ -146,7 +179,7 @@ class Clock:
 
 
 def expected(kind, seed, numbers, sheets, bad, clock):
-    """Two lent lengths for each sheet, and the answers."""
+    """Two lent lengths for each sheet, the answers, and the rows that ample lists would take."""
     r = random.Random(f"engine lent {kind} {seed} {numbers[0]}")
     good = [at for at in range(len(sheets)) if bad[at] is None]
     shapes = [f"1 {place} 0 0 0 0 0\n".encode() if place is not None else None for place in bad]
@@ -155,7 +188,7 @@ def expected(kind, seed, numbers, sheets, bad, clock):
         lents = [[[r.choice([0, 1, 5, 100, 5000, 70000])] * 10 if r.random() < 0.3 else [r.choice([5, 100, 5000, 70000]) for _ in range(10)] for _ in sheets] for _ in range(2)]
         answers = [[told(text)[1] for text in ask_oracle(sheets, [sampled.rooms(lent) for lent in some])] for some in lents]
         clock.note("oracle")
-        return lents, answers
+        return lents, answers, [[0] * 5 for _ in sheets]
     first = {at: told(text) for at, text in zip(good, ask_oracle([sheets[at] for at in good], [AMPLE] * len(good)))}
     clock.note("oracle")
     anything = lambda: [r.choice([0, 1, 7, 60]) for _ in range(10)]
@@ -166,7 +199,7 @@ def expected(kind, seed, numbers, sheets, bad, clock):
     clock.note("oracle")
     answers = [[first[at][1] if at in first else shapes[at] for at in range(len(sheets))],
                [told(second[at])[1] if at in second else shapes[at] for at in range(len(sheets))]]
-    return [long, less], answers
+    return [long, less], answers, [first[at][0] if at in first else [0] * 5 for at in range(len(sheets))]
 
 
 def keep(kind, seed, n, what, data, lent, theirs, ours):
@@ -182,7 +215,7 @@ def batch(job):
     sheets = [make_sheets.sheet(kind, seed, n) for n in numbers]
     clock.note("make")
     bad = [shape_of(data) for data in sheets]
-    lents, answers = expected(kind, seed, numbers, sheets, bad, clock)
+    lents, answers, reached = expected(kind, seed, numbers, sheets, bad, clock)
     runs = [(n, "enough", data, lent, text) for n, data, lent, text in zip(numbers, sheets, lents[0], answers[0])]
     runs += [(n, "short", data, lent, text) for n, data, lent, text in zip(numbers, sheets, lents[1], answers[1])]
     clock.note("lengths")
@@ -199,6 +232,10 @@ def batch(job):
     clock.note("reference")
     found = ask_engine(words, [run[2] for run in runs], [run[3] for run in runs], start)
     clock.note("engine")
+    edges = collections.Counter(edge for data, place in zip(sheets, bad) for edge in edges_of(data, place))
+    for some, texts in zip(lents, answers):
+        edges.update(edge for lent, need, text in zip(some, reached, texts) for edge in edges_of_run(lent, need, text))
+    clock.note("edges")
     status, rows = collections.Counter(), collections.Counter()
     for (n, what, data, lent, theirs), ours in zip(runs, found):
         status[what, int(theirs.split(b" ", 1)[0])] += 1
@@ -209,7 +246,7 @@ def batch(job):
             if len(differ) <= 5:
                 keep(kind, seed, n, what, data, lent, theirs, ours)
     clock.note("compare")
-    return kind, len(sheets), len(held), status, rows, differ, clock.spent
+    return kind, len(sheets), len(held), status, rows, differ, clock.spent, edges
 
 
 # ---- the program
@@ -271,6 +308,21 @@ def listings(kinds, seed, count):
     return differ
 
 
+# ---- shares
+
+def shares(driver, given, kinds, share, counters):
+    """The counters of all shares of this library, seed and kinds so far; none is counted twice."""
+    name = f"{pathlib.Path(driver).name} {given.seed} {given.reference} {kinds} {given.part.split('/')[1]}"
+    file = PLACE / f"shares-{hashlib.sha256(name.encode()).hexdigest()[:12]}.pickle"
+    done, before = pickle.loads(file.read_bytes()) if file.exists() else (set(), [])
+    if share in done:
+        sys.exit(f"share {given.part} was counted before: {file.relative_to(ROOT)}")
+    for counter, old in zip(counters, before):
+        counter.update(old)
+    file.write_bytes(pickle.dumps((done | {share}, counters)))
+    print(f"\nShares {sorted(done | {share})} of {given.part.split('/')[1]}:")
+
+
 def library_text(emulated):
     if os.environ.get("DOGMA_LIBRARY"):
         return "an archive that was given, and may be anything"
@@ -289,7 +341,7 @@ def report(kinds, totals, status, rows, held, spent, seed, differ, wall):
     print("|---" * 13 + "|")
     for kind in kinds:
         print(f"| {kind} {totals[kind]:,} | {held[kind]:,} | {sum(runs[kind, k] for k in range(10)):,} | " + " | ".join(f"{runs[kind, k]:,}" for k in range(10)) + " |")
-    print("\nSeconds of processor time by part: " + ", ".join(f"{part} {spent[part]:.0f}" for part in ("make", "shape", "lengths", "oracle", "reference", "engine", "compare")) + ".")
+    print("\nSeconds of processor time by part: " + ", ".join(f"{part} {spent[part]:.0f}" for part in ("make", "shape", "lengths", "oracle", "reference", "engine", "edges", "compare")) + ".")
 
 
 def main():
@@ -299,6 +351,7 @@ def main():
     arguments.add_argument("--reference", type=int, default=20, metavar="EVERY")
     arguments.add_argument("--emulated", action="store_true")
     arguments.add_argument("--listing", type=int, default=0, metavar="COUNT")
+    arguments.add_argument("--part", default="1/1", metavar="K/N")
     arguments.add_argument("kinds", nargs="*", metavar="KIND=COUNT")
     given = arguments.parse_args()
     kinds = {k: int(n) for k, n in (word.split("=") for word in given.kinds)} or MILLION
@@ -312,23 +365,30 @@ def main():
     for kind, count in kinds.items():
         size = BATCH.get(kind, 1000)
         jobs += [(words, kind, given.seed, start, min(start + size, count), given.reference) for start in range(0, count, size)]
-    totals, status, rows, held, spent, differ = (collections.Counter() for _ in range(6))
+    totals, status, rows, held, spent, differ, edges = (collections.Counter() for _ in range(7))
+    share, of = map(int, given.part.split("/"))
+    jobs = jobs[share - 1::of]
     started = said = time.time()
     with multiprocessing.Pool(given.workers) as pool:
-        for kind, count, some, numbers, lines, differing, seconds in pool.imap_unordered(batch, jobs):
+        for kind, count, some, numbers, lines, differing, seconds, at_edges in pool.imap_unordered(batch, jobs):
             totals[kind] += count
             held[kind] += some
             status.update({(kind, *key): value for key, value in numbers.items()})
             rows.update(lines)
             spent.update(seconds)
+            edges.update(at_edges)
             differ[kind] += len(differing)
             for line in differing[: max(0, 20 - sum(differ.values()) + len(differing))]:
                 print(line, flush=True)
             if time.time() - said > 60:
                 said = time.time()
                 print(f"{sum(totals.values()):,} sheets, {sum(differ.values())} differences, {said - started:.0f} s", flush=True)
+    wall = collections.Counter(seconds=time.time() - started)
+    if of > 1:
+        shares(words[-1], given, kinds, share, [totals, status, rows, held, spent, differ, edges, wall])
     print(f"\nOn {platform.machine()}: {library_text(given.emulated)}.")
-    report(kinds, totals, status, rows, held, spent, given.seed, sum(differ.values()), time.time() - started)
+    report(kinds, totals, status, rows, held, spent, given.seed, sum(differ.values()), wall["seconds"])
+    print("Of them: " + ", ".join(f"{name} {count:,}" for name, count in sorted(edges.items())) + ".")
     sys.exit(sum(differ.values()) > 0)
 
 
