@@ -1,7 +1,7 @@
 -- Any bytes with any lists lent have one answer of ten, and one result; after a refusal every list is empty.
 use Prim.Native.Nat.{ℕ, _<_}
 use native.Mathlib.Omega.{arith}
-use mathlib.Core.Path.{_≡_, refl, sym, subst, _∙_}
+use mathlib.Core.Path.{_≡_, refl, sym, ap, subst, _∙_}
 use mathlib.Core.List.{List}
 use Rattle.laws.proofs.Laid.{column-none}
 use Rattle.rules.specs.Answer.{Res, ok, refused, number, place, answerOf}
@@ -12,7 +12,7 @@ use Rattle.rules.specs.declared.Answer.the-variants as answer
 use Rattle.rules.specs.declared.Refusal.{Refusal}
 use Rattle.rules.specs.declared.Refusal.the-variants.{Shape, Func, Domain, Category, Operation, Other, Room, Number, Depth}
 use Rattle.promises.specs.Result.{Result, Meets}
-use Rattle.promises.specs.Zeros.{Zeros, Answered, is-done, is-refused}
+use Rattle.promises.specs.Zeros.{Zeros, Answered, is-done, is-refused, Empty}
 
 empty : (x : Refusal) (l : Lent) → Zeros (refused x) l
 unfolding collectedColumn collectedValueColumn rowColumn baseColumn valueColumn entryColumn entryValueColumn plainColumn sourceColumn sourceFloatColumn stateColumn
@@ -62,6 +62,29 @@ ten (answer.Refused (Depth p)) = omega arith
 module _ (b : List ℕ) (l : Lent) where
   pub one-of-ten : (r : Result) → Meets b l r → r .number < 10
   one-of-ten r m = subst (λ (n : ℕ). n < 10) (sym (m .by-number)) (ten (answerOf (outcome b l)))
+
+  empty-by : (o : Res Done) → outcome b l ≡ o → (r : Result) → Meets b l r → (r .number ≡ 0 → ⊥) → Empty l r
+  empty-by (ok d) e r m h = absurd (h (m .by-number ∙ ap (λ (o : Res Done). number (answerOf o)) e))
+  empty-by (refused x) e r m h =
+      let z = refused-is-zero b l x e in
+      record {
+        counts = m .by-counts ∙ z .counts;
+        states = m .by-states ∙ z .states;
+        collected = m .by-collected ∙ z .collected;
+        collectedValues = m .by-collectedValues ∙ z .collectedValues;
+        rows = m .by-rows ∙ z .rows;
+        bases = m .by-bases ∙ z .bases;
+        values = m .by-values ∙ z .values;
+        entries = m .by-entries ∙ z .entries;
+        entryValues = m .by-entryValues ∙ z .entryValues;
+        plain = m .by-plain ∙ z .plain;
+        sources = m .by-sources ∙ z .sources;
+        sourceFloats = m .by-sourceFloats ∙ z .sourceFloats;
+      }
+
+  -- demand 1: a result that is refused has nothing but zeros
+  pub refused-is-empty : (r : Result) → Meets b l r → (r .number ≡ 0 → ⊥) → Empty l r
+  refused-is-empty = empty-by (outcome b l) refl
 
   abbrev the-one : Result
   the-one =
