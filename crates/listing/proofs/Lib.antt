@@ -5,3 +5,4 @@ pub mod Decimals
 pub mod Texts
 pub mod Lengths
 pub mod Wholes
+pub mod Blocks

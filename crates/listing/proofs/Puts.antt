@@ -1,12 +1,12 @@
 -- Texts put one after another, where they end, and what stands there then.
 use Prim.Native.Nat.{ℕ, suc, _+_, _≤_, _<_}
-use native.Mathlib.Nat.{add-zero, zero-add}
+use native.Mathlib.Nat.{add-zero}
 use native.Mathlib.Numerals.{add-one}
 use native.Mathlib.Omega.{arith}
 use mathlib.Core.Path.{_≡_, refl, sym, ap, _∙_}
 use mathlib.Core.List.{List, [], _∷_, _++_}
-use lib.ListN.{length, set, take, getD, length-append}
-use lib.Seq.{sets, sets-eq, length-sets, take-append-seam, take-all}
+use lib.ListN.{length, set, take, drop, getD, length-append}
+use lib.Seq.{sets, sets-eq, length-sets, length-take-le, take-at, take-all}
 use Rattle.laws.proofs.Maps.{take-next}
 use Rattle.listing.specs.Put.{Put, put, puts}
 
@@ -51,6 +51,10 @@ module _ (xs : List ℕ) (at : ℕ) (out : List ℕ) {r : ℕ} {now : List ℕ} 
   pub as-long : length now ≡ length out
   as-long = ap length becomes ∙ length-sets out at xs
 
+  -- and that it ends within so many bytes
+  pub bounded : (k : ℕ) → length xs ≤ k → (put r now ≡ puts xs (put at out)) × (r ≤ at + k)
+  bounded k h = (e, omega (arith, ends, h))
+
 -- room for a text and the next is room for the next, once the first stands
 module _ (xs ys : List ℕ) (at : ℕ) (out : List ℕ) (h : at + length (xs ++ ys) ≤ length out) where
   pub room : at + length xs ≤ length out
@@ -82,7 +86,10 @@ module _ (text : List ℕ) (at : ℕ) (out : List ℕ) where
   unfolding puts
   put-none = ap (λ (k : ℕ). put k out) (add-zero at)
 
--- a text put from the front stands there
-pub stands : (xs out : List ℕ) {r : ℕ} {now : List ℕ} → length xs ≤ length out → put r now ≡ puts xs (put 0 out) → take r now ≡ xs
-stands xs out {r} {now} h e =
-    rw (ends xs 0 out e, zero-add, becomes xs 0 out e, sets-eq xs out 0 (rw zero-add h)) (take-append-seam xs _)
+-- a text put behind others stands behind them
+pub grows : (xs : List ℕ) (at : ℕ) (out : List ℕ) {r : ℕ} {now : List ℕ} → at ≤ length out → r ≤ length out → put r now ≡ puts xs (put at out) → take r now ≡ take at out ++ xs
+grows xs at out {r} {now} a h e =
+    let n : r ≡ at + length xs = ends xs at out e in
+    let k : at + length xs ≤ length out = omega (arith, n, h) in
+    ap (take r) (becomes xs at out e ∙ sets-eq xs out at k)
+    ∙ take-at (take at out ++ xs) (drop (at + length xs) out) r (length-append (take at out) xs ∙ ap (λ (m : ℕ). m + length xs) (length-take-le at out a) ∙ sym n)

@@ -6,6 +6,7 @@ ghost use Prim.Native.Nat.{_+_, _≤_, _<_};
 ghost use lib.ListN.{length};
 ghost use Rattle.rules.specs.Listing as L;
 ghost use Rattle.rules.specs.Listing.{natural, integer, minusIf, decimals, listing};
+ghost use Rattle.rules.specs.Number.{hundredthsOf};
 ghost use Rattle.rules.specs.Answer as answer;
 ghost use Rattle.rules.specs.Answer.{refused};
 ghost use Rattle.rules.specs.Dispatch.{Row};
@@ -13,7 +14,7 @@ ghost use Rattle.listing.specs.Put.{put, puts};
 ghost use Rattle.rules.specs.declared.Hundredths.the-variants.{Cut};
 ghost use Rattle.rules.specs.declared.Refusal.{Refusal};
 ghost use Rattle.rules.specs.declared.Answer.the-variants.{Refused};
-ghost use Rattle.listing.specs.Pieces.{longest, headOf};
+ghost use Rattle.listing.specs.Pieces.{longest, longestRefusal, headOf};
 use numbers::bits;
 use numbers::in_hundredths;
 use rules::Hundredths;
@@ -22,6 +23,7 @@ use rules::Hundredths;
 fn put_byte(out: &mut [u8], at: usize, x: u8) -> usize
     requires { ⌜ at < length (now out) ⌝ }
     ensures { λ r. ⌜ put r (now (out .exit)) ≡ puts (x ∷ []) (put at (now (out .entry))) ⌝ }
+    ensures { λ r. ⌜ r ≡ at + 1 ⌝ }
 {
     out[at] = x;
     at + 1
@@ -40,10 +42,29 @@ fn put_natural(out: &mut [u8], at: usize, n: u64) -> usize
     put_byte(out, next, digit)
 }
 
+// A number of 32 bits.
+fn put_u32(out: &mut [u8], at: usize, n: u32) -> usize
+    requires { ⌜ at + 10 ≤ length (now out) ⌝ }
+    ensures { λ r. ⌜ put r (now (out .exit)) ≡ puts (natural n) (put at (now (out .entry))) ⌝ }
+    ensures { λ r. ⌜ r ≤ at + 10 ⌝ }
+{
+    put_natural(out, at, n as u64)
+}
+
+// A number of 64 bits.
+fn put_u64(out: &mut [u8], at: usize, n: u64) -> usize
+    requires { ⌜ at + 20 ≤ length (now out) ⌝ }
+    ensures { λ r. ⌜ put r (now (out .exit)) ≡ puts (natural n) (put at (now (out .entry))) ⌝ }
+    ensures { λ r. ⌜ r ≤ at + 20 ⌝ }
+{
+    put_natural(out, at, n)
+}
+
 // A signed number.
 fn put_integer(out: &mut [u8], at: usize, x: i32) -> usize
-    requires { ⌜ at + length (integer x) ≤ length (now out) ⌝ }
+    requires { ⌜ at + 11 ≤ length (now out) ⌝ }
     ensures { λ r. ⌜ put r (now (out .exit)) ≡ puts (integer x) (put at (now (out .entry))) ⌝ }
+    ensures { λ r. ⌜ r ≤ at + 11 ⌝ }
 {
     let pattern = bits(x) as u64;
     if pattern < 0x8000_0000 {
@@ -89,10 +110,20 @@ fn put_hundredths(out: &mut [u8], at: usize, value: Hundredths) -> usize
     }
 }
 
+// A value with two decimals.
+fn put_value(out: &mut [u8], at: usize, value: f64) -> usize
+    requires { ⌜ at + 16 ≤ length (now out) ⌝ }
+    ensures { λ r. ⌜ put r (now (out .exit)) ≡ puts (decimals (hundredthsOf value)) (put at (now (out .entry))) ⌝ }
+    ensures { λ r. ⌜ r ≤ at + 16 ⌝ }
+{
+    put_hundredths(out, at, in_hundredths(value))
+}
+
 // Bytes as they are.
 fn put_text(out: &mut [u8], at: usize, text: &[u8]) -> usize
     requires { ⌜ at + length (now text) ≤ length (now out) ⌝ }
     ensures { λ r. ⌜ put r (now (out .exit)) ≡ puts (now (text .entry)) (put at (now (out .entry))) ⌝ }
+    ensures { λ r. ⌜ r ≡ at + length (now (text .entry)) ⌝ }
 {
     let mut i = 0;
     while i < text.len() {
@@ -104,12 +135,13 @@ fn put_text(out: &mut [u8], at: usize, text: &[u8]) -> usize
 }
 
 // The first line of a listing of so many rows.
-pub fn head(out: &mut [u8], at: usize, rows: u32) -> usize
+pub fn head(out: &mut [u8], at: usize, rows: u64) -> usize
     requires { ⌜ at + longest ≤ length (now out) ⌝ }
     ensures { λ r. ⌜ put r (now (out .exit)) ≡ puts (headOf rows) (put at (now (out .entry))) ⌝ }
+    ensures { λ r. ⌜ r ≤ at + longest ⌝ }
 {
     let count = put_text(out, at, b"rows ");
-    let end = put_natural(out, count, rows as u64);
+    let end = put_u64(out, count, rows);
     put_byte(out, end, b'\n')
 }
 
@@ -117,24 +149,25 @@ pub fn head(out: &mut [u8], at: usize, rows: u32) -> usize
 pub fn line(out: &mut [u8], at: usize, object: u32, id: i32, value: f64) -> usize
     requires { ⌜ at + longest ≤ length (now out) ⌝ }
     ensures { λ r. ⌜ ((row : Row) → row .object ≡ object → row .id ≡ id → put r (now (out .exit)) ≡ puts (L.line row value) (put at (now (out .entry)))) ⌝ }
+    ensures { λ r. ⌜ r ≤ at + longest ⌝ }
 {
-    let decimals = in_hundredths(value);
-    let space = put_natural(out, at, object as u64);
+    let space = put_u32(out, at, object);
     let attribute = put_byte(out, space, b' ');
     let space = put_integer(out, attribute, id);
     let number = put_byte(out, space, b' ');
-    let line_end = put_hundredths(out, number, decimals);
+    let line_end = put_value(out, number, value);
     put_byte(out, line_end, b'\n')
 }
 
 // The one line of a refusal.
-pub fn refusal(out: &mut [u8], at: usize, number: u32, place: u32) -> usize
-    requires { ⌜ at + longest ≤ length (now out) ⌝ }
+pub fn refusal(out: &mut [u8], at: usize, number: u64, place: u64) -> usize
+    requires { ⌜ at + longestRefusal ≤ length (now out) ⌝ }
     ensures { λ r. ⌜ ((x : Refusal) → answer.number (Refused x) ≡ number → answer.place (Refused x) ≡ place → put r (now (out .exit)) ≡ puts (listing (refused x)) (put at (now (out .entry)))) ⌝ }
+    ensures { λ r. ⌜ r ≤ at + longestRefusal ⌝ }
 {
     let first = put_text(out, at, b"refused ");
-    let space = put_natural(out, first, number as u64);
+    let space = put_u64(out, first, number);
     let second = put_byte(out, space, b' ');
-    let end = put_natural(out, second, place as u64);
-    put_byte(out, end, b'\n')
+    let last = put_u64(out, second, place);
+    put_byte(out, last, b'\n')
 }

@@ -3,22 +3,45 @@
 use borrow.Author.Needs.{needs}
 use Rattle.listing.proofs.head.Statement.{statement}
 use Rattle.listing.proofs.head.Tie as tie
+use Rattle.listing.proofs.head.Reads as reads
+use Rattle.listing.proofs.head.Lts as lts
+use Rattle.listing.proofs.put_byte.Reads as put-byte-reads
+use Rattle.listing.proofs.put_text.Reads as put-text-reads
+use Rattle.listing.proofs.put_u64.Reads as put-u64-reads
+use native.Mathlib.Omega.{arith}
 use mathlib.Core.List.{[], _∷_}
 use Rattle.rules.specs.Listing.{natural}
 use Rattle.listing.specs.Put.{put}
 use Rattle.listing.specs.Pieces.{headOf}
-use Rattle.listing.proofs.Puts.{after, room, room-after, room-byte}
+use Rattle.listing.proofs.Puts.{after}
 use Rattle.listing.proofs.Texts.{rowsWord, ended}
-use Rattle.listing.proofs.Lengths.{head-room}
+
+slice-aggregate-put-text : tie.Need-slice-aggregate-put-text
+slice-aggregate-put-text c = search needs
+
+put-text-requires : tie.Need-put-text-requires
+put-text-requires c κs = omega (arith, c .before .before .before .pre)
+
+put-u64-requires : tie.Need-put-u64-requires
+put-u64-requires c κs = omega (arith, c .before .before .before .before .before .before .before .pre, c .before .before .before .put-text .ensures .1, c .before .before .before .put-text .kept .0)
+
+put-byte-requires : tie.Need-put-byte-requires
+put-byte-requires c κs = omega (arith, c .before .before .before .before .before .before .before .before .before .before .before .pre, c .before .before .before .before .before .before .before .put-text .ensures .1, c .before .before .before .before .before .before .before .put-text .kept .0, c .before .before .before .put-u64 .ensures .1, c .before .before .before .put-u64 .kept .0)
+
+same-length : tie.Need-same-length
+same-length c = search needs
+
+returns : tie.Need-returns
+unfolding headOf
+returns c = (after rowsWord (ended (c .before .before .before .before .before .before .before .before .before .before .before .before .before .before .args .rows)) (put (c .before .before .before .before .before .before .before .before .before .before .before .before .before .before .args .at) (c .before .before .before .before .before .before .before .before .before .before .before .before .before .before .args .out .now)) (c .before .before .before .before .before .before .before .before .before .before .put-text .ensures .0) (after (natural (c .before .before .before .before .before .before .before .before .before .before .before .before .before .before .args .rows)) (10 ∷ []) _ (c .before .before .before .before .before .before .put-u64 .ensures .0) (c .before .before .put-byte .ensures .0)), omega (arith, c .before .before .before .before .before .before .before .before .before .before .put-text .ensures .1, c .before .before .before .before .before .before .put-u64 .ensures .1, c .before .before .put-byte .ensures .1))
 
 pub head-spec : {M : Type 1} → statement M
-unfolding headOf
 head-spec =
     tie.close
     (tie.spec
-    (λ c. search needs)
-    (λ c κs. room rowsWord (ended (c .before .before .before .args .rows)) (c .before .before .before .args .at) (c .before .before .before .args .out .now) (head-room (c .before .before .before .args .rows) (c .before .before .before .args .at) _ (search needs) (c .before .before .before .pre)))
-    (λ c κs. room (natural (c .before .before .before .before .before .before .before .args .rows)) (10 ∷ []) (c .before .before .before .put-text .result) (c .before .before .before .put-text .last .0) (room-after rowsWord (ended (c .before .before .before .before .before .before .before .args .rows)) (c .before .before .before .before .before .before .before .args .at) (c .before .before .before .before .before .before .before .args .out .now) (head-room (c .before .before .before .before .before .before .before .args .rows) (c .before .before .before .before .before .before .before .args .at) _ (search needs) (c .before .before .before .before .before .before .before .pre)) (c .before .before .before .put-text .ensures)))
-    (λ c κs. room-byte 10 [] _ _ (room-after (natural (c .before .before .before .before .before .before .before .before .before .before .before .args .rows)) (10 ∷ []) _ _ (room-after rowsWord (ended (c .before .before .before .before .before .before .before .before .before .before .before .args .rows)) (c .before .before .before .before .before .before .before .before .before .before .before .args .at) (c .before .before .before .before .before .before .before .before .before .before .before .args .out .now) (head-room (c .before .before .before .before .before .before .before .before .before .before .before .args .rows) (c .before .before .before .before .before .before .before .before .before .before .before .args .at) _ (search needs) (c .before .before .before .before .before .before .before .before .before .before .before .pre)) (c .before .before .before .before .before .before .before .put-text .ensures)) (c .before .before .before .put-natural .ensures)))
-    (λ c. search needs)
-    (λ c. after rowsWord (ended (c .before .before .before .before .before .before .before .before .before .before .before .before .before .before .args .rows)) (put (c .before .before .before .before .before .before .before .before .before .before .before .before .before .before .args .at) (c .before .before .before .before .before .before .before .before .before .before .before .before .before .before .args .out .now)) (c .before .before .before .before .before .before .before .before .before .before .put-text .ensures) (after (natural (c .before .before .before .before .before .before .before .before .before .before .before .before .before .before .args .rows)) (10 ∷ []) _ (c .before .before .before .before .before .before .put-natural .ensures) (c .before .before .put-byte .ensures))))
+    slice-aggregate-put-text
+    put-text-requires
+    put-u64-requires
+    put-byte-requires
+    same-length
+    returns)

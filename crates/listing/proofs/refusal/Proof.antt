@@ -3,22 +3,51 @@
 use borrow.Author.Needs.{needs}
 use Rattle.listing.proofs.refusal.Statement.{statement}
 use Rattle.listing.proofs.refusal.Tie as tie
+use Rattle.listing.proofs.refusal.Reads as reads
+use Rattle.listing.proofs.refusal.Lts as lts
+use Rattle.listing.proofs.put_byte.Reads as put-byte-reads
+use Rattle.listing.proofs.put_text.Reads as put-text-reads
+use Rattle.listing.proofs.put_u64.Reads as put-u64-reads
+use native.Mathlib.Omega.{arith}
 use mathlib.Core.List.{[], _∷_}
 use Rattle.rules.specs.Listing.{natural}
 use Rattle.listing.specs.Put.{put}
-use Rattle.listing.proofs.Puts.{after, renamed, room, room-after, room-byte}
+use Rattle.listing.proofs.Puts.{after, renamed}
 use Rattle.listing.proofs.Texts.{refusedWord, numbered, ended, refusal-is}
-use Rattle.listing.proofs.Lengths.{refusal-room}
+
+slice-aggregate-put-text : tie.Need-slice-aggregate-put-text
+slice-aggregate-put-text c = search needs
+
+put-text-requires : tie.Need-put-text-requires
+put-text-requires c κs = omega (arith, c .before .before .before .pre)
+
+put-u64-requires : tie.Need-put-u64-requires
+put-u64-requires c κs = omega (arith, c .before .before .before .before .before .before .before .pre, c .before .before .before .put-text .ensures .1, c .before .before .before .put-text .kept .0)
+
+put-byte-requires : tie.Need-put-byte-requires
+put-byte-requires c κs = omega (arith, c .before .before .before .before .before .before .before .before .before .before .before .pre, c .before .before .before .before .before .before .before .put-text .ensures .1, c .before .before .before .before .before .before .before .put-text .kept .0, c .before .before .before .put-u64 .ensures .1, c .before .before .before .put-u64 .kept .0)
+
+put-u64-requires-2 : tie.Need-put-u64-requires-2
+put-u64-requires-2 c κs = omega (arith, c .before .before .before .before .before .before .before .before .before .before .before .before .before .before .before .pre, c .before .before .before .before .before .before .before .before .before .before .before .put-text .ensures .1, c .before .before .before .before .before .before .before .before .before .before .before .put-text .kept .0, c .before .before .before .before .before .before .before .put-u64 .ensures .1, c .before .before .before .before .before .before .before .put-u64 .kept .0, c .before .before .before .put-byte .ensures .1, c .before .before .before .put-byte .kept .0)
+
+put-byte-requires-2 : tie.Need-put-byte-requires-2
+put-byte-requires-2 c κs = omega (arith, c .before .before .before .before .before .before .before .before .before .before .before .before .before .before .before .before .before .before .before .pre, c .before .before .before .before .before .before .before .before .before .before .before .before .before .before .before .put-text .ensures .1, c .before .before .before .before .before .before .before .before .before .before .before .before .before .before .before .put-text .kept .0, c .before .before .before .before .before .before .before .before .before .before .before .put-u64 .ensures .1, c .before .before .before .before .before .before .before .before .before .before .before .put-u64 .kept .0, c .before .before .before .before .before .before .before .put-byte .ensures .1, c .before .before .before .before .before .before .before .put-byte .kept .0, c .before .before .before .put-u642 .ensures .1, c .before .before .before .put-u642 .kept .0)
+
+same-length : tie.Need-same-length
+same-length c = search needs
+
+returns : tie.Need-returns
+returns c = (λ x n p. renamed _ (refusal-is x n p) (after refusedWord (numbered (c .before .before .before .before .before .before .before .before .before .before .before .before .before .before .before .before .before .before .before .before .before .before .args .number) (c .before .before .before .before .before .before .before .before .before .before .before .before .before .before .before .before .before .before .before .before .before .before .args .place)) (put (c .before .before .before .before .before .before .before .before .before .before .before .before .before .before .before .before .before .before .before .before .before .before .args .at) (c .before .before .before .before .before .before .before .before .before .before .before .before .before .before .before .before .before .before .before .before .before .before .args .out .now)) (c .before .before .before .before .before .before .before .before .before .before .before .before .before .before .before .before .before .before .put-text .ensures .0) (after (natural (c .before .before .before .before .before .before .before .before .before .before .before .before .before .before .before .before .before .before .before .before .before .before .args .number)) (32 ∷ ended (c .before .before .before .before .before .before .before .before .before .before .before .before .before .before .before .before .before .before .before .before .before .before .args .place)) _ (c .before .before .before .before .before .before .before .before .before .before .before .before .before .before .put-u64 .ensures .0) (after (32 ∷ []) (ended (c .before .before .before .before .before .before .before .before .before .before .before .before .before .before .before .before .before .before .before .before .before .before .args .place)) _ (c .before .before .before .before .before .before .before .before .before .before .put-byte .ensures .0) (after (natural (c .before .before .before .before .before .before .before .before .before .before .before .before .before .before .before .before .before .before .before .before .before .before .args .place)) (10 ∷ []) _ (c .before .before .before .before .before .before .put-u642 .ensures .0) (c .before .before .put-byte2 .ensures .0))))), omega (arith, c .before .before .before .before .before .before .before .before .before .before .before .before .before .before .before .before .before .before .put-text .ensures .1, c .before .before .before .before .before .before .before .before .before .before .before .before .before .before .put-u64 .ensures .1, c .before .before .before .before .before .before .before .before .before .before .put-byte .ensures .1, c .before .before .before .before .before .before .put-u642 .ensures .1, c .before .before .put-byte2 .ensures .1))
 
 pub refusal-spec : {M : Type 1} → statement M
 refusal-spec =
     tie.close
     (tie.spec
-    (λ c. search needs)
-    (λ c κs. room refusedWord (numbered (c .before .before .before .args .number) (c .before .before .before .args .place)) (c .before .before .before .args .at) (c .before .before .before .args .out .now) (refusal-room (c .before .before .before .args .number) (c .before .before .before .args .place) (c .before .before .before .args .at) _ (search needs) (search needs) (c .before .before .before .pre)))
-    (λ c κs. room (natural (c .before .before .before .before .before .before .before .args .number)) (32 ∷ ended (c .before .before .before .before .before .before .before .args .place)) (c .before .before .before .put-text .result) (c .before .before .before .put-text .last .0) (room-after refusedWord (numbered (c .before .before .before .before .before .before .before .args .number) (c .before .before .before .before .before .before .before .args .place)) (c .before .before .before .before .before .before .before .args .at) (c .before .before .before .before .before .before .before .args .out .now) (refusal-room (c .before .before .before .before .before .before .before .args .number) (c .before .before .before .before .before .before .before .args .place) (c .before .before .before .before .before .before .before .args .at) _ (search needs) (search needs) (c .before .before .before .before .before .before .before .pre)) (c .before .before .before .put-text .ensures)))
-    (λ c κs. room-byte 32 (ended (c .before .before .before .before .before .before .before .before .before .before .before .args .place)) _ _ (room-after (natural (c .before .before .before .before .before .before .before .before .before .before .before .args .number)) (32 ∷ ended (c .before .before .before .before .before .before .before .before .before .before .before .args .place)) _ _ (room-after refusedWord (numbered (c .before .before .before .before .before .before .before .before .before .before .before .args .number) (c .before .before .before .before .before .before .before .before .before .before .before .args .place)) (c .before .before .before .before .before .before .before .before .before .before .before .args .at) (c .before .before .before .before .before .before .before .before .before .before .before .args .out .now) (refusal-room (c .before .before .before .before .before .before .before .before .before .before .before .args .number) (c .before .before .before .before .before .before .before .before .before .before .before .args .place) (c .before .before .before .before .before .before .before .before .before .before .before .args .at) _ (search needs) (search needs) (c .before .before .before .before .before .before .before .before .before .before .before .pre)) (c .before .before .before .before .before .before .before .put-text .ensures)) (c .before .before .before .put-natural .ensures)))
-    (λ c κs. room (natural (c .before .before .before .before .before .before .before .before .before .before .before .before .before .before .before .args .place)) (10 ∷ []) (c .before .before .before .put-byte .result) (c .before .before .before .put-byte .last .0) (room-after (32 ∷ []) (ended (c .before .before .before .before .before .before .before .before .before .before .before .before .before .before .before .args .place)) _ _ (room-after (natural (c .before .before .before .before .before .before .before .before .before .before .before .before .before .before .before .args .number)) (32 ∷ ended (c .before .before .before .before .before .before .before .before .before .before .before .before .before .before .before .args .place)) _ _ (room-after refusedWord (numbered (c .before .before .before .before .before .before .before .before .before .before .before .before .before .before .before .args .number) (c .before .before .before .before .before .before .before .before .before .before .before .before .before .before .before .args .place)) (c .before .before .before .before .before .before .before .before .before .before .before .before .before .before .before .args .at) (c .before .before .before .before .before .before .before .before .before .before .before .before .before .before .before .args .out .now) (refusal-room (c .before .before .before .before .before .before .before .before .before .before .before .before .before .before .before .args .number) (c .before .before .before .before .before .before .before .before .before .before .before .before .before .before .before .args .place) (c .before .before .before .before .before .before .before .before .before .before .before .before .before .before .before .args .at) _ (search needs) (search needs) (c .before .before .before .before .before .before .before .before .before .before .before .before .before .before .before .pre)) (c .before .before .before .before .before .before .before .before .before .before .before .put-text .ensures)) (c .before .before .before .before .before .before .before .put-natural .ensures)) (c .before .before .before .put-byte .ensures)))
-    (λ c κs. room-byte 10 [] _ _ (room-after (natural (c .before .before .before .before .before .before .before .before .before .before .before .before .before .before .before .before .before .before .before .args .place)) (10 ∷ []) _ _ (room-after (32 ∷ []) (ended (c .before .before .before .before .before .before .before .before .before .before .before .before .before .before .before .before .before .before .before .args .place)) _ _ (room-after (natural (c .before .before .before .before .before .before .before .before .before .before .before .before .before .before .before .before .before .before .before .args .number)) (32 ∷ ended (c .before .before .before .before .before .before .before .before .before .before .before .before .before .before .before .before .before .before .before .args .place)) _ _ (room-after refusedWord (numbered (c .before .before .before .before .before .before .before .before .before .before .before .before .before .before .before .before .before .before .before .args .number) (c .before .before .before .before .before .before .before .before .before .before .before .before .before .before .before .before .before .before .before .args .place)) (c .before .before .before .before .before .before .before .before .before .before .before .before .before .before .before .before .before .before .before .args .at) (c .before .before .before .before .before .before .before .before .before .before .before .before .before .before .before .before .before .before .before .args .out .now) (refusal-room (c .before .before .before .before .before .before .before .before .before .before .before .before .before .before .before .before .before .before .before .args .number) (c .before .before .before .before .before .before .before .before .before .before .before .before .before .before .before .before .before .before .before .args .place) (c .before .before .before .before .before .before .before .before .before .before .before .before .before .before .before .before .before .before .before .args .at) _ (search needs) (search needs) (c .before .before .before .before .before .before .before .before .before .before .before .before .before .before .before .before .before .before .before .pre)) (c .before .before .before .before .before .before .before .before .before .before .before .before .before .before .before .put-text .ensures)) (c .before .before .before .before .before .before .before .before .before .before .before .put-natural .ensures)) (c .before .before .before .before .before .before .before .put-byte .ensures)) (c .before .before .before .put-natural2 .ensures)))
-    (λ c. search needs)
-    (λ c. λ x n p. renamed _ (refusal-is x n p) (after refusedWord (numbered (c .before .before .before .before .before .before .before .before .before .before .before .before .before .before .before .before .before .before .before .before .before .before .args .number) (c .before .before .before .before .before .before .before .before .before .before .before .before .before .before .before .before .before .before .before .before .before .before .args .place)) (put (c .before .before .before .before .before .before .before .before .before .before .before .before .before .before .before .before .before .before .before .before .before .before .args .at) (c .before .before .before .before .before .before .before .before .before .before .before .before .before .before .before .before .before .before .before .before .before .before .args .out .now)) (c .before .before .before .before .before .before .before .before .before .before .before .before .before .before .before .before .before .before .put-text .ensures) (after (natural (c .before .before .before .before .before .before .before .before .before .before .before .before .before .before .before .before .before .before .before .before .before .before .args .number)) (32 ∷ ended (c .before .before .before .before .before .before .before .before .before .before .before .before .before .before .before .before .before .before .before .before .before .before .args .place)) _ (c .before .before .before .before .before .before .before .before .before .before .before .before .before .before .put-natural .ensures) (after (32 ∷ []) (ended (c .before .before .before .before .before .before .before .before .before .before .before .before .before .before .before .before .before .before .before .before .before .before .args .place)) _ (c .before .before .before .before .before .before .before .before .before .before .put-byte .ensures) (after (natural (c .before .before .before .before .before .before .before .before .before .before .before .before .before .before .before .before .before .before .before .before .before .before .args .place)) (10 ∷ []) _ (c .before .before .before .before .before .before .put-natural2 .ensures) (c .before .before .put-byte2 .ensures)))))))
+    slice-aggregate-put-text
+    put-text-requires
+    put-u64-requires
+    put-byte-requires
+    put-u64-requires-2
+    put-byte-requires-2
+    same-length
+    returns)
