@@ -45,29 +45,29 @@ module _ (from n : ℕ) (rows : List (List ℕ)) (values : List Float) where
 
   module _ {long : ℕ} {text : List ℕ} {end next : ℕ} (w : Lined long text end next) where
     -- one line more
-    pub one-more : {r : ℕ} {now : List ℕ} (i : ℤ) → next < n → end + longest ≤ long → length now ≡ length text → r ≤ end + longest → i ≡ toZ w32 (getD (getD rows next []) 1 0)
-        → ((row : Row) → row .object ≡ getD (getD rows next []) 0 0 → row .id ≡ i → put r now ≡ puts (line row (getD values next zeroF)) (put end text))
+    pub one-more : {r : ℕ} {now : List ℕ} (i : ℤ) (x : Float) → next < n → end + longest ≤ long → length now ≡ length text → r ≤ end + longest → i ≡ toZ w32 (getD (getD rows next []) 1 0)
+        → ((row : Row) → row .object ≡ getD (getD rows next []) 0 0 → row .id ≡ i → put r now ≡ puts (line row (getD values next x)) (put end text))
         → Lined long now r (next + 1)
-    one-more {r} {now} i h room k b z e =
+    one-more {r} {now} i x h room k b z e =
         record {
           even = k ∙ w .even;
           inside = omega (arith, b, room);
           behind = omega (arith, w .behind);
           within = omega (arith, h);
-          begun = λ x. absurd (omega (arith, x, w .behind));
+          begun = λ y. absurd (omega (arith, y, w .behind));
           goes-on = go;
         }
       where
         go : (d : Done) → Shown d n rows values → printed d from ++ take r now ≡ printed d (next + 1)
         go d s =
             let row : Row = getD (d .rows) next (record { object = 0; id = i; base = zeroF; entries = [] }) in
-            let v : Float = getD values next zeroF in
+            let v : Float = getD values next x in
             ap (λ (t : List ℕ). printed d from ++ t)
             (grows (line row v) end text (omega (arith, w .inside, w .even)) (omega (arith, b, room, w .even)) (e row (s .object next _ h) (s .id next _ h ∙ sym z)))
             ∙ sym (append-assoc (printed d from) (take end text) (line row v))
             ∙ ap (λ (t : List ℕ). t ++ line row v) (w .goes-on d s)
-            ∙ ap (λ (x : Float). printed d next ++ line row x) (sym (s .value next zeroF h))
-            ∙ sym (printed-next d next _ zeroF (omega (arith, h, s .count)) (omega (arith, h, s .valued)))
+            ∙ ap (λ (y : Float). printed d next ++ line row y) (sym (s .value next x h))
+            ∙ sym (printed-next d next _ x (omega (arith, h, s .count)) (omega (arith, h, s .valued)))
 
     -- all are printed, or the next one has no room
     pub all-lined : n ≤ next → Prints from n rows values text end next

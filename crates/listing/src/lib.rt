@@ -14,10 +14,14 @@ ghost use Rattle.listing.specs.Put.{put, puts};
 ghost use Rattle.rules.specs.declared.Hundredths.the-variants.{Cut};
 ghost use Rattle.rules.specs.declared.Refusal.{Refusal};
 ghost use Rattle.rules.specs.declared.Answer.the-variants.{Refused};
-ghost use Rattle.listing.specs.Pieces.{longest, longestRefusal, headOf};
+ghost use Rattle.listing.specs.Pieces.{longest, longestRefusal, headOf, Prints};
 use numbers::bits;
 use numbers::in_hundredths;
+use numbers::signed;
 use rules::Hundredths;
+
+// No line is longer.
+const LONGEST: usize = 40;
 
 // One byte.
 fn put_byte(out: &mut [u8], at: usize, x: u8) -> usize
@@ -170,4 +174,31 @@ pub fn refusal(out: &mut [u8], at: usize, number: u64, place: u64) -> usize
     let second = put_byte(out, space, b' ');
     let last = put_u64(out, second, place);
     put_byte(out, last, b'\n')
+}
+
+// Lines that stand at the front of a text: where they end, and the row after theirs.
+pub struct Block {
+    pub end: usize,
+    pub next: usize,
+}
+
+// The lines of the rows from one on, up to row n: as many as have room.
+pub fn lines(out: &mut [u8], rows: &[[u32; 6]], values: &[f64], from: usize, n: usize) -> Block
+    requires { ⌜ longest ≤ length (now out) ⌝ }
+    requires { ⌜ from ≤ n ⌝ }
+    requires { ⌜ (n ≤ length (now rows)) × (n ≤ length (now values)) ⌝ }
+    ensures { λ r. ⌜ Prints from n (now (rows .entry)) (now (values .entry)) (now (out .exit)) (r .end) (r .next) ⌝ }
+{
+    let mut end = 0;
+    let mut next = from;
+    while next < n {
+        if out.len() - end < LONGEST {
+            return Block { end, next };
+        }
+        let row = rows[next];
+        let value = values[next];
+        end = line(out, end, row[0], signed(row[1]), value);
+        next += 1;
+    }
+    Block { end, next }
 }
