@@ -1,0 +1,88 @@
+// The program: a sheet on standard input, its listing on standard output (01, "The listing").
+use libc::STDIN_FILENO;
+use libc::STDOUT_FILENO;
+use listing::head;
+use listing::lines;
+use listing::refusal;
+ghost use Prim.Native.Nat.{_≤_};
+ghost use lib.ListN.{length};
+
+// What was read: how many bytes, and whether a read failed.
+struct Input {
+    bytes: usize,
+    failed: bool,
+}
+
+// One read.
+fn read_some(part: &mut [u8]) -> Input
+    ensures { λ r. ⌜ r .bytes ≤ length (now (part .exit)) ⌝ }
+{
+    let got = libc::read(STDIN_FILENO, part);
+    Input {
+        bytes: io::count(got, part),
+        failed: got < 0,
+    }
+}
+
+// Fills a buffer from standard input, which may come in pieces, until it is full or the input ends.
+fn read_input(buffer: &mut [u8]) -> Input
+    ensures { λ r. ⌜ r .bytes ≤ length (now (buffer .exit)) ⌝ }
+{
+    let mut bytes: usize = 0;
+    while bytes < buffer.len() {
+        let more = read_some(&mut buffer[bytes..]);
+        let n = more.bytes;
+        if n == 0 {
+            return Input {
+                bytes: bytes,
+                failed: more.failed,
+            };
+        }
+        bytes += n;
+    }
+    Input {
+        bytes: bytes,
+        failed: false,
+    }
+}
+
+// Writes the head and then the lines, a block at a time, and says whether all was taken.
+fn print_rows(rows: &[[u32; 6]], values: &[f64], n: usize) -> bool
+    requires { ⌜ (n ≤ length (now rows)) × (n ≤ length (now values)) ⌝ }
+{
+    let mut text = io::buffer();
+    let end = head(&mut text, 0, n as u64);
+    let mut taken = io::write_all(STDOUT_FILENO, &text[..end]);
+    let mut next: usize = 0;
+    while next < n {
+        if !taken {
+            return false;
+        }
+        let block = lines(&mut text, rows, values, next, n);
+        let end = block.end;
+        taken = io::write_all(STDOUT_FILENO, &text[..end]);
+        next = block.next;
+    }
+    taken
+}
+
+fn print_refusal(number: u64, place: u64) -> bool {
+    let mut text = io::buffer();
+    let end = refusal(&mut text, 0, number, place);
+    io::write_all(STDOUT_FILENO, &text[..end])
+}
+
+// What comes behind a buffer that is full.
+fn read_rest(full: bool) -> Input {
+    let mut more = [0u8; 1];
+    if full {
+        return read_input(&mut more);
+    }
+    Input {
+        bytes: 0,
+        failed: false,
+    }
+}
+
+fn main() {
+}
