@@ -1,4 +1,6 @@
 // The program: a sheet on standard input, its listing on standard output (01, "The listing").
+use calculate::Outcome;
+use calculate::dogma_calculate;
 use libc::STDIN_FILENO;
 use libc::STDOUT_FILENO;
 use listing::head;
@@ -70,6 +72,45 @@ fn print_refusal(number: u64, place: u64) -> bool {
     let mut text = io::buffer();
     let end = refusal(&mut text, 0, number, place);
     io::write_all(STDOUT_FILENO, &text[..end])
+}
+
+fn print(rows: &[[u32; 6]], values: &[f64], answer: Outcome) -> bool
+    requires { ⌜ (answer .rows ≤ length (now rows)) × (answer .rows ≤ length (now values)) ⌝ }
+{
+    if answer.number == 0 {
+        return print_rows(rows, values, answer.rows as usize);
+    }
+    print_refusal(answer.number, answer.place)
+}
+
+// Lends every list room for 4,096, and prints what comes back.
+fn print_sheet(sheet: &[u8]) -> bool {
+    let mut states = [[0u32; 2]; 1024];
+    let mut collected = [[0u32; 14]; 4096];
+    let mut collected_values = [0.0; 4096];
+    let mut rows = [[0u32; 6]; 4096];
+    let mut bases = [0.0; 4096];
+    let mut values = [0.0; 4096];
+    let mut entries = [[0u32; 11]; 4096];
+    let mut entry_values = [0.0; 4096];
+    let mut plain = [[0u32; 2]; 4096];
+    let mut sources = [[0u32; 10]; 4096];
+    let mut source_values = [[0.0; 2]; 4096];
+    let answer = dogma_calculate(
+        &mut states,
+        &mut collected,
+        &mut collected_values,
+        &mut rows,
+        &mut bases,
+        &mut values,
+        &mut entries,
+        &mut entry_values,
+        &mut plain,
+        &mut sources,
+        &mut source_values,
+        sheet,
+    );
+    print(&rows, &values, answer)
 }
 
 // What comes behind a buffer that is full.
