@@ -95,9 +95,9 @@ module _ (k : Book) (f : Fit) (q : Rooms) (d : Done) (e : run k f q ≡ ok d) wh
       let m = passes (valued world (f .depth) (startsOf f (world .rows)) (blank (world .rows))) _ d (c .rest) in
       record {
         long =
-          ap (λ (x : Done). length (x .values)) (sym (got (m .rest)))
-          ∙ valued-grows world (f .depth) (startsOf f (world .rows)) (blank (world .rows)) (m .given) (m .first) .values
-          ∙ length-map (world .rows) (λ r. none);
+            ap (λ (x : Done). length (x .values)) (sym (got (m .rest)))
+            ∙ valued-grows world (f .depth) (startsOf f (world .rows)) (blank (world .rows)) (m .given) (m .first) .values
+            ∙ length-map (world .rows) (λ r. none);
         rows = sym (ap (λ (x : Done). x .rows) (got (m .rest)));
       }
 

@@ -1,6 +1,7 @@
 // The program: a sheet on standard input, its listing on standard output (01, "The listing").
 use calculate::Outcome;
 use calculate::dogma_calculate;
+use libc::STDERR_FILENO;
 use libc::STDIN_FILENO;
 use libc::STDOUT_FILENO;
 use listing::head;
@@ -125,5 +126,26 @@ fn read_rest(full: bool) -> Input {
     }
 }
 
+fn complain(text: &[u8]) {
+    io::write_all(STDERR_FILENO, text);
+}
+
 fn main() {
+    let mut buffer = [0u8; 65536];
+    let input = read_input(&mut buffer);
+    let n = input.bytes;
+    let rest = read_rest(n == 65536);
+    if input.failed | rest.failed {
+        complain(b"sheet: standard input cannot be read\n");
+        return;
+    }
+    // longer input breaks the sheet: SHAPE, place 0
+    let taken = if rest.bytes == 0 {
+        print_sheet(&buffer[..n])
+    } else {
+        print_refusal(1, 0)
+    };
+    if !taken {
+        complain(b"sheet: standard output cannot be written\n");
+    }
 }
