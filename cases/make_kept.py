@@ -1,8 +1,8 @@
 #!/usr/bin/env python3
 """Chooses the kept sheets and writes them with the oracle's answers, every list of them.
 
-Usage: make_kept.py [OUT], OUT cases/kept.bin where none is said; and cases/KEPT.md, which names each. Needs the guarded oracle
-(oracle/build.py --guarded) to make them, nothing to replay them.
+Usage: make_kept.py [OUT], OUT cases/kept.bin where none is said, which is a link to the standard input of the program `replay`;
+and cases/KEPT.md, which names each. Needs the guarded oracle (oracle/build.py --guarded) to make them, nothing to replay them.
 
 For each slip of oracle/slips.py the smallest of the first sheets on which it shows; for each list one that is full to the row and
 one that is a row short; for each number sheets of their own; and the marked cases. All numbers are 32 bits, little-endian:

@@ -1,0 +1,10 @@
+-- Made by `answers` from Proof.answers: edit that file.
+-- `replay::pattern` is safe: past its test x is no NaN.
+use borrow.Author.Needs.{needs}
+use Rattle.replay.proofs.pattern.Statement.{statement}
+use Rattle.replay.proofs.pattern.Tie as tie
+use Rattle.numbers.proofs.Hundredths.{no-nan}
+
+pub pattern-spec : {M : Type 1} → statement M
+pattern-spec =
+    tie.close (tie.spec (λ c. search needs) (λ c. no-nan _ (c .if1 .left)) (λ c. search needs))
