@@ -3,9 +3,9 @@ use Prim.Native.Nat.{ℕ}
 use mathlib.Core.Path.{_≡_}
 use mathlib.Core.List.{List}
 use lib.Ieee.{Float}
-use Rattle.rules.specs.Answer.{number, place, answerOf}
+use Rattle.rules.specs.Answer.{Res, number, place, answerOf}
 use Rattle.rules.specs.Columns.{Counts, countsOf, collectedColumn, collectedValueColumn, rowColumn, baseColumn, valueColumn, entryColumn, entryValueColumn, plainColumn, sourceColumn, sourceFloatColumn, stateColumn}
-use Rattle.rules.specs.Outcome.{Lent, outcome}
+use Rattle.rules.specs.Outcome.{Lent, Done, outcome}
 
 pub record Result : Type 0 where
   pub number : ℕ
@@ -22,6 +22,26 @@ pub record Result : Type 0 where
   pub plain : List (List ℕ)
   pub sources : List (List ℕ)
   pub sourceFloats : List (List Float)
+
+-- what comes back of an outcome, with these lists lent
+abbrev pub resultFor : Res Done → Lent → Result
+resultFor o l =
+    record {
+      number = number (answerOf o);
+      place = place (answerOf o);
+      counts = countsOf o;
+      states = stateColumn o;
+      collected = collectedColumn o (l .collected);
+      collectedValues = collectedValueColumn o (l .collectedValues);
+      rows = rowColumn o (l .rows);
+      bases = baseColumn o (l .bases);
+      values = valueColumn o (l .values);
+      entries = entryColumn o (l .entries);
+      entryValues = entryValueColumn o (l .entryValues);
+      plain = plainColumn o (l .plain);
+      sources = sourceColumn o (l .sources);
+      sourceFloats = sourceFloatColumn o (l .sourceFloats);
+    }
 
 -- r is what the definition gives for the bytes and the lists lent
 pub record Meets (b : List ℕ) (l : Lent) (r : Result) : Type 0 where

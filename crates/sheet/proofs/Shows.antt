@@ -36,6 +36,7 @@ use Rattle.prepared.proofs.Sheets.{sound-rows}
 use Rattle.whole.proofs.Starts.{valued-grows}
 use Rattle.promises.specs.Result.{Result, Meets}
 use Rattle.promises.proofs.NoMemoryGoes.{passes, got}
+use Rattle.calculate.proofs.Clearing.{numbers-length}
 use Rattle.listing.specs.Pieces.{Shown}
 
 -- ---- columns
@@ -54,11 +55,6 @@ id-at e s (x ∷ rs) [] zero r h = refl
 id-at e s (x ∷ rs) [] (suc i) r h = id-at (e + length (x .entries)) s rs [] i r (le-of-suc-le-suc h)
 id-at e s (x ∷ rs) (q ∷ qs) zero r h = refl
 id-at e s (x ∷ rs) (q ∷ qs) (suc i) r h = id-at (e + length (x .entries)) (s + length q) rs qs i r (le-of-suc-le-suc h)
-
-numbers-long : (e s : ℕ) (rs : List Row) (qs : List (List Source)) → length (rowsNumbers e s rs qs) ≡ length rs
-numbers-long e s [] qs = refl
-numbers-long e s (x ∷ rs) [] = ap suc (numbers-long (e + length (x .entries)) s rs [])
-numbers-long e s (x ∷ rs) (q ∷ qs) = ap suc (numbers-long (e + length (x .entries)) (s + length q) rs qs)
 
 -- a column of the length that was lent has room for its rows
 has-room : {A B : Type 0} (enc : A → B) (z : B) (xs : List A) (n : ℕ) → length (column enc z xs n) ≡ n → length xs ≤ n
@@ -154,7 +150,7 @@ module _ (b : List ℕ) (l : Lent) (r : Result) (m : Meets b l r) (rows-even : l
   rows-inside =
       let o = outcome b l in
       let e : length (column (λ x. x) (replicate 6 0) (rowsNumbers 0 0 (rowList o) (sourcesByRow o)) (l .rows)) ≡ l .rows = sym (ap length (m .by-rows)) ∙ rows-even in
-      omega (arith, counted, rows-even, numbers-long 0 0 (rowList o) (sourcesByRow o), has-room (λ x. x) (replicate 6 0) (rowsNumbers 0 0 (rowList o) (sourcesByRow o)) (l .rows) e)
+      omega (arith, counted, rows-even, numbers-length 0 0 (rowList o) (sourcesByRow o), has-room (λ x. x) (replicate 6 0) (rowsNumbers 0 0 (rowList o) (sourcesByRow o)) (l .rows) e)
 
   -- and inside that of their values
   pub values-inside : r .counts .rows ≤ length (r .values)
@@ -182,7 +178,7 @@ module _ (b : List ℕ) (l : Lent) (r : Result) (m : Meets b l r) (rows-even : l
     numbers-at : (i : ℕ) → i < r .counts .rows → getD (r .rows) i [] ≡ getD (rowsNumbers 0 0 (d .rows) (d .sources)) i []
     numbers-at i lt =
         ap (λ (c : List (List ℕ)). getD c i []) rows-are
-        ∙ column-row (λ x. x) (replicate 6 0) (rowsNumbers 0 0 (d .rows) (d .sources)) (l .rows) i [] [] (omega (arith, lt, here, numbers-long 0 0 (d .rows) (d .sources)))
+        ∙ column-row (λ x. x) (replicate 6 0) (rowsNumbers 0 0 (d .rows) (d .sources)) (l .rows) i [] [] (omega (arith, lt, here, numbers-length 0 0 (d .rows) (d .sources)))
 
     pub shown : Shown d (r .counts .rows) (r .rows) (r .values)
     shown =
