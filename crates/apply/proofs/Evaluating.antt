@@ -29,11 +29,8 @@ use Rattle.apply.specs.declared.Got.{Got}
 use Rattle.apply.specs.declared.Got.the-variants as got
 use Rattle.apply.proofs.Falling.{operate-falls, limit-falls}
 use Rattle.apply.proofs.Holdings.{met, goes-on-from, number-of}
+use Rattle.apply.proofs.Gathering.{no-length}
 use Rattle.apply.proofs.Limiting.{raise-refused, lowers, plain-row}
-
-empty-list : {A : Type 0} (l : List A) → length l ≡ 0 → l ≡ []
-empty-list [] e = refl
-empty-list (x ∷ l) e = absurd (omega (arith, e))
 
 module _ {t : Tables} {run : Run} {v : List Float} {s : List (List ℕ)} {f : List (List Float)} {used i : ℕ} (h : Busy t run v s f used i 0 operators) where
   abbrev w : World
@@ -74,7 +71,7 @@ module _ {t : Tables} {run : Run} {v : List Float} {s : List (List ℕ)} {f : Li
       → Meets w s₀ f₀ (evaluation w (valueOf w left) i row m) (got.Value (getD (t .bases) i nan) used) v s f
   plain-meets left none-there free =
       let both = free (w .book) (h .ready .told .limited) in
-      plain-row w s₀ f₀ v s f (valueOf w left) i row m (empty-list (row .entries) (sym (told .count) ∙ none-there))
+      plain-row w s₀ f₀ v s f (valueOf w left) i row m (no-length (row .entries) (omega (arith, told .count, none-there)))
       (ap (λ (a : ℤ). getDogmaAttribute (w .book) a .«min_attribute_id») (sym id-is) ∙ both .0) (ap (λ (a : ℤ). getDogmaAttribute (w .book) a .«max_attribute_id») (sym id-is) ∙ both .1)
       (told .base) (subst (λ (x : Float). T (finite x)) (sym (told .base)) (told .number)) (h .ready .holds)
 

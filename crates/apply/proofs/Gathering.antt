@@ -9,7 +9,7 @@ use lib.Dec.{T}
 use lib.Ieee.{Float}
 use lib.IntN.{ℤ}
 use lib.Seq.{take-all}
-use lib.ListN.{length, getD, take, drop, length-map, length-drop, take-append-drop}
+use lib.ListN.{length, getD, take, drop, length-drop, take-append-drop}
 use mir.Facts.{toZ-ofZ}
 use mir.Syntax.{w32}
 use mir.Val.{toZ}
@@ -35,7 +35,7 @@ use Rattle.sources.specs.declared.Run.{Run}
 use Rattle.sources.specs.Planned.{countsOf, plannedOf, plannedFor, plannedBy, Started, Grown}
 use Rattle.sources.specs.Keeping.{Keeping, Begins}
 use Rattle.sources.specs.Marks.{Fresh}
-use Rattle.sources.proofs.Planning.{gather-gives, leaves-started}
+use Rattle.sources.proofs.Planning.{counts-long, some-none, gather-gives, leaves-started}
 use Rattle.gather.specs.declared.Pile.{Pile}
 use Rattle.gather.specs.declared.Stop.{Stop}
 use Rattle.gather.specs.declared.Stop.the-variants.{No, Because}
@@ -50,7 +50,7 @@ use Rattle.memory.proofs.Counting.{planned-append}
 use Rattle.apply.specs.Answers.{AppliedAs, PartMeets, applying}
 use Rattle.apply.specs.declared.Part.{Part}
 use Rattle.apply.specs.declared.Part.the-variants as part
-use Rattle.apply.proofs.Holdings.{ready-on, some-none, noted-holds, floats-long}
+use Rattle.apply.proofs.Holdings.{ready-on, noted-holds, floats-long}
 
 -- what the first k entries of row i gave operator op, which found the value `found`, from memory m on
 pub record Gathering (w : World) (s₀ : List (List ℕ)) (f₀ : List (List Float)) (left i : ℕ) (high : Bool) (op : EffectOperator) (found : Float) (m : Mem) (k : ℕ) (v : List Float) (s : List (List ℕ)) (f : List (List Float)) (p : Pile) : Type 0 where
@@ -68,17 +68,13 @@ abbrev reason : Refusal → Stop → Refusal
 reason y No = y
 reason y (Because z) = z
 
--- how many rows are counted
-pub counts-long : (w : World) → length (countsOf w) ≡ length (w .rows)
-unfolding countsOf
-counts-long w = length-map (w .rows) (λ (r : Row). cond (w .recording) (total (map (plannedOf w) (r .entries))) 0)
-
 -- none is planned where none is recorded
 pub counts-off : (w : World) (i : ℕ) → w .recording ≡ false → i < length (w .rows) → getD (countsOf w) i 0 ≡ 0
 unfolding countsOf
 counts-off w i off t = map-at (λ (r : Row). cond (w .recording) (total (map (plannedOf w) (r .entries))) 0) (w .rows) i noRow 0 t ∙ ap (λ (b : Bool). cond b (total (map (plannedOf w) (rowAt w i .entries))) 0) off
 
-no-length : {A : Type 0} (l : List A) → length l ≤ 0 → l ≡ []
+-- a list of no elements
+pub no-length : {A : Type 0} (l : List A) → length l ≤ 0 → l ≡ []
 no-length [] h = refl
 no-length (x ∷ l) h = absurd (omega (arith, h))
 

@@ -21,6 +21,7 @@ use Rattle.rules.specs.declared.Source.{Source}
 use Rattle.sources.specs.declared.Run.{Run}
 use Rattle.sources.specs.Planned.{countsOf}
 use Rattle.sources.specs.Keeping.{Keeping}
+use Rattle.sources.proofs.Planning.{some-none}
 use Rattle.sources.proofs.Showing.{shown-length}
 use Rattle.memory.specs.Memory.{valueAt, valueColumn, AllFinite}
 use Rattle.memory.specs.Holding.{Tables, Told, Holds, Ready}
@@ -39,13 +40,6 @@ keeping-any k j = record { numbers = k .numbers; floats = k .floats; mine = refl
 pub keeping-value : {counts : List ℕ} {room : ℕ} {s₀ : List (List ℕ)} {f₀ : List (List Float)} {i : ℕ} {m : Mem} {s : List (List ℕ)} {f : List (List Float)} {own used : ℕ} (j : ℕ) (x : Float)
     → Keeping counts room s₀ f₀ i m s f own used → Keeping counts room s₀ f₀ i (setValue j x m) s f own used
 keeping-value j x k = record { numbers = k .numbers; floats = k .floats; mine = k .mine; all = k .all; long = k .long; fits = k .fits; few = k .few; inside = k .inside }
-
-abbrev Is : Option Float → Type 0
-Is none = ⊥
-Is (some x) = Unit {0}
-
-pub some-none : {x : Float} → some x ≡ none → ⊥
-some-none e = subst Is e tt
 
 pub some-same : {x y : Float} → some x ≡ some y → x ≡ y
 some-same {x} e = ap (λ (o : Option Float). Option·getD o x) e

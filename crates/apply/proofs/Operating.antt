@@ -22,7 +22,7 @@ use Rattle.operate.proofs.PassedOver.{isOf, operate-none}
 use Rattle.reading.specs.Held.{hasCode}
 use Rattle.sources.specs.declared.Run.{Run}
 use Rattle.sources.specs.Planned.{countsOf, plannedFor, plannedBy, Started, Grown}
-use Rattle.sources.proofs.Planning.{operate-gives, leaves-started}
+use Rattle.sources.proofs.Planning.{counts-long, some-none, operate-gives, leaves-started}
 use Rattle.memory.specs.Memory.{valueAt}
 use Rattle.memory.specs.Steps.{rowAt}
 use Rattle.memory.specs.Holding.{Tables, RowTold, Holds, Ready, Busy}
@@ -33,8 +33,7 @@ use Rattle.memory.proofs.Codes.{operators-at, take-operators, has-operator}
 use Rattle.apply.specs.Answers.{Meets, PartMeets}
 use Rattle.apply.specs.declared.Got.the-variants as got
 use Rattle.apply.specs.declared.Part.the-variants as part
-use Rattle.apply.proofs.Holdings.{ready-on, some-none, meets-value, meets-refused}
-use Rattle.apply.proofs.Gathering.{counts-long}
+use Rattle.apply.proofs.Holdings.{ready-on, meets-value, meets-refused}
 
 -- what the first operators have made of row i, from memory m on
 pub record Operating (w : World) (s₀ : List (List ℕ)) (f₀ : List (List Float)) (left i : ℕ) (m : Mem) (code : ℕ) (v : List Float) (s : List (List ℕ)) (f : List (List Float)) (x : Float) (own used : ℕ) : Type 0 where

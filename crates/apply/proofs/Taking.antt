@@ -29,6 +29,7 @@ use Rattle.reading.specs.Held.{EntryHeld, Sourced, isRunning}
 use Rattle.sources.specs.declared.Run.{Run}
 use Rattle.sources.specs.Planned.{countsOf, plannedOf, plannedIf, plannedFor, runsIn}
 use Rattle.sources.specs.Keeping.{Keeping, Begins}
+use Rattle.sources.proofs.Planning.{counts-long}
 use Rattle.gather.specs.declared.Pile.{Pile}
 use Rattle.gather.specs.declared.Stop.the-variants.{No, Because}
 use Rattle.gather.specs.Piles.{PileOf, PiledAs, entered, enteredCount}
@@ -41,7 +42,6 @@ use Rattle.memory.proofs.Entering.{entered-values, same-operator}
 use Rattle.apply.specs.Answers.{Meets}
 use Rattle.apply.specs.declared.Got.the-variants as got
 use Rattle.apply.proofs.Fitting.{fits-below}
-use Rattle.apply.proofs.Gathering.{counts-long}
 use Rattle.apply.proofs.Holdings.{Met, met, missed, noted-holds, sources-long, floats-long}
 
 -- the code of an entry's operator is its seventh number

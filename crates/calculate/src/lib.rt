@@ -1,10 +1,10 @@
 // The engine's entry: the bytes of a sheet and lent lists go in, every list, every state and the answer come out (calculate.rs).
+use answers::number_of;
+use answers::place_of;
 use clear::Counts;
 use clear::clear;
 use outcome::filled;
 use rules::Answer;
-use rules::number_of;
-use rules::place_of;
 use run::Ran;
 ghost use mathlib.Core.Path.{_≡_};
 ghost use Rattle.promises.specs.Result.{Meets};

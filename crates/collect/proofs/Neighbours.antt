@@ -12,7 +12,7 @@ use Rattle.info.specs.Sound.{Nth}
 use Rattle.states.proofs.Standing as standing
 use Rattle.info.proofs.Elements.{objects-length}
 use Rattle.rules.specs.Bytes.{countOf}
-use Rattle.hits.proofs.Sheets.{numbered}
+use Rattle.standing.proofs.Sheets.{numbered}
 use Rattle.modifiers.specs.Stands.{Stands}
 
 module _ (f : Fit) {n : ℕ} where

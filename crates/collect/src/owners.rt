@@ -1,14 +1,14 @@
 // An object with what of the fit its modifiers go by.
 use super::Hull;
+use categories::categories_of;
 use codes::Owner;
-use hits::who::char_of;
-use info::bytes::index;
 use info::header::count_of;
 use info::records::object;
-use item::header::categories_of;
 use item::kinds::is_charge;
 use item::kinds::is_item;
+use little_endian::index;
 use rules::Item;
+use standing::char_of;
 use states::is_structure_fit;
 ghost use mathlib.Core.Path.{_≡_};
 ghost use mathlib.Core.Bool.{cond};

@@ -29,10 +29,10 @@ use Rattle.rules.specs.declared.Pass2Effect.{Pass2Effect}
 use Rattle.rules.specs.declared.ProjectedBuff.{ProjectedBuff}
 use Rattle.rules.proofs.Verdicts.{objects-good}
 use Rattle.info.specs.Sound.{SoundFit}
-use Rattle.hits.specs.Who.{Pointing, Narrow}
-use Rattle.hits.proofs.Narrow.{signed-narrow, cut-narrow}
-use Rattle.hits.proofs.Rows.{pointing}
-use Rattle.hits.proofs.Sheets.{numbered, char-inside}
+use Rattle.standing.specs.Stands.{Pointing, Narrow}
+use Rattle.standing.proofs.Narrow.{signed-narrow, cut-narrow}
+use Rattle.standing.proofs.Rows.{pointing}
+use Rattle.standing.proofs.Sheets.{numbered, char-inside}
 use Rattle.causes.specs.declared.Cause.{Cause}
 use Rattle.causes.specs.declared.Cause.the-variants as cause
 use Rattle.causes.specs.Causes.{resistanceOf}

@@ -8,7 +8,7 @@ use Rattle.rules.specs.declared.Origin.the-variants.{Effect, Buff}
 use Rattle.rules.specs.declared.OptionalId.{OptionalId}
 use Rattle.rules.specs.declared.OptionalId.the-variants.{Absent, Given}
 use Rattle.rules.specs.declared.Pass2Effect.{Pass2Effect}
-use Rattle.hits.specs.Who.{Pointing, Narrow}
+use Rattle.standing.specs.Stands.{Pointing, Narrow}
 
 abbrev pub NarrowOrigin : Origin → Type 0
 NarrowOrigin (Effect e o c a) = SFits w32 e × SFits w32 a

@@ -18,7 +18,7 @@ use Rattle.rules.specs.Columns.{entryNumbers}
 use Rattle.rules.specs.declared.Pass2Effect.{Pass2Effect}
 use Rattle.info.specs.Sound.{SoundFit}
 use Rattle.info.proofs.Elements.{objects-length}
-use Rattle.hits.proofs.Sheets.{numbered}
+use Rattle.standing.proofs.Sheets.{numbered}
 use Rattle.segments.specs.Strikes.{Strike, arrivals, Segmented}
 use Rattle.segments.proofs.Cutting.{parts-length}
 use Rattle.rows.specs.declared.rows.Laid.{Laid}

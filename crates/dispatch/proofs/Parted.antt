@@ -33,7 +33,7 @@ use Rattle.rules.specs.Dispatch.{Row, Key, sameKey, baseKeys, hitKeys, fullAt, 
 use Rattle.rules.specs.Columns.{rowsNumbers}
 use Rattle.rules.specs.declared.Item.{Item}
 use Rattle.rules.specs.declared.Pass2Effect.{Pass2Effect}
-use Rattle.hits.proofs.Narrow.{signed-narrow}
+use Rattle.standing.proofs.Narrow.{signed-narrow}
 use Rattle.segments.specs.Strikes.{Strike, strike, Listed, Listing, arrivals, effectsOn, keyOf, keyNumbers, Segmented}
 use Rattle.segments.proofs.Gathering.{inside?, inside-take}
 use Rattle.segments.proofs.Numbering.{arrivals-inside, arrivals-keys, arrivals-listed}

@@ -8,7 +8,7 @@ use lib.ListN.{length, getD}
 use Rattle.rules.specs.Sheet.{Book, Fit}
 use Rattle.rules.specs.Dispatch.{baseKeys, hitKeys, fullAt, rows}
 use Rattle.rules.specs.declared.Pass2Effect.{Pass2Effect}
-use Rattle.hits.specs.Who.{Pointing, Narrow}
+use Rattle.standing.specs.Stands.{Pointing, Narrow}
 use Rattle.spread.specs.Entries.{effectAt, Collected}
 use Rattle.object_lists.specs.Laying.{entriesOf}
 use Rattle.object_lists.specs.Parts.{ListsLaid}

@@ -1,15 +1,15 @@
 // The effects of an object: its type's own, then its base's (pass_2.rs, the inside of collection).
 use causes::Cause;
 use codes::Owner;
-use info::look_ups::FoundEffect;
-use info::look_ups::Run;
-use info::look_ups::get_dogma_effect;
-use info::look_ups::get_dogma_effects;
 use info::records::type_effect;
 use item::CategoryFound;
 use item::codes::category_at;
 use item::kinds::mutated;
 use item::states::category_on;
+use look_ups::FoundEffect;
+use look_ups::Run;
+use look_ups::get_dogma_effect;
+use look_ups::get_dogma_effects;
 use modifiers::collecting::collect_modifiers;
 use moves::Counted;
 use moves::Rooms;

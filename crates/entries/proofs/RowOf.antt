@@ -26,8 +26,8 @@ use Rattle.rules.specs.declared.Origin.{Origin}
 use Rattle.rules.specs.declared.Origin.the-variants as origin
 use Rattle.info.specs.Sound.{SoundFit}
 use Rattle.info.proofs.Elements.{objects-length}
-use Rattle.hits.proofs.Sheets.{numbered, sized}
-use Rattle.hits.proofs.Rows.{origin-at, source-at}
+use Rattle.standing.proofs.Sheets.{numbered, sized}
+use Rattle.standing.proofs.Rows.{origin-at, source-at}
 use Rattle.spread.specs.Entries.{exemptBits, entryRow}
 use Rattle.spread.proofs.Defined.{target-number, quantity-number}
 use Rattle.spread.proofs.Written.{exempt-bits, written}

@@ -9,7 +9,7 @@ use Rattle.rules.specs.Dispatch.{entry}
 use Rattle.rules.specs.Columns.{originValue, entryNumbers}
 use Rattle.rules.specs.declared.Item.{Item}
 use Rattle.rules.specs.declared.Pass2Effect.{Pass2Effect}
-use Rattle.hits.specs.Who.{Pointing}
+use Rattle.standing.specs.Stands.{Pointing}
 use Rattle.spread.specs.Entries.{effectNumber, effectAt, Collected}
 
 -- the columns of list 1 hold these effects and nothing more; their sources are among n objects

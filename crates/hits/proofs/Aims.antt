@@ -13,12 +13,14 @@ use Rattle.rules.specs.Item.{object, isShip, isChar, isItem, isCharge, isSkill,
 use Rattle.rules.specs.Dispatch.{carrier, inLocation, inSkillLocation}
 use Rattle.rules.specs.Columns.{yes1}
 use Rattle.rules.specs.declared.Item.{Item}
-use Rattle.hits.specs.declared.who.Aim.{Aim}
-use Rattle.hits.specs.declared.who.Spans.{Spans}
-use Rattle.hits.specs.declared.who.Test.{Test}
-use Rattle.hits.specs.declared.who.Test.the-variants.{All, Requiring}
-use Rattle.hits.specs.Who.{isFitted, requiredBits, reachOf, askedOf, passes, within, meets, Aims, Stands, atLocation, charItems, bySkill, byOwner, alone, nobody}
-use Rattle.hits.proofs.Standing.{either}
+use Rattle.hits.specs.declared.Aim.{Aim}
+use Rattle.standing.specs.declared.Spans.{Spans}
+use Rattle.hits.specs.declared.Test.{Test}
+use Rattle.hits.specs.declared.Test.the-variants.{All, Requiring}
+use Rattle.standing.specs.Stands.{isFitted, Stands}
+use Rattle.reach.specs.Reach.{requiredBits, reachOf}
+use Rattle.hits.specs.Who.{askedOf, passes, within, meets, Aims, atLocation, charItems, bySkill, byOwner, alone, nobody}
+use Rattle.standing.proofs.Standing.{either}
 
 -- ---- an aim by a column, and one at a single object
 

@@ -1,12 +1,5 @@
-pub mod Standing
 pub mod Ranges
-pub mod Narrow
-pub mod Skills
 pub mod Aims
-pub mod Rows
 pub mod Hits
-pub mod Sheets
 pub mod Passing
 pub mod Effects
-pub mod Telling
-pub mod Reach

@@ -11,9 +11,10 @@ use Rattle.laws.specs.Lists.{some?}
 use Rattle.laws.proofs.Scans.{drop-step}
 use Rattle.rules.specs.Sheet.{Book, Fit}
 use Rattle.rules.specs.Item.{object}
-use Rattle.hits.specs.declared.who.Aim.{Aim}
-use Rattle.hits.specs.declared.who.Test.{Test}
-use Rattle.hits.specs.Who.{requiredBits, reachOf, Told, asked, passes, meets}
+use Rattle.hits.specs.declared.Aim.{Aim}
+use Rattle.hits.specs.declared.Test.{Test}
+use Rattle.reach.specs.Reach.{requiredBits, reachOf, Told}
+use Rattle.hits.specs.Who.{asked, passes, meets}
 
 module _ (a : Aim) (r q : List ℕ) where
   pub unreached : getD r (a .column) 0 ≡ 0 → false ≡ passes a r q

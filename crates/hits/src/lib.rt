@@ -1,3 +1,259 @@
-// Whom the collected effects touch (pass_2.rs, second half).
-pub mod tables;
-pub mod who;
+// Whom the collected effects touch (pass_2.rs, second half): the aims of an effect, and the test of an object.
+use info::records::object;
+use integers::bits;
+use little_endian::index;
+use standing::Spans;
+ghost use mathlib.Core.Path.{_≡_};
+ghost use mathlib.Core.List.{[]};
+ghost use Prim.Native.Nat.{_<_};
+ghost use lib.Dec.{eqb};
+ghost use lib.IntN.{ℤ};
+ghost use lib.ListN.{length, getD};
+ghost use mir.Syntax.{w32};
+ghost use mir.Val.{SFits};
+ghost use Rattle.laws.specs.Lists.{some?};
+ghost use Rattle.rules.specs.Bytes as bytes;
+ghost use Rattle.rules.specs.Bytes.{countOf};
+ghost use Rattle.rules.specs.Sheet.{Book, Fit, fitOf};
+ghost use Rattle.rules.specs.Dispatch.{meant};
+ghost use Rattle.rules.specs.Columns.{collectedNumbers};
+ghost use Rattle.rules.specs.declared.Pass2Effect.{Pass2Effect};
+ghost use Rattle.info.specs.Sound.{HeldFit, SoundFit};
+ghost use Rattle.standing.specs.Stands.{Stands, Pointing, Narrow};
+ghost use Rattle.hits.specs.Who.{passes, Aims, atLocation, charItems, bySkill, byOwner, alone, nobody, First, Second};
+
+// What is asked of an object beside its column: nothing, a group, or a required skill, by their bits.
+pub enum Test {
+    All,
+    OfGroup(u32),
+    Requiring(u32),
+}
+
+// Whom an effect touches: objects from one to another whose column is 1, and that pass the test.
+pub struct Aim {
+    pub from: usize,
+    pub end: usize,
+    pub column: usize,
+    pub test: Test,
+}
+
+// Columns of what reaches an object, each 0 or 1 but the last.
+const IN_SHIP: usize = 0;
+
+const WITH_CHAR: usize = 1;
+
+const CHAR_ITEMS: usize = 2;
+
+const SKILLED_SHIP: usize = 3;
+
+const SKILLED_CHAR: usize = 4;
+
+const OWNED: usize = 5;
+
+const ANY: usize = 6;
+
+const GROUP: usize = 7;
+
+// ---- the aims of an effect
+
+// The aim at one object.
+fn one(target: u32, test: Test) -> Aim
+    ensures { λ r. ⌜ r ≡ alone target test ⌝ }
+{
+    let from = target as usize;
+    Aim {
+        from,
+        end: from + 1,
+        column: ANY,
+        test,
+    }
+}
+
+// The aim at nobody.
+fn none() -> Aim
+    ensures { λ r. ⌜ r ≡ nobody ⌝ }
+{
+    Aim {
+        from: 0,
+        end: 0,
+        column: ANY,
+        test: Test::All,
+    }
+}
+
+// The aim at a location: the ship's, the char's without its items, or the object itself.
+fn located(s: Spans, target: u32, test: Test) -> Aim
+    ensures { λ r. ⌜ ((k : Book) (f : Fit) → Stands f s → target < length (f .objects) → Aims (atLocation test target k f) k f r) ⌝ }
+{
+    if target == 0 {
+        return Aim {
+            from: 0,
+            end: s.end,
+            column: IN_SHIP,
+            test,
+        };
+    }
+    if target == s.character {
+        return Aim {
+            from: target as usize,
+            end: s.objects,
+            column: WITH_CHAR,
+            test,
+        };
+    }
+    one(target, test)
+}
+
+// The aim at the char's items.
+fn char_items(s: Spans, test: Test) -> Aim
+    ensures { λ r. ⌜ ((k : Book) (f : Fit) → Stands f s → Aims (charItems test (s .character) k f) k f r) ⌝ }
+{
+    Aim {
+        from: s.first,
+        end: s.end,
+        column: CHAR_ITEMS,
+        test,
+    }
+}
+
+// The aim at items and charges, on the char or in the ship, that require a skill.
+fn skilled(s: Spans, target: u32, test: Test) -> Aim
+    ensures { λ r. ⌜ ((k : Book) (f : Fit) → Stands f s → target < length (f .objects) → Aims (bySkill test target k f) k f r) ⌝ }
+{
+    if target == s.character {
+        return Aim {
+            from: s.first,
+            end: s.end,
+            column: SKILLED_CHAR,
+            test,
+        };
+    }
+    Aim {
+        from: s.first,
+        end: s.end,
+        column: SKILLED_SHIP,
+        test,
+    }
+}
+
+// The aim at drones, fighters and charges that require a skill.
+fn owned(s: Spans, test: Test) -> Aim
+    ensures { λ r. ⌜ ((k : Book) (f : Fit) → Stands f s → Aims (byOwner test k f) k f r) ⌝ }
+{
+    Aim {
+        from: s.first,
+        end: s.end,
+        column: OWNED,
+        test,
+    }
+}
+
+// The bits of the skill that effect j means: -1 is the source's own type; a buff's is 0.
+fn skill_of(collected: &[[u32; 14]], fit: &[u8], pairs: &[[u32; 2]; 10], j: usize) -> u32
+    requires { ⌜ j < length (now collected) ⌝ }
+    requires { ⌜ HeldFit (now fit) (now pairs) ⌝ }
+    requires { ⌜ Pointing (getD (now collected) j []) (countOf (now pairs) 6) ⌝ }
+    ensures { λ r. ⌜ ((t : Pass2Effect) (s : ℤ) → getD (now (collected .entry)) j [] ≡ collectedNumbers t → getD (getD (now (collected .entry)) j []) 7 0 ≡ bytes.bits s → SFits w32 s → r ≡ bytes.bits (meant (fitOf (now (fit .entry)) (now (pairs .entry))) (t .origin) s)) ⌝ }
+{
+    let skill = collected[j][7];
+    if skill != 4294967295 {
+        return skill;
+    }
+    let origin = collected[j][0];
+    if origin == 1 {
+        return 0;
+    }
+    let source = object(fit, pairs, index(collected[j][2]));
+    bits(source.type_id)
+}
+
+// Whom effect j touches first.
+pub fn aim_of(
+    collected: &[[u32; 14]],
+    fit: &[u8],
+    pairs: &[[u32; 2]; 10],
+    s: Spans,
+    j: usize,
+) -> Aim
+    requires { ⌜ j < length (now collected) ⌝ }
+    requires { ⌜ SoundFit (now fit) (now pairs) ⌝ }
+    requires { ⌜ Pointing (getD (now collected) j []) (countOf (now pairs) 6) ⌝ }
+    requires { ⌜ Stands (fitOf (now fit) (now pairs)) s ⌝ }
+    ensures { λ r. ⌜ ((k : Book) (t : Pass2Effect) → getD (now (collected .entry)) j [] ≡ collectedNumbers t → Narrow (t .modifier) → First k (fitOf (now (fit .entry)) (now (pairs .entry))) t r) ⌝ }
+{
+    let func = collected[j][6];
+    let what = collected[j][7];
+    let target = collected[j][10];
+    if func == 4 {
+        return one(target, Test::All);
+    }
+    if func == 1 {
+        return located(s, target, Test::OfGroup(what));
+    }
+    if func == 2 {
+        return located(s, target, Test::All);
+    }
+    let skill = skill_of(collected, fit, pairs, j);
+    if func == 3 {
+        return owned(s, Test::Requiring(skill));
+    }
+    skilled(s, target, Test::Requiring(skill))
+}
+
+// Whom effect j touches then: the char's location has its items last.
+pub fn aim_then(collected: &[[u32; 14]], s: Spans, j: usize) -> Aim
+    requires { ⌜ j < length (now collected) ⌝ }
+    ensures { λ r. ⌜ ((k : Book) (f : Fit) (t : Pass2Effect) → Stands f s → t .target < length (f .objects) → getD (now (collected .entry)) j [] ≡ collectedNumbers t → Narrow (t .modifier) → Second k f t r) ⌝ }
+{
+    let func = collected[j][6];
+    let what = collected[j][7];
+    let target = collected[j][10];
+    if target != s.character {
+        return none();
+    }
+    if func == 1 {
+        return char_items(s, Test::OfGroup(what));
+    }
+    if func == 2 {
+        return char_items(s, Test::All);
+    }
+    none()
+}
+
+// ---- the test
+
+// Whether a skill is among those that an object requires.
+fn requires_skill(row: [u64; 6], skill: u32) -> bool
+    ensures { λ r. ⌜ r ≡ some? (eqb skill) row ⌝ }
+{
+    let wanted = skill as u64;
+    let mut k = 0;
+    while k < 6 {
+        if wanted == row[k] {
+            return true;
+        }
+        k += 1;
+    }
+    false
+}
+
+// Whether an aim is at object i, which stands in its range.
+pub fn is_hit(reach: &[[u32; 8]; 1024], skills: &[[u64; 6]; 1024], a: Aim, i: usize) -> bool
+    requires { ⌜ (i < 1024) × (a .column < 8) ⌝ }
+    ensures { λ r. ⌜ r ≡ passes a (getD (now (reach .entry)) i []) (getD (now (skills .entry)) i []) ⌝ }
+{
+    let column = a.column;
+    let reached = reach[i][column];
+    if reached == 0 {
+        return false;
+    }
+    let test = a.test;
+    match test {
+        Test::All => true,
+        Test::OfGroup(group) => reach[i][GROUP] == group,
+        Test::Requiring(skill) => {
+            let row = skills[i];
+            requires_skill(row, skill)
+        }
+    }
+}

@@ -1,5 +1,3 @@
-// The sheet (info.rs): bytes, header, records by value, look-ups.
-pub mod bytes;
+// The sheet (info.rs): header, records by value.
 pub mod header;
-pub mod look_ups;
 pub mod records;

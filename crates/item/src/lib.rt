@@ -4,7 +4,6 @@ use rules::EffectOperator;
 use rules::ItemState;
 
 pub mod codes;
-pub mod header;
 pub mod kinds;
 pub mod states;
 

@@ -15,9 +15,9 @@ ghost use Rattle.rules.specs.declared.Hundredths.the-variants.{Cut};
 ghost use Rattle.rules.specs.declared.Refusal.{Refusal};
 ghost use Rattle.rules.specs.declared.Answer.the-variants.{Refused};
 ghost use Rattle.listing.specs.Pieces.{longest, longestRefusal, headOf, Prints};
-use numbers::bits;
-use numbers::in_hundredths;
-use numbers::signed;
+use hundredths::in_hundredths;
+use integers::bits;
+use integers::signed;
 use rules::Hundredths;
 
 // No line is longer.

@@ -17,7 +17,7 @@ use Rattle.rules.specs.Outcome as outcome
 use Rattle.rules.specs.Outcome.{collectedIn}
 use Rattle.info.specs.Sound.{SoundFit}
 use Rattle.info.proofs.Elements.{objects-length}
-use Rattle.hits.specs.Who.{Pointing}
+use Rattle.standing.specs.Stands.{Pointing}
 use Rattle.moves.specs.Ran.{at, ended, valueOf}
 use Rattle.collected.proofs.Bounds.{bounded-at, row-points}
 use Rattle.spread.specs.Entries.{noEffect}

@@ -21,7 +21,7 @@ use Rattle.rules.specs.declared.Item.{Item}
 use Rattle.rules.proofs.Verdicts.{effects-good, buff-collections-good, each-object-good}
 use Rattle.info.specs.Sound.{SoundBook, SoundFit, Based}
 use Rattle.info.proofs.Elements.{modifiers-length, objects-length, ids-length}
-use Rattle.info.proofs.Bases.{based}
+use Rattle.look_ups.proofs.Bases.{based}
 use Rattle.modifiers.specs.Stands.{Stands}
 
 module _ {A : Type 0} (p q : A → Bool) where

@@ -1,8 +1,8 @@
 // The modifiers of an effect or a buff, in order.
 use causes::Cause;
 use causes::move_of;
-use info::bytes::index;
 use info::records::modifier;
+use little_endian::index;
 use moves::Counted;
 use moves::Rooms;
 use moves::put;

@@ -1,8 +1,9 @@
 // The rows of lists 1 and 4, as what a modifier gives is added to them (pass_2.rs, the inside of collection).
 use causes::Moved;
+use integers::bits;
+use integers::optional_numbers;
 use item::codes::category_code;
 use item::codes::operator_code;
-use numbers::bits;
 use rules::Modifier;
 use rules::OptionalId;
 use rules::Origin;
@@ -76,15 +77,6 @@ fn modifier_numbers(m: Modifier) -> [u32; 2]
         Modifier::LocationModifier => [2, 0],
         Modifier::OwnerRequiredSkillModifier(skill) => [3, bits(skill)],
         Modifier::ItemModifier => [4, 0],
-    }
-}
-
-fn optional_numbers(o: OptionalId) -> [u32; 2]
-    ensures { λ r. ⌜ r ≡ optionalNumbers o ⌝ }
-{
-    match o {
-        OptionalId::Absent => [0, 0],
-        OptionalId::Given(id) => [1, bits(id)],
     }
 }
 

@@ -2,13 +2,3 @@ pub mod Steps
 pub mod Sizes
 pub mod Powers
 pub mod Weights
-pub mod Cuts
-pub mod Signs
-pub mod Counts
-pub mod Hundredths
-pub mod Carried
-pub mod Places
-pub mod Sorts
-pub mod Inserts
-pub mod Eights
-pub mod Weighings

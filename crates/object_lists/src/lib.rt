@@ -1,7 +1,7 @@
 // Dispatch (pass_2.rs, second half): the rows and entries of objects, each in its own stretch of list 2 and its own segment of list 3.
 use entries::write_entries;
-use info::bytes::index;
 use info::header::count_of;
+use little_endian::index;
 use rows::rows::Laid;
 use rows::rows::object_rows;
 use spread::set_firsts;

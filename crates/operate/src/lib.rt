@@ -1,5 +1,5 @@
 // What one operator does to a value with the values that it gathers, one by one (pass_3.rs).
-use numbers::Bucket;
+use buckets::Bucket;
 use numbers::as_float;
 use numbers::less;
 use numbers::power;
@@ -17,7 +17,7 @@ ghost use Rattle.laws.specs.Floats.{finite};
 ghost use Rattle.rules.specs.Number as N;
 ghost use Rattle.rules.specs.Operate.{Copy, Values, hasPenalty, applied};
 ghost use Rattle.rules.specs.Value.{withStack};
-ghost use Rattle.numbers.specs.Held.{Gathered};
+ghost use Rattle.buckets.specs.Held.{Gathered};
 ghost use Rattle.operate.specs.SoFar.{better, chosenOf, addedOne, multipliedOne, plainlyOne, RunningOf, copiesFrom};
 
 // What an operator has made of its unpenalised values so far, and whether there was one.

@@ -10,10 +10,10 @@ use gather::add_entry;
 use gather::counted;
 use gather::empty;
 use gather::stopped;
-use info::look_ups::get_dogma_attribute;
+use integers::signed;
 use item::codes::operator_code;
+use look_ups::get_dogma_attribute;
 use numbers::product;
-use numbers::signed;
 use reading::entries::entry_at;
 use reading::entries::has_operator;
 use reading::entries::is_running;
@@ -30,11 +30,11 @@ use stretches::find;
 use stretches::is_limited;
 ghost use mathlib.Core.Path.{_≡_};
 ghost use mathlib.Core.Bool.{Bool, cond};
-ghost use mathlib.Core.List.{List, [], _∷_, _++_};
+ghost use mathlib.Core.List.{List, [], _∷_};
 ghost use Prim.Native.Nat.{ℕ, _≤_, _<_};
 ghost use lib.Dec.{T};
-ghost use lib.Ieee.{Float, nan};
-ghost use lib.ListN.{length, replicate, drop};
+ghost use lib.Ieee.{Float};
+ghost use lib.ListN.{length};
 ghost use Rattle.laws.specs.Floats.{finite};
 ghost use Rattle.rules.specs.Codes.{operators};
 ghost use Rattle.rules.specs.Dispatch.{Row};
@@ -43,19 +43,6 @@ ghost use Rattle.rules.specs.Value as defined;
 ghost use Rattle.memory.specs.Steps.{rowAt, entryAt, strengthOf, evaluation};
 ghost use Rattle.memory.specs.Holding.{tables, highAt, Good, Ready, Busy, Piling, PileMeets};
 ghost use Rattle.apply.specs.Answers.{Meets, PartMeets, heldBy};
-
-// No value is there yet: the first n are NaN.
-pub fn unstarted(values: &mut [f64], n: usize)
-    requires { ⌜ n ≤ length (now values) ⌝ }
-    ensures { λ _. ⌜ now (values .exit) ≡ replicate n nan ++ drop n (now (values .entry)) ⌝ }
-{
-    let none = 0.0 / 0.0;
-    let mut k: usize = 0;
-    while k < n {
-        values[k] = none;
-        k += 1;
-    }
-}
 
 // The value of an attribute of an object: its row's, or the default where it has none.
 pub fn calculated_value(

@@ -1,5 +1,5 @@
 // First and count in list 5 of each row of list 2, planned before any value is calculated: how many source rows it gets when they are recorded (pass_3.rs).
-use info::bytes::index;
+use little_endian::index;
 use reading::entries::entry_at;
 use reading::entries::has_penalty;
 use reading::entries::is_running;

@@ -26,7 +26,7 @@ use Rattle.rules.specs.declared.Pass2Effect.{Pass2Effect}
 use Rattle.rules.proofs.Verdicts.{bases-good}
 use Rattle.info.specs.Sound.{SoundBook, SoundFit}
 use Rattle.info.proofs.Defaults.{first-or-passes, defaults-finite}
-use Rattle.hits.proofs.Narrow.{signed-narrow}
+use Rattle.standing.proofs.Narrow.{signed-narrow}
 use Rattle.reading.specs.Held.{noRow}
 use Rattle.prepared.specs.SoundRows.{AllOf}
 use Rattle.prepared.proofs.All.{all-at, all-each, all-keep, all-take, all-drop, all-map, all-flat, all-inserted}

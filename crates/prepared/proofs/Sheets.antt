@@ -13,7 +13,7 @@ use Rattle.rules.specs.Dispatch.{Row, rows}
 use Rattle.rules.specs.Outcome.{collectedIn, rowsIn}
 use Rattle.rules.specs.declared.Pass2Effect.{Pass2Effect}
 use Rattle.info.specs.Sound.{SoundBook, SoundFit}
-use Rattle.hits.proofs.Sheets.{numbered, sized}
+use Rattle.standing.proofs.Sheets.{numbered, sized}
 use Rattle.reading.specs.Held.{noRow}
 use Rattle.reading.proofs.Ascends.{rows-ascend}
 use Rattle.turns.specs.Order.{owned}

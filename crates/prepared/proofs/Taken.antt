@@ -23,7 +23,7 @@ use Rattle.rules.specs.declared.ProjectedBuff.{ProjectedBuff}
 use Rattle.rules.proofs.Verdicts.{buffs-good}
 use Rattle.info.specs.Sound.{SoundFit}
 use Rattle.info.proofs.Elements.{objects-length}
-use Rattle.hits.proofs.Rows.{source-at}
+use Rattle.standing.proofs.Rows.{source-at}
 use Rattle.causes.specs.declared.Cause.{Cause}
 use Rattle.causes.specs.declared.Cause.the-variants as cause
 use Rattle.collected.specs.Bounded as bounded

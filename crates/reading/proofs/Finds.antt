@@ -1,5 +1,5 @@
 -- The search for a row finds what the definition's first match is.
-use Prim.Native.Nat.{ℕ, zero, suc, _+_, _-_, _/_, _≤_, _<_, suc-le-suc, zero-le}
+use Prim.Native.Nat.{ℕ, zero, suc, _+_, _-_, _≤_, _<_, suc-le-suc, zero-le}
 use native.Mathlib.Nat.{not-suc-le-zero, le-of-suc-le-suc, add-zero, zero-add}
 use native.Mathlib.Omega.{arith}
 use mathlib.Core.Path.{_≡_, refl, sym, ap, ap₂, subst, _∙_}
@@ -11,16 +11,16 @@ use lib.Dec.{eqb, ltb}
 use lib.IntN.{ℤ}
 use lib.ListN.{length, getD}
 use mir.Syntax.{w32}
-use mir.Val.{SFits, toZ, ofZ}
+use mir.Val.{toZ, ofZ}
 use mir.Facts.{toZ-ofZ}
 use borrow.Author.Tests.{eqb-true, ltb-true, ltb-false}
 use Rattle.laws.specs.Lists.{eqZ}
 use Rattle.laws.proofs.Bools.{both-ways, not-passed, true-or-false, and-left, and-right}
 use Rattle.laws.proofs.Order.{eqZ-true}
-use Rattle.laws.proofs.Search.{Between, Falls, middle-within, between-start, between-end, between-up, between-down}
+use Rattle.laws.proofs.Search.{Between, Falls}
 use Rattle.rules.specs.Dispatch.{Row}
 use Rattle.rules.specs.Value.{Found, findRow}
-use Rattle.reading.specs.Held.{noRow, isBefore, isOf, rowBefore, rowOf, RowsHeld, Bounded, indexOf}
+use Rattle.reading.specs.Held.{noRow, isOf, rowBefore, rowOf, RowsHeld, indexOf}
 use Rattle.reading.proofs.Orders.{before-trans, before-apart, ascending-far}
 
 abbrev found : ℕ → Row → Found
@@ -123,9 +123,6 @@ module _ (o : ℕ) (a : ℤ) where
       pub id-read : toZ w32 (getD (getD c k []) 1 0) ≡ getD rs k noRow .id
       id-read = ap (toZ w32) (H .id k inside) ∙ toZ-ofZ (H .narrow k inside)
 
-      column-before : isBefore (getD (getD c k []) 0 0) (toZ w32 (getD (getD c k []) 1 0)) o a ≡ rowBefore o a (getD rs k noRow)
-      column-before = ap₂ (λ (p : ℕ) (x : ℤ). isBefore p x o a) (H .object k inside) id-read
-
       column-of : isOf (getD (getD c k []) 0 0) (toZ w32 (getD (getD c k []) 1 0)) o a ≡ rowOf o a (getD rs k noRow)
       column-of = ap₂ (λ (p : ℕ) (x : ℤ). isOf p x o a) (H .object k inside) id-read
 
@@ -161,67 +158,3 @@ module _ (o : ℕ) (a : ℤ) where
       pub is-past : length c ≤ lo → none ≡ indexOf (findRow o a 0 rs)
       is-past l =
           sym (ap indexOf (find-none 0 rs noRow (λ j h. nowhere j h (λ k. absurd (omega (arith, H .long))) (λ k. absurd (omega (arith, H .long))))))
-
--- ---- the loop
-
-module _ (c : List (List ℕ)) (o : ℕ) (a : ℤ) where
-  pub bounded-start : Bounded c o a 0 (length c)
-  bounded-start = record {
-    within = zero-le;
-    inside = omega arith;
-    between = λ rs H. subst (Between (rowBefore o a) rs noRow 0) (sym (H .long)) (between-start (rowBefore o a) rs noRow);
-  }
-
-  -- the loop keeps the bits of the id sought
-  pub bounded-end : {lo hi : ℕ} → SFits w32 a → Bounded c o (toZ w32 (ofZ w32 a)) lo hi → hi ≤ lo → Bounded c o a lo lo
-  bounded-end {lo} {hi} f b l = subst (λ (z : ℤ). Bounded c o z lo lo) (toZ-ofZ f) (record {
-    within = omega arith;
-    inside = omega (arith, b .within, b .inside);
-    between = λ rs H. between-end (rowBefore o (toZ w32 (ofZ w32 a))) rs noRow (b .between rs H) l;
-  })
-
-  module _ {lo hi : ℕ} (b : Bounded c o a lo hi) (l : lo < hi) where
-    pub middle-inside : lo + (hi - lo) / 2 < length c
-    middle-inside = omega (arith, middle-within lo hi l .1, b .inside)
-
-    abbrev Tells : Bool → Type 0
-    Tells t = isBefore (getD (getD c (lo + (hi - lo) / 2) []) 0 0) (toZ w32 (getD (getD c (lo + (hi - lo) / 2) []) 1 0)) o a ≡ t
-
-    pub bounded-up : Tells true → Bounded c o a (lo + (hi - lo) / 2 + 1) hi
-    bounded-up e = record {
-      within = omega (arith, middle-within lo hi l .1);
-      inside = b .inside;
-      between = λ rs H.
-          between-up (rowBefore o a) rs noRow (falls o a H) (b .between rs H) (lo + (hi - lo) / 2) (middle-within lo hi l .0) (middle-within lo hi l .1)
-          (sym (column-before o a H (lo + (hi - lo) / 2) middle-inside) ∙ e);
-    }
-
-    pub bounded-down : Tells false → Bounded c o a lo (lo + (hi - lo) / 2)
-    bounded-down e = record {
-      within = middle-within lo hi l .0;
-      inside = omega (arith, middle-inside);
-      between = λ rs H.
-          between-down (rowBefore o a) rs noRow (falls o a H) (b .between rs H) (lo + (hi - lo) / 2) (middle-within lo hi l .0) (middle-within lo hi l .1)
-          (sym (column-before o a H (lo + (hi - lo) / 2) middle-inside) ∙ e);
-    }
-
--- ---- what stands at the bound; a callee is given the bits of the id sought
-
-module _ {c : List (List ℕ)} {o : ℕ} {a : ℤ} {lo : ℕ} (f : SFits w32 a) (b : Bounded c o (toZ w32 (ofZ w32 a)) lo lo) where
-  own : Bounded c o a lo lo
-  own = subst (λ (z : ℤ). Bounded c o z lo lo) (toZ-ofZ f) b
-
-  abbrev Says : Bool → Bool → Type 0
-  Says r t = (r ≡ isOf (getD (getD c lo []) 0 0) (toZ w32 (getD (getD c lo []) 1 0)) o (toZ w32 (ofZ w32 a))) × (r ≡ t)
-
-  said : {r t : Bool} → Says r t → isOf (getD (getD c lo []) 0 0) (toZ w32 (getD (getD c lo []) 1 0)) o a ≡ t
-  said s = ap (λ (z : ℤ). isOf (getD (getD c lo []) 0 0) (toZ w32 (getD (getD c lo []) 1 0)) o z) (sym (toZ-ofZ f)) ∙ sym (s .0) ∙ s .1
-
-  pub found-here : {r : Bool} → lo < length c → Says r true → (rs : List Row) → RowsHeld rs c → some lo ≡ indexOf (findRow o a 0 rs)
-  found-here l s rs H = is-found o a H (own .between rs H) l (said s)
-
-  pub missing-here : {r : Bool} → lo < length c → Says r false → (rs : List Row) → RowsHeld rs c → none ≡ indexOf (findRow o a 0 rs)
-  missing-here l s rs H = is-missing o a H (own .between rs H) l (said s)
-
-  pub missing-past : length c ≤ lo → (rs : List Row) → RowsHeld rs c → none ≡ indexOf (findRow o a 0 rs)
-  missing-past l rs H = is-past o a H (own .between rs H) l

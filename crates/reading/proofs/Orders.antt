@@ -2,21 +2,17 @@
 use Prim.Native.Nat.{ℕ, zero, suc, _<_}
 use native.Mathlib.Nat.{not-suc-le-zero, le-of-suc-le-suc}
 use native.Mathlib.Omega.{arith}
-use mathlib.Core.Path.{_≡_, refl, sym, ap, ap₂, _∙_}
+use mathlib.Core.Path.{_≡_, refl, ap, _∙_}
 use mathlib.Core.Bool.{Bool, true, false, _&&_, cond}
 use mathlib.Core.List.{List, [], _∷_}
 use lib.Dec.{eqb, ltb}
 use lib.IntN.{ℤ}
 use lib.ListN.{length, getD}
 use lib.Signed.{ltZ}
-use mir.Syntax.{w32}
-use mir.Val.{SFits, toZ, ofZ}
-use mir.Facts.{toZ-ofZ}
 use borrow.Author.Tests.{eqb-true, eq-eqb, ne-eqb, ltb-true, lt-ltb}
 use Rattle.laws.specs.Lists.{eqZ, every?}
 use Rattle.laws.proofs.Bools.{and-left, and-right, and-false-right}
 use Rattle.laws.proofs.Every.{every-at}
-use Rattle.laws.proofs.Signs.{eqZ-bits}
 use Rattle.laws.proofs.Order.{ltZ-trans, ltZ-apart}
 use Rattle.rules.specs.Dispatch.{Row}
 use Rattle.reading.specs.Held.{isBefore, isOf, rowBefore, ascending}
@@ -53,17 +49,6 @@ module _ (p : ℕ) (x : ℤ) (o : ℕ) (a : ℤ) where
 
   pub before-apart : isBefore p x o a ≡ true → isOf p x o a ≡ false
   before-apart h = apart (told p x o a h)
-
--- what the machine's tests say; n are the bits of the first id
-module _ (p : ℕ) (x : ℤ) (n : ℕ) (o : ℕ) (a : ℤ) (bits : ofZ w32 x ≡ n) (f : SFits w32 a) where
-  pub before-level : p ≡ o → ltZ (toZ w32 (ofZ w32 x)) (toZ w32 (ofZ w32 a)) ≡ isBefore p (toZ w32 n) o a
-  before-level e = ap₂ ltZ (ap (toZ w32) bits) (toZ-ofZ f) ∙ sym (ap (λ (t : Bool). cond t (ltZ (toZ w32 n) a) (ltb p o)) (eq-eqb p o e))
-
-  pub before-lower : (p ≡ o → ⊥) → ltb p o ≡ isBefore p (toZ w32 n) o a
-  before-lower e = sym (ap (λ (t : Bool). cond t (ltZ (toZ w32 n) a) (ltb p o)) (ne-eqb p o e))
-
-  pub of-bits : SFits w32 x → eqb p o && eqb (ofZ w32 x) (ofZ w32 a) ≡ isOf p (toZ w32 n) o a
-  of-bits g = ap (λ (t : Bool). eqb p o && t) (eqZ-bits x a g f ∙ ap (λ (z : ℤ). eqZ z a) (sym (toZ-ofZ g) ∙ ap (toZ w32) bits))
 
 -- a row stands before every later one
 pub ascending-far : (rs : List Row) (d : Row) → ascending rs ≡ true → (i j : ℕ) → i < j → j < length rs

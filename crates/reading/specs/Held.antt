@@ -1,5 +1,5 @@
 -- Rows and entries as they stand in the columns, and what is read off them. Definitions only.
-use Prim.Native.Nat.{ℕ, _≤_, _<_}
+use Prim.Native.Nat.{ℕ, _<_}
 use mathlib.Core.Path.{_≡_}
 use mathlib.Core.Bool.{Bool, true, _&&_, cond}
 use mathlib.Core.List.{List, [], _∷_}
@@ -13,7 +13,6 @@ use mir.Syntax.{w32}
 use mir.Val.{SFits}
 use Rattle.laws.specs.Lists.{eqZ, every?}
 use Rattle.laws.specs.Floats.{zeroF}
-use Rattle.laws.proofs.Search.{Between}
 use Rattle.rules.specs.Bytes.{bits}
 use Rattle.rules.specs.Item.{runsAt}
 use Rattle.rules.specs.Dispatch.{Row}
@@ -59,12 +58,6 @@ pub record RowsHeld (rs : List Row) (c : List (List ℕ)) : Type 0 where
   pub id : (i : ℕ) → i < length rs → getD (getD c i []) 1 0 ≡ bits (getD rs i noRow .id)
   pub narrow : (i : ℕ) → i < length rs → SFits w32 (getD rs i noRow .id)
   pub ordered : ascending rs ≡ true
-
--- the rows before lo stand before attribute a of object o, and those from hi on do not
-pub record Bounded (c : List (List ℕ)) (o : ℕ) (a : ℤ) (lo hi : ℕ) : Type 0 where
-  pub within : lo ≤ hi
-  pub inside : hi ≤ length c
-  pub between : (rs : List Row) → RowsHeld rs c → Between (rowBefore o a) rs noRow lo hi
 
 abbrev pub placed : Found → Option ℕ
 placed (At i) = some i

@@ -1,12 +1,12 @@
 // Entries by value, and what is asked of them.
-use info::bytes::index;
+use integers::signed;
 use item::CategoryFound;
 use item::OperatorFound;
 use item::codes::category_at;
 use item::codes::operator_at;
 use item::codes::operator_code;
 use item::states::runs_at;
-use numbers::signed;
+use little_endian::index;
 use rules::Effect;
 use rules::EffectCategory;
 use rules::EffectOperator;

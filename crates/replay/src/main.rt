@@ -2,10 +2,10 @@
 // Standard input is cases/kept.bin; cases/make_kept.py says how it is read.
 use calculate::Outcome;
 use calculate::dogma_calculate;
-use info::bytes::index;
-use info::bytes::u32_at;
 use libc::STDIN_FILENO;
 use libc::STDOUT_FILENO;
+use little_endian::index;
+use little_endian::u32_at;
 use std::num::wrapping_add_u64;
 use std::num::wrapping_add_usize;
 ghost use Prim.Native.Nat.{_<_, _≤_};

@@ -1,7 +1,5 @@
 // The types that code and definition share, by the Rust's names, and the constants of attribute_ids.rs and mod.rs.
 // The crate's definitions, document 01, are in specs/; what is proved of them is in proofs/.
-ghost use mathlib.Core.Path.{_≡_};
-ghost use Rattle.rules.specs.Answer.{number, place};
 
 // Attributes (attribute_ids.rs).
 pub const ATTRIBUTE_MASS_ID: i32 = 4;
@@ -309,55 +307,4 @@ pub enum Refusal {
 pub enum Answer {
     Done,
     Refused(Refusal),
-}
-
-// Document 01's number of a refusal.
-fn refusal_number(r: Refusal) -> u32
-    ensures { λ n. ⌜ n ≡ number (Answer.Refused r) ⌝ }
-{
-    match r {
-        Refusal::Shape(_) => 1,
-        Refusal::Func(_) => 2,
-        Refusal::Domain(_) => 3,
-        Refusal::Category(_) => 4,
-        Refusal::Operation(_) => 5,
-        Refusal::Other(_) => 6,
-        Refusal::Room(_) => 7,
-        Refusal::Number(_) => 8,
-        Refusal::Depth(_) => 9,
-    }
-}
-
-fn refusal_place(r: Refusal) -> u32
-    ensures { λ p. ⌜ p ≡ place (Answer.Refused r) ⌝ }
-{
-    match r {
-        Refusal::Shape(p) => p,
-        Refusal::Func(p) => p,
-        Refusal::Domain(p) => p,
-        Refusal::Category(p) => p,
-        Refusal::Operation(p) => p,
-        Refusal::Other(p) => p,
-        Refusal::Room(p) => p,
-        Refusal::Number(p) => p,
-        Refusal::Depth(p) => p,
-    }
-}
-
-pub fn number_of(a: Answer) -> u32
-    ensures { λ n. ⌜ n ≡ number a ⌝ }
-{
-    match a {
-        Answer::Done => 0,
-        Answer::Refused(r) => refusal_number(r),
-    }
-}
-
-pub fn place_of(a: Answer) -> u32
-    ensures { λ p. ⌜ p ≡ place a ⌝ }
-{
-    match a {
-        Answer::Done => 0,
-        Answer::Refused(r) => refusal_place(r),
-    }
 }

@@ -19,10 +19,10 @@ use Rattle.rules.specs.Number.{weight}
 use Rattle.rules.specs.Operate.{Copy, sorted}
 use Rattle.rules.specs.Value.{World, Mem, ownSources, noSource, withPenalty, withOwn, marked}
 use Rattle.rules.specs.declared.Source.{Source}
-use Rattle.numbers.specs.declared.Bucket.{Bucket}
-use Rattle.numbers.specs.Held.{pairs, held, copy, Gathered}
-use Rattle.numbers.proofs.Inserts.{pairs-length, held-kept}
-use Rattle.numbers.proofs.Weighings.{pairs-at}
+use Rattle.buckets.specs.declared.Bucket.{Bucket}
+use Rattle.buckets.specs.Held.{pairs, held, copy, Gathered}
+use Rattle.buckets.proofs.Inserts.{pairs-length, held-kept}
+use Rattle.buckets.proofs.Weighings.{pairs-at}
 use Rattle.sources.specs.declared.Run.{Run}
 use Rattle.sources.specs.Shown.{filled, shown, placed, firstOf, first32}
 use Rattle.sources.specs.Keeping.{RunOf, Begins, Keeping}

@@ -10,7 +10,7 @@ use borrow.Author.Tests.{ltb-true, ltb-false}
 use lib.Dec.{ltb}
 use lib.IntN.{ℤ, pos}
 use lib.Ieee.{Float, lt}
-use lib.ListN.{length, getD, set, length-append, length-set, List·getD-eq-default}
+use lib.ListN.{length, getD, set, length-append, length-map, length-set, List·getD-eq-default}
 use lib.Seq.{getD-set-same, getD-set-other}
 use Rattle.laws.specs.Lists.{eqZ}
 use Rattle.laws.specs.Floats.{zeroF}
@@ -34,7 +34,7 @@ use Rattle.rules.specs.declared.OptionalId.the-variants.{Absent, Given}
 use Rattle.rules.specs.declared.Refusal.{Refusal}
 use Rattle.rules.specs.declared.Refusal.the-variants.{Depth}
 use Rattle.rules.specs.declared.Source.{Source}
-use Rattle.sources.specs.Planned.{runsIn, plannedIf, plannedOf, plannedFor, plannedBy, Started, Grown, Leaves}
+use Rattle.sources.specs.Planned.{runsIn, plannedIf, plannedOf, plannedFor, plannedBy, countsOf, Started, Grown, Leaves}
 use Rattle.sources.proofs.Noting.{note-off, note-full, note-on}
 
 -- ---- answers that are no refusals
@@ -100,9 +100,14 @@ pub planned-all : (w : World) (es : List Effect) → plannedBy w operators es �
 planned-all w [] = none-by w operators
 planned-all w (e ∷ es) = by-entry w operators e es ∙ omega (arith, once (plannedOf w e) (e .operator), planned-all w es)
 
+-- there is a count for each row
+pub counts-long : (w : World) → length (countsOf w) ≡ length (w .rows)
+unfolding countsOf
+counts-long w = length-map (w .rows) _
+
 -- ---- marking keeps their number
 
-marked-length : (p : ℕ) (l : List Copy) (own : List Source) → length (marked p l own) ≡ length own
+pub marked-length : (p : ℕ) (l : List Copy) (own : List Source) → length (marked p l own) ≡ length own
 unfolding marked
 marked-length p [] own = refl
 marked-length p (x ∷ l) own =
@@ -302,7 +307,7 @@ module _ (i j : ℕ) (apart : j ≡ i → ⊥) where
       both set-first
       (calculate-grown w i row j (λ n. 0) (λ a b c e. refl) (λ t n. refl) (other-note w row) (λ own x e u. other-own own x u) other-value read leaves m z q (set-first .started)) refl
 
-some-none : {v : Float} → some v ≡ none → ⊥
+pub some-none : {v : Float} → some v ≡ none → ⊥
 some-none e = false≢true (sym (ap (λ (o : Option Float). elim o [ some x ↦ true | none ↦ false ]) e))
 
 -- reading leaves alone every row that has started

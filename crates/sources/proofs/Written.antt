@@ -1,13 +1,8 @@
 -- The numbers of a source row.
-use Prim.Native.Nat.{ℕ, _<_, _^_}
+use Prim.Native.Nat.{ℕ}
 use mathlib.Core.Path.{_≡_, refl, ap, _∙_}
 use mathlib.Core.List.{List, [], _∷_, _++_}
-use lib.IntN.{ℤ}
 use lib.ListN.{getD}
-use lib.Signed.{mag}
-use mir.Syntax.{w32}
-use mir.Val.{toZ, ofZ}
-use mir.ValLaws.{toZ-ofZ}
 use Rattle.rules.specs.Columns.{yes1, fromNumbers, optionalNumbers, sourceNumbers}
 use Rattle.rules.specs.Codes.{operatorCode}
 use Rattle.rules.specs.declared.Source.{Source}
@@ -15,10 +10,6 @@ use Rattle.rules.specs.declared.SourceRef.{SourceRef}
 use Rattle.rules.specs.declared.SourceRef.the-variants.{Object, Buff}
 use Rattle.rules.specs.declared.OptionalId.{OptionalId}
 use Rattle.rules.specs.declared.OptionalId.the-variants.{Absent, Given}
-
--- a signed number as a variable holds it
-pub stored : (x : ℤ) → mag x < 2 ^ 31 → ofZ w32 (toZ w32 (ofZ w32 x)) ≡ ofZ w32 x
-stored x h = ap (ofZ w32) (toZ-ofZ w32 x (record { sfits = h }))
 
 abbrev pair : List ℕ → List ℕ
 pair l = getD l 0 0 ∷ getD l 1 0 ∷ []

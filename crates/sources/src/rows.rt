@@ -1,7 +1,9 @@
 // A source row by value, and its numbers.
 use super::Run;
+use integers::bits;
+use integers::flag;
+use integers::optional_numbers;
 use item::codes::operator_code;
-use numbers::bits;
 use rules::Effect;
 use rules::OptionalId;
 use rules::Origin;
@@ -15,30 +17,12 @@ ghost use Rattle.rules.specs.Columns.{yes1, fromNumbers, optionalNumbers, sourc
 ghost use Rattle.rules.specs.Value.{fromOf, effectIdOf, sourceAttributeIdOf, toSource};
 ghost use Rattle.sources.specs.Shown.{placed};
 
-fn flag(b: bool) -> u32
-    ensures { λ r. ⌜ r ≡ yes1 b ⌝ }
-{
-    if b {
-        return 1;
-    }
-    0
-}
-
 fn from_numbers(s: SourceRef) -> [u32; 2]
     ensures { λ r. ⌜ r ≡ fromNumbers s ⌝ }
 {
     match s {
         SourceRef::Object { number } => [0, number],
         SourceRef::Buff { id } => [1, bits(id)],
-    }
-}
-
-fn optional_numbers(o: OptionalId) -> [u32; 2]
-    ensures { λ r. ⌜ r ≡ optionalNumbers o ⌝ }
-{
-    match o {
-        OptionalId::Absent => [0, 0],
-        OptionalId::Given(id) => [1, bits(id)],
     }
 }
 

@@ -1,9 +1,9 @@
 // A row found in its object's stretch of list 2, whether an attribute may have a limit, and the two tables that tell.
-use info::bytes::index;
 use info::header::count_of;
 use info::records::attribute;
-use numbers::bits;
-use numbers::signed;
+use integers::bits;
+use integers::signed;
+use little_endian::index;
 use reading::rows::Found;
 ghost use mathlib.Core.Path.{_≡_};
 ghost use mathlib.Core.Bool.{false};

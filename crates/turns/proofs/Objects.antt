@@ -3,7 +3,7 @@ use Prim.Native.Nat.{ℕ, suc, _+_, _-_, _≤_, _<_, zero-le}
 use native.Mathlib.Nat.{not-suc-le-zero}
 use native.Mathlib.Omega.{arith}
 use mathlib.Core.Path.{_≡_, sym, ap, subst, _∙_}
-use mathlib.Core.Bool.{Bool, true, false, _||_, cond}
+use mathlib.Core.Bool.{Bool, true, false, _||_}
 use mathlib.Core.List.{List, map}
 use mathlib.Core.Logic.{⊎-elim}
 use lib.Dec.{eqb, ltb}
@@ -12,13 +12,13 @@ use borrow.Author.Tests.{eqb-true, eqb-false, ltb-true, ltb-false}
 use Rattle.laws.specs.Lists.{keep, span, every?}
 use Rattle.laws.proofs.Bools.{and-left, true-or-false}
 use Rattle.laws.proofs.Keep.{keep-same}
-use Rattle.laws.proofs.Maps.{map-at}
 use Rattle.laws.proofs.Spans.{span-length}
 use Rattle.rules.specs.Sheet.{Fit}
 use Rattle.rules.specs.Shape.{stand, objectGood, objectsGood}
 use Rattle.rules.specs.Item.{object, noItem, isShip, isMode, isChar, isItem, isCharge, isSkill, isProjected, charOf}
 use Rattle.rules.specs.declared.Item.{Item}
-use Rattle.hits.proofs.Standing.{Place, Standing, standing}
+use Rattle.standing.proofs.Standing.{Place, Standing}
+use Rattle.standing.proofs.Sheets as sheets
 use Rattle.turns.specs.Order.{projectedEnd}
 use Rattle.turns.proofs.Sorted.{below, Climbs, below-inside, below-climbs, below-is, keyed-run}
 use Rattle.turns.proofs.Ranks.{rank, ranked, ranks-climb, ranks-end, ship-rank, past-ship-rank, char-rank, past-char-rank}
@@ -37,20 +37,20 @@ module _ (f : Fit) (good : objectsGood f ≡ true) where
   unfolding objectsGood
   stands = and-left (stand ks) (every? (objectGood f) os) good
 
-  kinds : Standing ks 7
-  kinds = standing 7 ks stands
+  abbrev kinds : Standing ks 7
+  kinds = sheets.kinds f good
 
   long : length ks ≡ length os
   long = length-map os (λ o. o .kind)
 
-  kind-at : (i : ℕ) → i < length os → getD ks i 7 ≡ object f i .kind
-  kind-at i h = map-at (λ o. o .kind) os i noItem 7 h
+  kind-at : (i : ℕ) → getD ks i 7 ≡ object f i .kind
+  kind-at = sheets.kind-at f good
 
   place : (i : ℕ) → i < length os → Place (kinds .at) i (object f i .kind)
-  place i h = subst (λ (k : ℕ). Place (kinds .at) i k) (kind-at i h) (kinds .place i (rw long h))
+  place i h = subst (λ (k : ℕ). Place (kinds .at) i k) (kind-at i) (kinds .place i (rw long h))
 
   char-at : kinds .at ≡ charOf f
-  char-at = sym (kinds .test) ∙ ap (λ (n : ℕ). cond (eqb n 2) 1 2) (kind-at 1 (omega (arith, kinds .early, kinds .inside, long)))
+  char-at = sheets.char-at f good
 
   char-in : kinds .at < length os
   char-in = omega (arith, kinds .inside, long)
@@ -61,7 +61,7 @@ module _ (f : Fit) (good : objectsGood f ≡ true) where
 
   pub ranks : Climbs rankOf os noItem
   ranks i j l h =
-      omega (arith, ranks-climb 7 ks stands i j l (rw long h), ap rank (kind-at i (omega arith)), ap rank (kind-at j h))
+      omega (arith, ranks-climb 7 ks stands i j l (rw long h), ap rank (kind-at i), ap rank (kind-at j))
 
   pub ends-inside : (r : ℕ) → ends r ≤ length os
   ends-inside r = below-inside rankOf os noItem ranks r
@@ -86,7 +86,7 @@ module _ (f : Fit) (good : objectsGood f ≡ true) where
   pub ends-all : ends 6 ≡ length os
   ends-all =
       below-is rankOf os noItem ranks 6 (length os) (omega arith)
-      (λ j h. omega (arith, ranks-end 7 ks stands j (rw long h), ap rank (kind-at j h))) (λ h. absurd (omega arith))
+      (λ j h. omega (arith, ranks-end 7 ks stands j (rw long h), ap rank (kind-at j))) (λ h. absurd (omega arith))
 
   -- the objects of one rank
   run : (p : Item → Bool) (r : ℕ) → ((o : Item) → p o ≡ eqb (rankOf o) r) → keep p os ≡ span (ends r) (ends (suc r) - ends r) os

@@ -14,7 +14,7 @@ use Rattle.laws.proofs.Bools.{and-left, and-right, both-ways, true-or-false}
 use Rattle.laws.proofs.Every.{every-at}
 use Rattle.laws.proofs.From.{from-at}
 use Rattle.rules.specs.Shape.{follows, standAfter, stand}
-use Rattle.hits.proofs.Standing.{Place, ship, mode, char, later}
+use Rattle.standing.proofs.Standing.{Place, ship, mode, char, later}
 use Rattle.turns.proofs.Sorted.{Climbs}
 
 -- ship, mode, char, projected, items and charges, skills

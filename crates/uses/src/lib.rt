@@ -1,8 +1,8 @@
 // Which of an object's effects are in use (pass_2.rs: abilities and side effects).
-use info::bytes::index;
 use info::records::id_at;
 use item::kinds::abilities_given;
 use item::states::is_passive;
+use little_endian::index;
 use locations::is_fighter;
 use rules::DogmaEffect;
 use rules::EffectCategory;

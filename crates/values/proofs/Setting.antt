@@ -20,7 +20,8 @@ use Rattle.rules.specs.Outcome.{blank, collectedIn, rowsIn, startsOf, valued, w
 use Rattle.rules.specs.Sheet.{Book, Fit, bookOf, fitOf}
 use Rattle.rules.specs.Value.{World, Mem}
 use Rattle.info.specs.Sound.{SoundBook, SoundFit}
-use Rattle.hits.proofs.Sheets.{objects-good, numbered}
+use Rattle.rules.proofs.Verdicts.{objects-good}
+use Rattle.standing.proofs.Sheets.{numbered}
 use Rattle.reading.specs.Held.{RowsHeld}
 use Rattle.stretches.specs.Stretched.{Stretched, Limits}
 use Rattle.turns.specs.declared.Turns.{Turns}

@@ -1,5 +1,5 @@
 // The values and the source rows of a sound sheet, once lists 1 to 4 are made (pass_3.rs).
-use pass_3::unstarted;
+use blank::unstarted;
 use plan::set_sources;
 use sources::Run;
 use stretches::set_limits;

@@ -2,9 +2,8 @@
 use Prim.Native.Nat.{ℕ, suc, _+_, _≤_, _<_}
 use native.Mathlib.Omega.{arith}
 use mathlib.Core.Path.{_≡_, refl, sym, ap, subst, _∙_}
-use mathlib.Core.Bool.{Bool, true, false}
+use mathlib.Core.Bool.{true}
 use mathlib.Core.List.{List, [], _∷_, _++_, map}
-use mathlib.Core.Option.{none}
 use borrow.Author.Tests.{ltb-true}
 use lib.Dec.{ltb}
 use lib.Ieee.{Float}
@@ -18,7 +17,8 @@ use Rattle.rules.specs.Bytes.{u32At}
 use Rattle.rules.specs.Dispatch.{Row}
 use Rattle.rules.specs.Outcome.{valued, walkOrder}
 use Rattle.rules.specs.Sheet.{Fit, fitOf}
-use Rattle.rules.specs.Shape.{objectsGood, basesGood, buffsGood, asksGood, firstBad, fitBad}
+use Rattle.rules.specs.Shape.{asksGood}
+use Rattle.rules.proofs.Verdicts.{asks-good}
 use Rattle.rules.specs.Value.{World, Mem, Read, valueOf}
 use Rattle.rules.specs.declared.Ask.{Ask}
 use Rattle.rules.specs.declared.Refusal.{Refusal}
@@ -104,21 +104,6 @@ module _ {t : Tables} {run : Run} {v₀ : List Float} {s₁ : List (List ℕ)} {
 pub depth-is : (b : List ℕ) (pairs : List (List ℕ)) {d : ℕ} → d ≡ u32At b 92 → fitOf b pairs .depth ≡ d
 unfolding fitOf
 depth-is b pairs e = sym e
-
-head-good : (n : ℕ) (t : Bool) (r : List Bool) → firstBad n (t ∷ r) ≡ none → t ≡ true
-head-good n true r e = refl
-head-good n false r e = let z : _≡_ {A = ℕ} 0 1 = cc in absurd (omega arith)
-
-tail-good : (n : ℕ) (t : Bool) (r : List Bool) → firstBad n (t ∷ r) ≡ none → firstBad (suc n) r ≡ none
-tail-good n true r e = e
-tail-good n false r e = let z : _≡_ {A = ℕ} 0 1 = cc in absurd (omega arith)
-
-asks-good : (f : Fit) → fitBad f ≡ none → asksGood f ≡ true
-unfolding fitBad
-asks-good f e =
-    head-good 10 (asksGood f) []
-    (tail-good 9 (buffsGood f) (asksGood f ∷ [])
-    (tail-good 8 true (buffsGood f ∷ asksGood f ∷ []) (tail-good 7 (basesGood f) (true ∷ buffsGood f ∷ asksGood f ∷ []) (tail-good 6 (objectsGood f) (basesGood f ∷ true ∷ buffsGood f ∷ asksGood f ∷ []) e))))
 
 pub ask-few : (b : List ℕ) (pairs : List (List ℕ)) → SoundFit b pairs → (i : ℕ) → i < length (fitOf b pairs .asks) → (a : Ask) → a ≡ getD (fitOf b pairs .asks) i a → a .object < 1024
 unfolding asksGood

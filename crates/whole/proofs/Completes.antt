@@ -23,7 +23,7 @@ use Rattle.rules.specs.declared.Ask.{Ask}
 use Rattle.rules.specs.declared.Source.{Source}
 use Rattle.reading.specs.Held.{noRow}
 use Rattle.sources.specs.Planned.{plannedOf, countsOf}
-use Rattle.sources.proofs.Planning.{calculation-gives}
+use Rattle.sources.proofs.Planning.{calculation-gives, some-none}
 use Rattle.memory.specs.Memory.{valueAt, Grows}
 use Rattle.memory.proofs.Growth.{calculate-grows, value-grows}
 use Rattle.whole.specs.Complete.{Long, Clean, Complete, Whole, Keeps}
@@ -38,9 +38,6 @@ record Settled (w : World) (j : ℕ) (m : Mem) : Type 0 where
 
 pub long-grows : {w : World} {m m′ : Mem} → Grows m m′ → Long w m → Long w m′
 long-grows g l = record { values = g .values ∙ l .values; sources = g .sources ∙ l .sources }
-
-some-none : {v : Float} → some v ≡ none → ⊥
-some-none e = let z : _≡_ {A = ℕ} 0 1 = cc in absurd (omega arith)
 
 module _ (w : World) (j : ℕ) where
   -- the calculation of another row

@@ -8,7 +8,7 @@ use mathlib.Core.Option.{Option, none, some, Option·getD}
 use borrow.Author.Tests.{ltb-true, ltb-false}
 use lib.Dec.{ltb}
 use lib.Ieee.{Float, nan}
-use lib.ListN.{length, getD, length-map, List·getD-eq-default}
+use lib.ListN.{length, getD, List·getD-eq-default}
 use Rattle.laws.specs.Floats.{zeroF}
 use Rattle.laws.proofs.Bools.{true-or-false}
 use Rattle.laws.proofs.Flat.{total, flat-length}
@@ -20,6 +20,7 @@ use Rattle.rules.specs.declared.Ask.{Ask}
 use Rattle.rules.specs.declared.Source.{Source}
 use Rattle.reading.specs.Held.{RowsHeld}
 use Rattle.sources.specs.Planned.{countsOf}
+use Rattle.sources.proofs.Planning.{counts-long}
 use Rattle.plan.proofs.Numbers.{planned-whole}
 use Rattle.memory.specs.Holding.{Holds}
 use Rattle.whole.specs.Complete.{AllValued, Complete, UsedTotal, AllAsked, Ended}
@@ -27,11 +28,6 @@ use Rattle.whole.proofs.Starts.{all-valued}
 use Rattle.whole.proofs.Completes.{blank-whole, complete-all}
 use Rattle.whole.proofs.Counted.{total-all}
 use Rattle.whole.proofs.Shows.{lengths-are, shown-column}
-
--- there is a count for each row
-pub counts-long : (w : World) → length (countsOf w) ≡ length (w .rows)
-unfolding countsOf
-counts-long w = length-map (w .rows) _
 
 -- where each has a value it matters not what stands for none
 record Some (o : Option Float) : Type 0 where

@@ -8,17 +8,17 @@ use mathlib.Core.Option.{Option, none, some}
 use lib.Dec.{ltb}
 use lib.Ieee.{Float}
 use lib.IntN.{ℤ, pos}
-use lib.ListN.{length, getD, set, length-set}
+use lib.ListN.{length, getD, set}
 use Rattle.laws.specs.Lists.{eqZ}
 use Rattle.laws.proofs.Bools.{true-or-false}
 use Rattle.rules.specs.Answer.{Res, ok, refused, _>>=_}
 use Rattle.rules.specs.Codes.{operators}
 use Rattle.rules.specs.Dispatch.{Row}
 use Rattle.rules.specs.Info.{getDogmaAttribute, highIsGood}
-use Rattle.rules.specs.Number.{weight, numberAt}
-use Rattle.rules.specs.Operate.{Copy, sorted, applied}
+use Rattle.rules.specs.Number.{numberAt}
+use Rattle.rules.specs.Operate.{sorted, applied}
 use Rattle.rules.specs.Outcome.{valued}
-use Rattle.rules.specs.Value.{World, Mem, Read, Reader, Gathered, Found, ownSources, nothing, withPenalty, noSource, note, gather, marked, withOwn, markedBy, operate, clamped, atLeast, atMost, setValue, calculate, calculatedValue, valueOf, findRow}
+use Rattle.rules.specs.Value.{World, Mem, Read, Reader, Gathered, Found, ownSources, nothing, note, gather, marked, withOwn, markedBy, operate, clamped, atLeast, atMost, setValue, calculate, calculatedValue, valueOf, findRow}
 use Rattle.rules.specs.declared.Ask.{Ask}
 use Rattle.rules.specs.declared.EffectOperator.{EffectOperator}
 use Rattle.rules.specs.declared.Refusal.the-variants.{Depth}
@@ -26,6 +26,7 @@ use Rattle.rules.specs.declared.Source.{Source}
 use Rattle.reading.specs.Held.{noRow}
 use Rattle.reading.proofs.Finds.{found-in}
 use Rattle.sources.proofs.Noting.{note-off, note-full, note-on}
+use Rattle.sources.proofs.Planning.{marked-length}
 use Rattle.sources.proofs.Results.{apart, got, then}
 use Rattle.memory.specs.Memory.{valueAt}
 use Rattle.memory.proofs.Kept.{gather-kept}
@@ -41,14 +42,6 @@ note-keeps P w i row r m m′ e k l = elim (true-or-false (w .recording)) [
     | inl t ↦ subst P (got (sym (note-on w i row r m on t) ∙ e)) l
   ]
 ]
-
--- marking keeps their number
-marked-length : (p : ℕ) (l : List Copy) (own : List Source) → length (marked p l own) ≡ length own
-unfolding marked
-marked-length p [] own = refl
-marked-length p (x ∷ l) own =
-    let r = withPenalty (weight p) (getD own (x .source) noSource) in
-    marked-length (suc p) l (set own (x .source) r) ∙ length-set own (x .source) r
 
 -- ---- a calculation of row i: by a source row more, other source rows as many as before, a value, and reading
 module _ (P : Mem → Type 0) (w : World) (i : ℕ) (row : Row)

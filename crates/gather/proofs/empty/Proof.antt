@@ -5,7 +5,7 @@ use Rattle.gather.proofs.empty.Statement.{statement}
 use Rattle.gather.proofs.empty.Tie as tie
 use Rattle.gather.proofs.empty.Reads as reads
 use Rattle.gather.proofs.empty.Lts as lts
-use Rattle.numbers.proofs.Bucket.new.Reads as new-reads
+use Rattle.buckets.proofs.Bucket.new.Reads as new-reads
 use Rattle.operate.proofs.start.Reads as start-reads
 use mathlib.Core.Path.{refl}
 

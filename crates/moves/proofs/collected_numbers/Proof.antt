@@ -6,11 +6,12 @@ use Rattle.moves.proofs.collected_numbers.Tie as tie
 use Rattle.moves.proofs.collected_numbers.Reads as reads
 use Rattle.moves.proofs.collected_numbers.Lts as lts
 use Rattle.moves.proofs.modifier_numbers.Reads as modifier-numbers-reads
-use Rattle.moves.proofs.optional_numbers.Reads as optional-numbers-reads
+use Rattle.integers.proofs.optional_numbers.Reads as optional-numbers-reads
 use Rattle.moves.proofs.origin_numbers.Reads as origin-numbers-reads
 use Rattle.item.proofs.codes.operator_code.Reads as operator-code-reads
-use Rattle.numbers.proofs.bits.Reads as bits-reads
-use Rattle.moves.proofs.Numbers.{row, stored}
+use Rattle.integers.proofs.bits.Reads as bits-reads
+use Rattle.moves.proofs.Numbers.{row}
+use Rattle.integers.proofs.Signs.{stored}
 use mathlib.Core.Path.{_∙_}
 
 origin-numbers-requires : tie.Need-origin-numbers-requires

@@ -5,9 +5,9 @@ use Rattle.moves.proofs.modifier_numbers.Statement.{statement}
 use Rattle.moves.proofs.modifier_numbers.Tie as tie
 use Rattle.moves.proofs.modifier_numbers.Reads as reads
 use Rattle.moves.proofs.modifier_numbers.Lts as lts
-use Rattle.numbers.proofs.bits.Reads as bits-reads
+use Rattle.integers.proofs.bits.Reads as bits-reads
 use mathlib.Core.Path.{refl}
-use Rattle.moves.proofs.Numbers.{stored}
+use Rattle.integers.proofs.Signs.{stored}
 
 enum-known-m : tie.Need-enum-known-m
 enum-known-m c = search needs

@@ -6,9 +6,9 @@ use Rattle.moves.proofs.origin_numbers.Tie as tie
 use Rattle.moves.proofs.origin_numbers.Reads as reads
 use Rattle.moves.proofs.origin_numbers.Lts as lts
 use Rattle.item.proofs.codes.category_code.Reads as category-code-reads
-use Rattle.numbers.proofs.bits.Reads as bits-reads
+use Rattle.integers.proofs.bits.Reads as bits-reads
 use mathlib.Core.Path.{refl}
-use Rattle.moves.proofs.Numbers.{stored}
+use Rattle.integers.proofs.Signs.{stored}
 
 enum-known-o : tie.Need-enum-known-o
 enum-known-o c = search needs

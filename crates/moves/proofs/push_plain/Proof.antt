@@ -5,9 +5,9 @@ use Rattle.moves.proofs.push_plain.Statement.{statement}
 use Rattle.moves.proofs.push_plain.Tie as tie
 use Rattle.moves.proofs.push_plain.Reads as reads
 use Rattle.moves.proofs.push_plain.Lts as lts
-use Rattle.numbers.proofs.bits.Reads as bits-reads
+use Rattle.integers.proofs.bits.Reads as bits-reads
 use Rattle.moves.proofs.Runs.{no-plain-room, pushed-plain}
-use Rattle.moves.proofs.Numbers.{stored}
+use Rattle.integers.proofs.Signs.{stored}
 use mathlib.Core.Path.{_∙_}
 
 returns : tie.Need-returns

@@ -36,10 +36,10 @@ use Rattle.gather.proofs.add_entry.Reads as add-entry-reads
 use Rattle.gather.proofs.counted.Reads as counted-reads
 use Rattle.gather.proofs.empty.Reads as empty-reads
 use Rattle.gather.proofs.stopped.Reads as stopped-reads
-use Rattle.info.proofs.look_ups.get_dogma_attribute.Reads as get-dogma-attribute-reads
+use Rattle.look_ups.proofs.get_dogma_attribute.Reads as get-dogma-attribute-reads
 use Rattle.item.proofs.codes.operator_code.Reads as operator-code-reads
 use Rattle.numbers.proofs.product.Reads as product-reads
-use Rattle.numbers.proofs.signed.Reads as signed-reads
+use Rattle.integers.proofs.signed.Reads as signed-reads
 use Rattle.reading.proofs.entries.entry_at.Reads as entry-at-reads
 use Rattle.reading.proofs.entries.has_operator.Reads as has-operator-reads
 use Rattle.reading.proofs.entries.is_running.Reads as is-running-reads

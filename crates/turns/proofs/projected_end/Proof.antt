@@ -9,7 +9,8 @@ use mathlib.Core.Path.{sym, ap, _∙_}
 use Rattle.rules.specs.Sheet.{fitOf}
 use Rattle.rules.specs.Item.{noItem}
 use Rattle.info.proofs.Elements.{objects-length}
-use Rattle.hits.proofs.Sheets.{objects-good, char-inside}
+use Rattle.rules.proofs.Verdicts.{objects-good}
+use Rattle.standing.proofs.Sheets.{char-inside}
 use Rattle.turns.proofs.Passing.{Passing, passing-none, passing-more, passing-other, passing-all}
 
 abbrev Inv-loop : tie.InvT-loop

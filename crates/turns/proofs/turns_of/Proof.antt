@@ -7,7 +7,8 @@ use Prim.Native.Nat.{ℕ, _+_}
 use mathlib.Core.Path.{ap, _∙_}
 use Rattle.turns.specs.Order.{rowsBelow}
 use Rattle.rules.specs.Sheet.{fitOf}
-use Rattle.hits.proofs.Sheets.{objects-good, numbered}
+use Rattle.rules.proofs.Verdicts.{objects-good}
+use Rattle.standing.proofs.Sheets.{numbered}
 use Rattle.turns.proofs.Walks.{objects-climb, turns-are}
 
 pub turns-of-spec : {M : Type 1} → statement M

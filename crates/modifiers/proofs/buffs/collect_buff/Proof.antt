@@ -9,7 +9,7 @@ use mir.Syntax.{w32}
 use mir.ValLaws.{toZ-ofZ}
 use Rattle.rules.specs.Sheet.{bookOf}
 use Rattle.rules.specs.Info.{getDbuffCollection}
-use Rattle.info.specs.LookUps.{collectionFound}
+use Rattle.look_ups.specs.LookUps.{collectionFound}
 use Rattle.moves.proofs.Runs.{ran-none, ran-same}
 use Rattle.modifiers.proofs.Gives.{buff-none}
 use Rattle.modifiers.proofs.Inside.{collection-inside}

@@ -9,7 +9,7 @@ use mir.Syntax.{w32}
 use mir.ValLaws.{toZ-ofZ}
 use Rattle.rules.specs.Sheet.{bookOf, fitOf}
 use Rattle.rules.specs.Info.{getDogmaEffect}
-use Rattle.info.specs.LookUps.{effectFound}
+use Rattle.look_ups.specs.LookUps.{effectFound}
 use Rattle.moves.proofs.Runs.{ran-none, ran-same}
 use Rattle.modifiers.proofs.Gives.{projected-none}
 use Rattle.modifiers.proofs.Inside.{effect-inside, stands-based}

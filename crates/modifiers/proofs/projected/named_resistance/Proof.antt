@@ -6,7 +6,7 @@ use Rattle.modifiers.proofs.projected.named_resistance.Tie as tie
 use borrow.Author.Needs.{sfits-of}
 use mathlib.Core.Path.{sym, ap, _∙_}
 use Rattle.rules.specs.Sheet.{fitOf}
-use Rattle.info.specs.LookUps.{baseFound}
+use Rattle.look_ups.specs.LookUps.{baseFound}
 use Rattle.info.proofs.Elements.{kept}
 use Rattle.modifiers.proofs.Resists.{named-none, named-some}
 

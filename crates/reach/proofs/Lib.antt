@@ -1,0 +1,3 @@
+pub mod Skills
+pub mod Telling
+pub mod Reach

@@ -1,0 +1,144 @@
+// What of the objects decides who is touched: two tables, a row for each object, read once.
+use categories::categories_of;
+use info::header::count_of;
+use info::records::object;
+use integers::bits;
+use integers::cut;
+use integers::flag;
+use locations::Categories;
+use locations::is_in_ship;
+use locations::is_on_char;
+use locations::is_owner_modifiable;
+use look_ups::FoundBase;
+use look_ups::get_base;
+use rules::CHAR;
+use rules::CHARGE;
+use rules::ITEM;
+use rules::Item;
+use rules::SHIP;
+use rules::SKILL;
+ghost use mathlib.Core.Path.{_≡_};
+ghost use Prim.Native.Nat.{_<_};
+ghost use Rattle.rules.specs.Bytes.{countOf};
+ghost use Rattle.rules.specs.Sheet.{Book, Fit, bookOf, fitOf};
+ghost use Rattle.rules.specs.Info.{getBase};
+ghost use Rattle.rules.specs.Item as items;
+ghost use Rattle.rules.specs.Dispatch.{carrier};
+ghost use Rattle.info.specs.Sound.{HeldBook, HeldFit, SoundFit, Based};
+ghost use Rattle.locations.specs.Categories.{CategoriesOf};
+ghost use Rattle.reach.specs.Reach.{skillBits, requiredBits, reachOf, Told};
+
+// The item that an item or a charge goes by: a charge's stands before it.
+fn carrier_of(fit: &[u8], pairs: &[[u32; 2]; 10], i: usize) -> Item
+    requires { ⌜ SoundFit (now fit) (now pairs) ⌝ }
+    requires { ⌜ i < countOf (now pairs) 6 ⌝ }
+    ensures { λ r. ⌜ r ≡ carrier (fitOf (now (fit .entry)) (now (pairs .entry))) (items.object (fitOf (now (fit .entry)) (now (pairs .entry))) i) ⌝ }
+{
+    let o = object(fit, pairs, i);
+    if o.kind == CHARGE {
+        return object(fit, pairs, i - 1);
+    }
+    o
+}
+
+// The columns of an object, which goes by c.
+fn columns(categories: Categories, o: Item, c: Item) -> [u32; 8]
+    ensures { λ r. ⌜ ((k : Book) (f : Fit) → CategoriesOf k categories → c ≡ carrier f o → r ≡ reachOf k f o) ⌝ }
+{
+    let fitted = (o.kind == ITEM) | (o.kind == CHARGE);
+    let in_ship = fitted & is_in_ship(categories, c);
+    let on_char = fitted & is_on_char(c);
+    let char_item = (o.kind == ITEM) & is_on_char(o);
+    let owned = (o.kind == CHARGE) | (o.kind == ITEM) & is_owner_modifiable(o);
+    [
+        flag((o.kind == SHIP) | in_ship),
+        flag((o.kind == CHAR) | (o.kind == SKILL)),
+        flag(char_item),
+        flag(in_ship),
+        flag(on_char),
+        flag(owned),
+        1,
+        bits(o.group_id),
+    ]
+}
+
+pub fn reach_of(book: &[u8], fit: &[u8], pairs: &[[u32; 2]; 10], i: usize) -> [u32; 8]
+    requires { ⌜ HeldBook (now book) (now pairs) ⌝ }
+    requires { ⌜ SoundFit (now fit) (now pairs) ⌝ }
+    requires { ⌜ i < countOf (now pairs) 6 ⌝ }
+    ensures { λ r. ⌜ r ≡ reachOf (bookOf (now (book .entry)) (now (pairs .entry))) (fitOf (now (fit .entry)) (now (pairs .entry))) (items.object (fitOf (now (fit .entry)) (now (pairs .entry))) i) ⌝ }
+{
+    let categories = categories_of(book);
+    let o = object(fit, pairs, i);
+    let c = carrier_of(fit, pairs, i);
+    columns(categories, o, c)
+}
+
+// No skill: above every 32 bits.
+const NO_SKILL: u64 = 4294967296;
+
+// The skill that an object's attribute requires, by its bits.
+fn required_by(fit: &[u8], pairs: &[[u32; 2]; 10], o: Item, attribute: i32) -> u64
+    requires { ⌜ HeldFit (now fit) (now pairs) ⌝ }
+    requires { ⌜ Based (fitOf (now fit) (now pairs)) o ⌝ }
+    ensures { λ r. ⌜ r ≡ skillBits (getBase (fitOf (now (fit .entry)) (now (pairs .entry))) o attribute) ⌝ }
+{
+    let found = get_base(fit, pairs, o, attribute);
+    let FoundBase::At(b) = found else {
+        return NO_SKILL;
+    };
+    let skill = bits(cut(b.value));
+    skill as u64
+}
+
+// The skills that object i requires, fixed from base values.
+pub fn required_skills(fit: &[u8], pairs: &[[u32; 2]; 10], i: usize) -> [u64; 6]
+    requires { ⌜ SoundFit (now fit) (now pairs) ⌝ }
+    requires { ⌜ i < countOf (now pairs) 6 ⌝ }
+    ensures { λ r. ⌜ r ≡ requiredBits (fitOf (now (fit .entry)) (now (pairs .entry))) (items.object (fitOf (now (fit .entry)) (now (pairs .entry))) i) ⌝ }
+{
+    let o = object(fit, pairs, i);
+    [
+        required_by(fit, pairs, o, 182),
+        required_by(fit, pairs, o, 183),
+        required_by(fit, pairs, o, 184),
+        required_by(fit, pairs, o, 1285),
+        required_by(fit, pairs, o, 1289),
+        required_by(fit, pairs, o, 1290),
+    ]
+}
+
+// The required skills of all objects.
+pub fn skill_table(fit: &[u8], pairs: &[[u32; 2]; 10]) -> [[u64; 6]; 1024]
+    requires { ⌜ SoundFit (now fit) (now pairs) ⌝ }
+    ensures { λ r. ⌜ Told (requiredBits (fitOf (now (fit .entry)) (now (pairs .entry)))) (fitOf (now (fit .entry)) (now (pairs .entry))) r ⌝ }
+{
+    let objects = count_of(pairs, 6);
+    let none = [NO_SKILL; 6];
+    let mut rows = [none; 1024];
+    let mut i = 0;
+    while i < objects {
+        let row = required_skills(fit, pairs, i);
+        rows[i] = row;
+        i += 1;
+    }
+    rows
+}
+
+// The columns of all objects.
+pub fn reach_table(book: &[u8], fit: &[u8], pairs: &[[u32; 2]; 10]) -> [[u32; 8]; 1024]
+    requires { ⌜ HeldBook (now book) (now pairs) ⌝ }
+    requires { ⌜ SoundFit (now fit) (now pairs) ⌝ }
+    ensures { λ r. ⌜ Told (reachOf (bookOf (now (book .entry)) (now (pairs .entry))) (fitOf (now (fit .entry)) (now (pairs .entry)))) (fitOf (now (fit .entry)) (now (pairs .entry))) r ⌝ }
+{
+    let objects = count_of(pairs, 6);
+    let zeros = [0u32; 8];
+    let mut rows = [zeros; 1024];
+    let mut i = 0;
+    while i < objects {
+        let row = reach_of(book, fit, pairs, i);
+        rows[i] = row;
+        i += 1;
+    }
+    rows
+}

@@ -1,0 +1,4 @@
+pub mod Narrow
+pub mod Standing
+pub mod Sheets
+pub mod Rows
