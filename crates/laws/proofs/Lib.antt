@@ -13,6 +13,7 @@ pub mod Order
 pub mod Signs
 pub mod Ascending
 pub mod Search
+pub mod Windows
 pub mod Inserts
 pub mod Placed
 pub mod Laid

@@ -1,8 +1,18 @@
-// The crate's definitions are in specs/, its laws in proofs/. A crate has a function.
+// Definitions are in specs/, laws in proofs/; here is what the searches share.
 ghost use mathlib.Core.Path.{_≡_};
+ghost use mathlib.Core.Bool.{cond};
+ghost use Prim.Native.Nat.{_≤_};
 
-pub fn nothing() -> u32
-    ensures { λ r. ⌜ r ≡ 0 ⌝ }
+// The places between which a bound lies: so many, from low on.
+pub struct Window {
+    pub low: usize,
+    pub left: usize,
+}
+
+// How far on: so many where the test passed, else none.
+pub fn step(n: usize, passed: bool) -> usize
+    ensures { λ r. ⌜ r ≡ cond passed n 0 ⌝ }
+    ensures { λ r. ⌜ r ≤ n ⌝ }
 {
-    0
+    if passed { n } else { 0 }
 }

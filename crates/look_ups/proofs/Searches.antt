@@ -1,9 +1,9 @@
--- A binary search over the keys of records.
-use Prim.Native.Nat.{ℕ, _+_, _*_, _-_, _/_, _≤_, _<_}
+-- A search over the keys of records.
+use Prim.Native.Nat.{ℕ, _+_, _*_, _-_, _≤_, _<_}
 use native.Mathlib.Nat.{mul-le-mul-left, mul-suc, zero-add}
 use native.Mathlib.Omega.{arith}
 use mathlib.Core.Path.{_≡_, sym, ap, subst, _∙_}
-use mathlib.Core.Bool.{Bool, true, false}
+use mathlib.Core.Bool.{Bool, true, false, cond}
 use mathlib.Core.List.{List}
 use mathlib.Core.Logic.{_⊎_, inl, inr, ⊎-elim}
 use lib.Dec.{ltb}
@@ -19,8 +19,9 @@ use mir.ValLaws.{toZ-ofZ}
 use Rattle.laws.specs.Lists.{eqZ, first, from}
 use Rattle.laws.proofs.From.{from-at, from-length}
 use Rattle.laws.proofs.Signs.{tested-same, tested-apart}
-use Rattle.laws.proofs.Search.{Between, Falls, lessThan, hasKey, middle-within, between-start, between-end, between-up, between-down, falls-less, lower-found, lower-missing, lower-past, run-is, upper-walked}
-use Rattle.look_ups.specs.LookUps.{keyAt, Keyed, Lower, RunTo}
+use Rattle.laws.proofs.Search.{Between, Falls, lessThan, hasKey, between-start, falls-less, lower-found, lower-missing, lower-past, run-is, upper-walked}
+use Rattle.laws.proofs.Windows.{Counted, counted-more, narrowed}
+use Rattle.look_ups.specs.LookUps.{keyAt, Keyed, Bounds, Lower, RunTo}
 use Rattle.info.proofs.Elements.{kept}
 
 -- every key from lo to hi is a
@@ -48,16 +49,16 @@ module _ (b : List ℕ) (at w n : ℕ) where
   there k l = from-at 0 n k 0 l ∙ zero-add k
 
   module _ (a : ℤ) where
-    -- the bound lies between lo and hi
-    abbrev pub Bounds : ℕ → ℕ → Type 0
-    Bounds lo hi = Between (lessThan (keyAt b at w) a) (from 0 n) 0 lo hi
+    -- of the places before k those before found have keys that are less than a, and the others have not
+    abbrev pub Counts : ℕ → ℕ → Type 0
+    Counts k found = Counted (lessThan (keyAt b at w) a) (from 0 n) 0 k found
 
-    pub bounds-start : Bounds 0 n
-    bounds-start = subst (Bounds 0) (from-length 0 n) (between-start (lessThan (keyAt b at w) a) (from 0 n) 0)
+    pub bounds-start : Bounds b at w n a 0 n
+    bounds-start = subst (Bounds b at w n a 0) (from-length 0 n) (between-start (lessThan (keyAt b at w) a) (from 0 n) 0)
 
     -- the loop keeps the bits of the one sought
-    pub bounds-back : {lo hi : ℕ} → SFits w32 a → Between (lessThan (keyAt b at w) (toZ w32 (ofZ w32 a))) (from 0 n) 0 lo hi → Bounds lo hi
-    bounds-back {lo} {hi} f i = subst (λ (z : ℤ). Between (lessThan (keyAt b at w) z) (from 0 n) 0 lo hi) (toZ-ofZ w32 a f) i
+    pub bounds-back : {lo hi : ℕ} → SFits w32 a → Bounds b at w n (toZ w32 (ofZ w32 a)) lo hi → Bounds b at w n a lo hi
+    bounds-back {lo} {hi} f i = subst (λ (z : ℤ). Bounds b at w n z lo hi) (toZ-ofZ w32 a f) i
 
     -- a callee is given the bits of the one sought too
     pub lower-back : {lo : ℕ} → SFits w32 a → Lower b at w n (toZ w32 (ofZ w32 a)) lo → Lower b at w n a lo
@@ -66,30 +67,29 @@ module _ (b : List ℕ) (at w n : ℕ) where
     pub walk-back : {lo hi : ℕ} → SFits w32 a → Walk b at w n (toZ w32 (ofZ w32 a)) lo hi → Walk b at w n a lo hi
     walk-back {lo} {hi} f v = subst (λ (z : ℤ). Walk b at w n z lo hi) (toZ-ofZ w32 a f) v
 
-    module _ (h : Keyed b at w n) {lo hi : ℕ} (i : Bounds lo hi) where
-      high : hi ≤ n
-      high = rw (from-length 0 n) at (i .inside)
+    pub bounds-high : {lo hi : ℕ} → Keyed b at w n → Bounds b at w n a lo hi → hi ≤ n
+    bounds-high h i = rw (from-length 0 n) at (i .inside)
 
-      module _ (l : lo < hi) where
-        falls : Falls (lessThan (keyAt b at w) a) (from 0 n) 0
-        falls = falls-less (keyAt b at w) (from 0 n) 0 a (h .ordered)
+    -- a step by the key that was read at k
+    stepped : {x : ℕ} {t : Bool} (m k : ℕ) → k < n → ltZ (keyAt b at w k) a ≡ t → x ≡ cond t m 0 → x ≡ cond (lessThan (keyAt b at w) a (getD (from 0 n) k 0)) m 0
+    stepped m k l e p = p ∙ ap (λ (t : Bool). cond t m 0) (sym (ap (lessThan (keyAt b at w) a) (there k l) ∙ e))
 
-        pub in-list : lo + (hi - lo) / 2 < n
-        in-list = omega (arith, middle-within lo hi l .1, high)
+    module _ (h : Keyed b at w n) where
+      falls : Falls (lessThan (keyAt b at w) a) (from 0 n) 0
+      falls = falls-less (keyAt b at w) (from 0 n) 0 a (h .ordered)
 
-        tested-there : (t : Bool) → ltZ (keyAt b at w (lo + (hi - lo) / 2)) a ≡ t → lessThan (keyAt b at w) a (getD (from 0 n) (lo + (hi - lo) / 2) 0) ≡ t
-        tested-there t e = ap (lessThan (keyAt b at w) a) (there _ in-list) ∙ e
+      pub bounds-narrowed
+          : {x y z : ℕ} {s u v : Bool} (lo left q : ℕ) → Bounds b at w n a lo (lo + left) → 0 < q → 4 * q ≤ left
+          → ltZ (keyAt b at w (lo + q - 1)) a ≡ s → x ≡ cond s q 0
+          → ltZ (keyAt b at w (lo + 2 * q - 1)) a ≡ u → y ≡ cond u q 0
+          → ltZ (keyAt b at w (lo + 3 * q - 1)) a ≡ v → z ≡ cond v q 0
+          → Bounds b at w n a (lo + x + y + z) (lo + x + y + z + (left - 3 * q))
+      bounds-narrowed lo left q i m four e p e2 p2 e3 p3 =
+          let high = bounds-high h i in
+          narrowed (lessThan (keyAt b at w) a) (from 0 n) 0 falls q i m four (stepped q (lo + q - 1) (omega arith) e p) (stepped q (lo + 2 * q - 1) (omega arith) e2 p2) (stepped q (lo + 3 * q - 1) (omega arith) e3 p3)
 
-        pub bounds-up : ltZ (keyAt b at w (lo + (hi - lo) / 2)) a ≡ true → Bounds (lo + (hi - lo) / 2 + 1) hi
-        bounds-up e =
-            between-up _ _ _ falls i _ (middle-within lo hi l .0) (middle-within lo hi l .1) (tested-there true e)
-
-        pub bounds-down : ltZ (keyAt b at w (lo + (hi - lo) / 2)) a ≡ false → Bounds lo (lo + (hi - lo) / 2)
-        bounds-down e =
-            between-down _ _ _ falls i _ (middle-within lo hi l .0) (middle-within lo hi l .1) (tested-there false e)
-
-      pub bounds-end : hi ≤ lo → Bounds lo lo
-      bounds-end l = between-end _ _ _ i l
+      pub counts-more : {k found x : ℕ} {t : Bool} → Counts k found → k < n → ltZ (keyAt b at w k) a ≡ t → x ≡ cond t 1 0 → Counts (k + 1) (found + x)
+      counts-more {k} c l e p = counted-more (lessThan (keyAt b at w) a) (from 0 n) 0 falls c (rw (from-length 0 n) l) (stepped 1 k l e p)
 
     module _ (h : Keyed b at w n) {lo : ℕ} (bound : Lower b at w n a lo) where
       same-there : (t : Bool) → lo < n → eqZ (keyAt b at w lo) a ≡ t → hasKey (keyAt b at w) a (getD (from 0 n) lo 0) ≡ t

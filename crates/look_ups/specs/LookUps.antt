@@ -31,9 +31,13 @@ pub record Keyed (b : List ℕ) (at w n : ℕ) : Type 0 where
   pub inside : at + w * n ≤ length b
   pub ordered : notDescending (map (keyAt b at w) (from 0 n)) ≡ true
 
+-- the first place whose key is not less than a lies between lo and hi
+abbrev pub Bounds : List ℕ → ℕ → ℕ → ℕ → ℤ → ℕ → ℕ → Type 0
+Bounds b at w n a lo hi = Between (lessThan (keyAt b at w) a) (from 0 n) 0 lo hi
+
 -- lo is the first place whose key is not less than a
 abbrev pub Lower : List ℕ → ℕ → ℕ → ℕ → ℤ → ℕ → Type 0
-Lower b at w n a lo = Between (lessThan (keyAt b at w) a) (from 0 n) 0 lo lo
+Lower b at w n a lo = Bounds b at w n a lo lo
 
 -- the records whose key is a stand from lo to hi
 pub record RunTo (b : List ℕ) (at w n : ℕ) (a : ℤ) (lo hi : ℕ) : Type 0 where

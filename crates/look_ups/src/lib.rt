@@ -5,6 +5,8 @@ use info::records::attribute;
 use info::records::base_attribute;
 use info::records::buff_collection;
 use info::records::effect;
+use laws::Window;
+use laws::step;
 use little_endian::i32_at;
 use little_endian::index;
 use rules::BaseAttribute;
@@ -19,7 +21,7 @@ ghost use Rattle.laws.specs.Lists.{eqZ, first, from};
 ghost use Rattle.rules.specs.Sheet.{bookOf, fitOf};
 ghost use Rattle.rules.specs.Info.{getDogmaAttribute, getDogmaEffect, getDogmaEffects, getDbuffCollection, getBase};
 ghost use Rattle.info.specs.Sound.{HeldFit, SoundBook, Based};
-ghost use Rattle.look_ups.specs.LookUps.{keyAt, Keyed, Lower, RunTo, Stretch, placeFound, effectFound, collectionFound, baseFound};
+ghost use Rattle.look_ups.specs.LookUps.{keyAt, Keyed, Bounds, Lower, RunTo, Stretch, placeFound, effectFound, collectionFound, baseFound};
 
 enum Found {
     At(usize),
@@ -54,23 +56,42 @@ fn key_at(b: &[u8], at: usize, w: usize, k: usize) -> i32
     i32_at(b, at + w * k)
 }
 
-// The first of n places, each of w bytes, whose key is not less than the one sought.
+// Where the first of n places, each of w bytes, whose key is not less than the one sought lies: of eight or more a quarter and what is over is left.
+fn narrowed(b: &[u8], at: usize, w: usize, n: usize, id: i32) -> Window
+    requires { ⌜ Keyed (now b) at w n ⌝ }
+    ensures { λ r. ⌜ Bounds (now (b .entry)) at w n id (r .low) (r .low + r .left) ⌝ }
+{
+    let mut low = 0;
+    let mut left = n;
+    while 7 < left {
+        let q = left / 4;
+        let first = key_at(b, at, w, low + q - 1);
+        let middle = key_at(b, at, w, low + 2 * q - 1);
+        let last = key_at(b, at, w, low + 3 * q - 1);
+        low = low + step(q, first < id) + step(q, middle < id) + step(q, last < id);
+        left -= 3 * q;
+    }
+    Window {
+        low: low,
+        left: left,
+    }
+}
+
+// The first of n places whose key is not less than the one sought: in its window the lesser are counted.
 fn lower(b: &[u8], at: usize, w: usize, n: usize, id: i32) -> usize
     requires { ⌜ Keyed (now b) at w n ⌝ }
     ensures { λ r. ⌜ Lower (now (b .entry)) at w n id r ⌝ }
 {
-    let mut low = 0;
-    let mut high = n;
-    while low < high {
-        let middle = low + (high - low) / 2;
-        let key = key_at(b, at, w, middle);
-        if key < id {
-            low = middle + 1;
-        } else {
-            high = middle;
-        }
+    let window = narrowed(b, at, w, n, id);
+    let mut k = window.low;
+    let end = k + window.left;
+    let mut found = k;
+    while k < end {
+        let key = key_at(b, at, w, k);
+        found = found + step(1, key < id);
+        k += 1;
     }
-    low
+    found
 }
 
 // The first of n records whose key is the one sought.
