@@ -1,5 +1,5 @@
 -- The search in a stretch finds what the definition's first match is.
-use Prim.Native.Nat.{ℕ, _+_, _-_, _/_, _≤_, _<_}
+use Prim.Native.Nat.{ℕ, _+_, _*_, _-_, _≤_, _<_}
 use native.Mathlib.Omega.{arith}
 use mathlib.Core.Path.{_≡_, sym, ap, subst, _∙_}
 use mathlib.Core.Bool.{Bool, true, false, _&&_, cond}
@@ -17,7 +17,8 @@ use borrow.Author.Tests.{eq-eqb, ne-eqb, ltb-true, ltb-false}
 use Rattle.laws.specs.Lists.{eqZ}
 use Rattle.laws.proofs.Bools.{not-passed, true-or-false}
 use Rattle.laws.proofs.Signs.{tested-same, tested-apart}
-use Rattle.laws.proofs.Search.{Between, middle-within, between-end, between-up, between-down}
+use Rattle.laws.proofs.Search.{Between, between-end}
+use Rattle.laws.proofs.Windows.{Counted, counted-start, counted-more, counted-end, narrowed}
 use Rattle.rules.specs.Dispatch.{Row}
 use Rattle.rules.specs.Value.{findRow}
 use Rattle.reading.specs.Held.{noRow, isBefore, isOf, rowBefore, RowsHeld, indexOf}
@@ -32,42 +33,75 @@ own-before p x o a e = ap (λ (t : Bool). cond t (ltZ x a) (ltb p o)) (eq-eqb p 
 -- ---- the loop
 
 module _ (c : List (List ℕ)) (a : ℤ) (first end : ℕ) where
-  pub narrowed-start : Narrowed c a first end first end
-  narrowed-start = record { within = omega arith; between = λ o rs H w b. b }
+  pub narrowed-start : first ≤ end → Narrowed c a first end first (first + (end - first))
+  narrowed-start l =
+      let all : first + (end - first) ≡ end = omega arith in
+      record { within = omega arith; between = λ o rs H w b. rw all b }
 
   -- the loop keeps the bits of the id sought
-  pub narrowed-end : {lo hi : ℕ} → SFits w32 a → Narrowed c (toZ w32 (ofZ w32 a)) first end lo hi → hi ≤ lo → Narrowed c a first end lo lo
-  narrowed-end {lo} {hi} f n l = subst (λ (z : ℤ). Narrowed c z first end lo lo) (toZ-ofZ f) (record {
-    within = n .within;
-    between = λ o rs H w b. between-end (rowBefore o (toZ w32 (ofZ w32 a))) rs noRow (n .between o rs H w b) l;
-  })
+  pub narrowed-back : {lo hi : ℕ} → SFits w32 a → Narrowed c (toZ w32 (ofZ w32 a)) first end lo hi → Narrowed c a first end lo hi
+  narrowed-back {lo} {hi} f n = subst (λ (z : ℤ). Narrowed c z first end lo hi) (toZ-ofZ f) n
 
-  module _ {lo hi : ℕ} (n : Narrowed c a first end lo hi) (h : hi ≤ end) (i : end ≤ length c) (l : lo < hi) where
-    pub middle-inside : lo + (hi - lo) / 2 < length c
-    middle-inside = omega (arith, middle-within lo hi l .1)
+  -- no row stands between
+  pub narrowed-none : end ≤ first → Narrowed c a first end first first
+  narrowed-none l = record { within = omega arith; between = λ o rs H w b. between-end (rowBefore o a) rs noRow b l }
 
-    middle-before : (o : ℕ) (rs : List Row) → RowsHeld rs c → AllOf o rs first end
-        → ltZ (toZ w32 (getD (getD c (lo + (hi - lo) / 2) []) 1 0)) a ≡ rowBefore o a (getD rs (lo + (hi - lo) / 2) noRow)
-    middle-before o rs H w =
-        let m = lo + (hi - lo) / 2 in
-        ap (λ (x : ℤ). ltZ x a) (id-read o a H m middle-inside)
-        ∙ sym (own-before (getD rs m noRow .object) (getD rs m noRow .id) o a (w m (omega (arith, middle-within lo hi l .0, n .within)) (omega (arith, middle-within lo hi l .1))))
+  -- of the rows before k those before found stand before the attribute, and the others do not
+  pub record Counts (k found : ℕ) : Type 0 where
+    pub within : first ≤ found
+    pub upTo : found ≤ k
+    pub counted : (o : ℕ) (rs : List Row) → RowsHeld rs c → AllOf o rs first end → Between (rowBefore o a) rs noRow first end → Counted (rowBefore o a) rs noRow k found
 
-    pub narrowed-up : ltZ (toZ w32 (getD (getD c (lo + (hi - lo) / 2) []) 1 0)) a ≡ true → Narrowed c a first end (lo + (hi - lo) / 2 + 1) hi
-    narrowed-up e = record {
-      within = omega (arith, middle-within lo hi l .0, n .within);
-      between = λ o rs H w b.
-          between-up (rowBefore o a) rs noRow (falls o a H) (n .between o rs H w b) (lo + (hi - lo) / 2) (middle-within lo hi l .0) (middle-within lo hi l .1)
-          (sym (middle-before o rs H w) ∙ e);
-    }
+  pub counts-start : {lo hi : ℕ} → Narrowed c a first end lo hi → Counts lo lo
+  counts-start n =
+      record {
+        within = n .within;
+        upTo = omega arith;
+        counted = λ o rs H w b. counted-start (rowBefore o a) rs noRow (n .between o rs H w b);
+      }
 
-    pub narrowed-down : ltZ (toZ w32 (getD (getD c (lo + (hi - lo) / 2) []) 1 0)) a ≡ false → Narrowed c a first end lo (lo + (hi - lo) / 2)
-    narrowed-down e = record {
-      within = n .within;
-      between = λ o rs H w b.
-          between-down (rowBefore o a) rs noRow (falls o a H) (n .between o rs H w b) (lo + (hi - lo) / 2) (middle-within lo hi l .0) (middle-within lo hi l .1)
-          (sym (middle-before o rs H w) ∙ e);
-    }
+  pub counts-end : {lo hi k found : ℕ} → Narrowed c a first end lo hi → Counts k found → hi ≤ k → Narrowed c a first end found found
+  counts-end n v l =
+      record {
+        within = v .within;
+        between = λ o rs H w b. counted-end (rowBefore o a) rs noRow (n .between o rs H w b) (v .counted o rs H w b) l;
+      }
+
+  module _ (i : end ≤ length c) where
+    -- a step by the id that was read in row k
+    stepped
+        : {x : ℕ} {t : Bool} (m k : ℕ) → first ≤ k → k < end → ltZ (toZ w32 (getD (getD c k []) 1 0)) a ≡ t → x ≡ cond t m 0
+        → (o : ℕ) (rs : List Row) → RowsHeld rs c → AllOf o rs first end → x ≡ cond (rowBefore o a (getD rs k noRow)) m 0
+    stepped m k l h e p o rs H w =
+        p
+        ∙ ap (λ (t : Bool). cond t m 0)
+        (sym e ∙ ap (λ (x : ℤ). ltZ x a) (id-read o a H k (omega arith)) ∙ sym (own-before (getD rs k noRow .object) (getD rs k noRow .id) o a (w k l h)))
+
+    pub narrowed-more
+        : {x y z : ℕ} {s u v : Bool} (lo left q : ℕ) → Narrowed c a first end lo (lo + left) → lo + left ≤ end → 0 < q → 4 * q ≤ left
+        → ltZ (toZ w32 (getD (getD c (lo + q - 1) []) 1 0)) a ≡ s → x ≡ cond s q 0
+        → ltZ (toZ w32 (getD (getD c (lo + 2 * q - 1) []) 1 0)) a ≡ u → y ≡ cond u q 0
+        → ltZ (toZ w32 (getD (getD c (lo + 3 * q - 1) []) 1 0)) a ≡ v → z ≡ cond v q 0
+        → Narrowed c a first end (lo + x + y + z) (lo + x + y + z + (left - 3 * q))
+    narrowed-more lo left q n h m four e p e2 p2 e3 p3 =
+        let low = n .within in
+        record {
+          within = omega arith;
+          between = λ o rs H w b.
+              narrowed (rowBefore o a) rs noRow (falls o a H) q (n .between o rs H w b) m four
+              (stepped q (lo + q - 1) (omega arith) (omega arith) e p o rs H w)
+              (stepped q (lo + 2 * q - 1) (omega arith) (omega arith) e2 p2 o rs H w)
+              (stepped q (lo + 3 * q - 1) (omega arith) (omega arith) e3 p3 o rs H w);
+        }
+
+    pub counts-more : {k found x : ℕ} {t : Bool} → Counts k found → k < end → ltZ (toZ w32 (getD (getD c k []) 1 0)) a ≡ t → x ≡ cond t 1 0 → x ≤ 1 → Counts (k + 1) (found + x)
+    counts-more {k} v l e p few =
+        record {
+          within = omega (arith, v .within);
+          upTo = omega (arith, v .upTo);
+          counted = λ o rs H w b.
+              counted-more (rowBefore o a) rs noRow (falls o a H) (v .counted o rs H w b) (omega (arith, H .long)) (stepped 1 k (omega (arith, v .within, v .upTo)) l e p o rs H w);
+        }
 
 -- the machine's test on an id's bits n
 pub told-less : (x : ℤ) (n m : ℕ) {t : Bool} → ofZ w32 x ≡ n → ltZ (toZ w32 (ofZ w32 x)) (toZ w32 m) ≡ t → ltZ (toZ w32 n) (toZ w32 m) ≡ t

@@ -3,12 +3,14 @@ use info::header::count_of;
 use info::records::attribute;
 use integers::bits;
 use integers::signed;
+use laws::Window;
+use laws::step;
 use little_endian::index;
 use reading::rows::Found;
 ghost use mathlib.Core.Path.{_≡_};
 ghost use mathlib.Core.Bool.{false};
 ghost use mathlib.Core.List.{List};
-ghost use Prim.Native.Nat.{_≤_, _<_, _^_};
+ghost use Prim.Native.Nat.{_+_, _≤_, _<_, _^_};
 ghost use lib.IntN.{pos};
 ghost use lib.ListN.{length};
 ghost use Rattle.rules.specs.Dispatch.{Row};
@@ -19,23 +21,47 @@ ghost use Rattle.rules.specs.Value.{findRow};
 ghost use Rattle.reading.specs.Held.{RowsHeld, placed, indexOf};
 ghost use Rattle.stretches.specs.Stretched.{Stretched, Narrowed, Past, Limits};
 
-// The first row from one to another whose attribute is not before the one sought.
+// Where the first row from one to another whose attribute is not before the one sought lies: of eight or more a quarter and what is over is left.
+fn narrowed(rows: &[[u32; 6]], first: usize, end: usize, id: i32) -> Window
+    requires { ⌜ first ≤ end ⌝ }
+    requires { ⌜ end ≤ length (now rows) ⌝ }
+    ensures { λ r. ⌜ r .low + r .left ≤ end ⌝ }
+    ensures { λ r. ⌜ Narrowed (now (rows .entry)) id first end (r .low) (r .low + r .left) ⌝ }
+{
+    let mut low = first;
+    let mut left = end - first;
+    while 7 < left {
+        let q = left / 4;
+        let a = signed(rows[low + q - 1][1]);
+        let m = signed(rows[low + 2 * q - 1][1]);
+        let z = signed(rows[low + 3 * q - 1][1]);
+        low = low + step(q, a < id) + step(q, m < id) + step(q, z < id);
+        left -= 3 * q;
+    }
+    Window {
+        low: low,
+        left: left,
+    }
+}
+
+// The first row from one to another whose attribute is not before the one sought: in its window those before it are counted.
 fn lower(rows: &[[u32; 6]], first: usize, end: usize, id: i32) -> usize
     requires { ⌜ end ≤ length (now rows) ⌝ }
     ensures { λ r. ⌜ Narrowed (now (rows .entry)) id first end r r ⌝ }
 {
-    let mut low = first;
-    let mut high = end;
-    while low < high {
-        let middle = low + (high - low) / 2;
-        let own = signed(rows[middle][1]);
-        if own < id {
-            low = middle + 1;
-        } else {
-            high = middle;
-        }
+    if end <= first {
+        return first;
     }
-    low
+    let window = narrowed(rows, first, end, id);
+    let mut k = window.low;
+    let last = k + window.left;
+    let mut found = k;
+    while k < last {
+        let own = signed(rows[k][1]);
+        found = found + step(1, own < id);
+        k += 1;
+    }
+    found
 }
 
 // The row of an attribute of an object.
