@@ -19,7 +19,7 @@ use Rattle.hits.specs.declared.Test.{Test}
 use Rattle.hits.specs.declared.Test.the-variants.{All, Requiring}
 use Rattle.standing.specs.Stands.{isFitted, Stands}
 use Rattle.reach.specs.Reach.{requiredBits, reachOf}
-use Rattle.hits.specs.Who.{askedOf, passes, within, meets, Aims, atLocation, charItems, bySkill, byOwner, alone, nobody}
+use Rattle.hits.specs.Who.{askedOf, passesBy, within, meets, Aims, atLocation, charItems, bySkill, byOwner, alone, nobody}
 use Rattle.standing.proofs.Standing.{either}
 
 -- ---- an aim by a column, and one at a single object
@@ -40,7 +40,7 @@ aims-is {p} {k} {f} e A = subst (λ (a : Aim). Aims p k f a) (sym e) A
 module _ (p : Item → Bool) (k : Book) (f : Fit) where
   -- g is what the column tells
   aims-by : (a : Aim) → a .«from» ≤ a .end → a .end ≤ length (f .objects) → a .column < 8 → (g : Item → Bool) → ((o : Item) → getD (reachOf k f o) (a .column) 0 ≡ yes1 (g o)) → ((i : ℕ) → i < length (f .objects) → p (object f i) ≡ g (object f i) && askedOf (a .test) k f (object f i)) → ((i : ℕ) → i < length (f .objects) → g (object f i) ≡ true → within a i ≡ true) → Aims p k f a
-  unfolding passes
+  unfolding passesBy
   aims-by a o l c g col e w =
       record {
         ordered = o;
@@ -56,7 +56,7 @@ module _ (p : Item → Bool) (k : Book) (f : Fit) where
       (λ e. range n (n + 1) i (omega (arith, eqb-true i n e)) (omega (arith, eqb-true i n e)))
 
   pub aims-alone : (n : ℕ) (q : Test) → n < length (f .objects) → ((i : ℕ) → i < length (f .objects) → p (object f i) ≡ eqb i n && askedOf q k f (object f i)) → Aims p k f (alone n q)
-  unfolding passes reachOf
+  unfolding passesBy reachOf
   aims-alone n q l e =
       record {
         ordered = omega arith;

@@ -1,49 +1,47 @@
 -- What an aim's test says of an object's columns and skills, by what its column holds.
-use Prim.Native.Nat.{ℕ, _+_, _≤_, _<_}
-use native.Mathlib.Omega.{arith}
+use Prim.Native.Nat.{ℕ, _<_}
 use mathlib.Core.Path.{_≡_, refl, sym, ap, _∙_}
 use mathlib.Core.Bool.{Bool, true, false, not, _&&_, _||_}
 use mathlib.Core.List.{List, []}
 use lib.Dec.{eqb}
-use lib.ListN.{length, getD, drop, drop-of-length-le}
+use lib.ListN.{length, getD}
 use borrow.Author.Tests.{eq-eqb, ne-eqb}
 use Rattle.laws.specs.Lists.{some?}
-use Rattle.laws.proofs.Scans.{drop-step}
+use Rattle.laws.proofs.From.{is-table}
 use Rattle.rules.specs.Sheet.{Book, Fit}
 use Rattle.rules.specs.Item.{object}
 use Rattle.hits.specs.declared.Aim.{Aim}
 use Rattle.hits.specs.declared.Test.{Test}
 use Rattle.reach.specs.Reach.{requiredBits, reachOf, Told}
-use Rattle.hits.specs.Who.{asked, passes, meets}
+use Rattle.hits.specs.Who.{asked, passesBy, passes, meets}
 
-module _ (a : Aim) (r q : List ℕ) where
-  pub unreached : getD r (a .column) 0 ≡ 0 → false ≡ passes a r q
-  unfolding passes
-  unreached e = sym (ap (λ (t : Bool). not t && asked (a .test) r q) (eq-eqb (getD r (a .column) 0) 0 e))
+module _ (column : ℕ) (x : Test) (r q : List ℕ) where
+  pub unreached : getD r column 0 ≡ 0 → false ≡ passesBy column x r q
+  unfolding passesBy
+  unreached e = sym (ap (λ (t : Bool). not t && asked x r q) (eq-eqb (getD r column 0) 0 e))
 
-  -- t is what the test x gives
-  pub reached : (x : Test) (t : Bool) → (getD r (a .column) 0 ≡ 0 → ⊥) → a .test ≡ x → t ≡ asked x r q → t ≡ passes a r q
-  unfolding passes
-  reached x t n e h =
-      h ∙ ap (λ (y : Test). asked y r q) (sym e)
-      ∙ sym (ap (λ (b : Bool). not b && asked (a .test) r q) (ne-eqb (getD r (a .column) 0) 0 n))
+  -- t is what the test gives, which is y
+  pub reached : (y : Test) (t : Bool) → (getD r column 0 ≡ 0 → ⊥) → x ≡ y → t ≡ asked y r q → t ≡ passesBy column x r q
+  unfolding passesBy
+  reached y t n e h =
+      h ∙ ap (λ (z : Test). asked z r q) (sym e)
+      ∙ sym (ap (λ (b : Bool). not b && asked x r q) (ne-eqb (getD r column 0) 0 n))
 
 -- what the code tests in tables that tell of the objects is what the aim says of an object
 pub told-meets : (k : Book) (f : Fit) (reach skills : List (List ℕ)) → Told (reachOf k f) f reach → Told (requiredBits f) f skills → (a : Aim) (i : ℕ) → i < length (f .objects) → passes a (getD reach i []) (getD skills i []) ≡ meets k f a (object f i)
 told-meets k f reach skills R S a i h = rw (R i h, S i h) refl
 
--- a search among the six skills that an object may require: none so far
-module _ (s : ℕ) (row : List ℕ) (k : ℕ) (l : length row ≡ 6) (I : some? (eqb s) row ≡ some? (eqb s) (drop k row)) where
-  next : k < 6 → some? (eqb s) row ≡ eqb s (getD row k 0) || some? (eqb s) (drop (k + 1) row)
-  next h = I ∙ ap (some? (eqb s)) (drop-step row k 0 (omega arith))
+-- the six skills that an object may require, one after another
+or-six : (a b c d e f : Bool) → ((((a || b) || c) || d) || e) || f ≡ a || (b || (c || (d || (e || (f || false)))))
+or-six true b c d e f = refl
+or-six false true c d e f = refl
+or-six false false true d e f = refl
+or-six false false false true e f = refl
+or-six false false false false true f = refl
+or-six false false false false false true = refl
+or-six false false false false false false = refl
 
-  pub skill-here : k < 6 → s ≡ getD row k 0 → true ≡ some? (eqb s) row
-  skill-here h e = sym (next h ∙ ap (λ (t : Bool). t || some? (eqb s) (drop (k + 1) row)) (eq-eqb s (getD row k 0) e))
-
-  pub skill-on : k < 6 → (s ≡ getD row k 0 → ⊥) → some? (eqb s) row ≡ some? (eqb s) (drop (k + 1) row)
-  skill-on h n = next h ∙ ap (λ (t : Bool). t || some? (eqb s) (drop (k + 1) row)) (ne-eqb s (getD row k 0) n)
-
-  pub skill-none : 6 ≤ k → false ≡ some? (eqb s) row
-  skill-none h =
-      let past : length row ≤ k = omega arith in
-      sym (I ∙ ap (some? (eqb s)) (drop-of-length-le row past))
+pub skill-six : (s : ℕ) (row : List ℕ) → length row ≡ 6 → ((((eqb s (getD row 0 0) || eqb s (getD row 1 0)) || eqb s (getD row 2 0)) || eqb s (getD row 3 0)) || eqb s (getD row 4 0)) || eqb s (getD row 5 0) ≡ some? (eqb s) row
+skill-six s row l =
+    or-six (eqb s (getD row 0 0)) (eqb s (getD row 1 0)) (eqb s (getD row 2 0)) (eqb s (getD row 3 0)) (eqb s (getD row 4 0)) (eqb s (getD row 5 0))
+    ∙ sym (ap (some? (eqb s)) (is-table (λ k. getD row k 0) row 6 0 l (λ k h. refl)))

@@ -25,9 +25,12 @@ asked (Requiring s) r q = some? (eqb s) q
 abbrev pub askedOf : Test → Book → Fit → Item → Bool
 askedOf t k f o = asked t (reachOf k f o) (requiredBits f o)
 
--- the whole test of an aim
-unfoldable pub passes : Aim → List ℕ → List ℕ → Bool
-passes a r q = not (eqb (getD r (a .column) 0) 0) && asked (a .test) r q
+-- the whole test of an aim, by its column and what it asks
+unfoldable pub passesBy : ℕ → Test → List ℕ → List ℕ → Bool
+passesBy column t r q = not (eqb (getD r column 0) 0) && asked t r q
+
+abbrev pub passes : Aim → List ℕ → List ℕ → Bool
+passes a = passesBy (a .column) (a .test)
 
 abbrev pub meets : Book → Fit → Aim → Item → Bool
 meets k f a o = passes a (reachOf k f o) (requiredBits f o)

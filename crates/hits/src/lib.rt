@@ -20,7 +20,7 @@ ghost use Rattle.rules.specs.Columns.{collectedNumbers};
 ghost use Rattle.rules.specs.declared.Pass2Effect.{Pass2Effect};
 ghost use Rattle.info.specs.Sound.{HeldFit, SoundFit};
 ghost use Rattle.standing.specs.Stands.{Stands, Pointing, Narrow};
-ghost use Rattle.hits.specs.Who.{passes, Aims, atLocation, charItems, bySkill, byOwner, alone, nobody, First, Second};
+ghost use Rattle.hits.specs.Who.{passesBy, Aims, atLocation, charItems, bySkill, byOwner, alone, nobody, First, Second};
 
 // What is asked of an object beside its column: nothing, a group, or a required skill, by their bits.
 pub enum Test {
@@ -227,27 +227,29 @@ fn requires_skill(row: [u64; 6], skill: u32) -> bool
     ensures { λ r. ⌜ r ≡ some? (eqb skill) row ⌝ }
 {
     let wanted = skill as u64;
-    let mut k = 0;
-    while k < 6 {
-        if wanted == row[k] {
-            return true;
-        }
-        k += 1;
-    }
-    false
+    (wanted == row[0])
+        | (wanted == row[1])
+        | (wanted == row[2])
+        | (wanted == row[3])
+        | (wanted == row[4])
+        | (wanted == row[5])
 }
 
-// Whether an aim is at object i, which stands in its range.
-pub fn is_hit(reach: &[[u32; 8]; 1024], skills: &[[u64; 6]; 1024], a: Aim, i: usize) -> bool
-    requires { ⌜ (i < 1024) × (a .column < 8) ⌝ }
-    ensures { λ r. ⌜ r ≡ passes a (getD (now (reach .entry)) i []) (getD (now (skills .entry)) i []) ⌝ }
+// Whether an aim by that column and that test is at object i, which stands in its range.
+pub fn is_hit(
+    reach: &[[u32; 8]; 1024],
+    skills: &[[u64; 6]; 1024],
+    column: usize,
+    test: Test,
+    i: usize,
+) -> bool
+    requires { ⌜ (i < 1024) × (column < 8) ⌝ }
+    ensures { λ r. ⌜ r ≡ passesBy column test (getD (now (reach .entry)) i []) (getD (now (skills .entry)) i []) ⌝ }
 {
-    let column = a.column;
     let reached = reach[i][column];
     if reached == 0 {
         return false;
     }
-    let test = a.test;
     match test {
         Test::All => true,
         Test::OfGroup(group) => reach[i][GROUP] == group,

@@ -24,7 +24,7 @@ index-2-reached : tie.Need-index-2-reached
 index-2-reached c = search needs
 
 returns : tie.Need-returns
-returns c = unreached _ _ _ (c .if1 .taken)
+returns c = unreached _ _ _ _ (c .if1 .taken)
 
 enum-told : tie.Need-enum-told
 enum-told c = search needs
@@ -54,13 +54,13 @@ requires-skill-requires : tie.Need-requires-skill-requires
 requires-skill-requires c κs = search needs
 
 returns-2 : tie.Need-returns-2
-returns-2 c = reached _ _ _ All true (c .before .before .if1 .left) (c .enum-told .given .1) refl
+returns-2 c = reached _ _ _ _ All true (c .before .before .if1 .left) (c .enum-told .given .1) refl
 
 returns-3 : tie.Need-returns-3
-returns-3 c = reached _ _ _ _ _ (c .before .before .before .before .if1 .left) (c .before .before .test .given .1) refl
+returns-3 c = reached _ _ _ _ _ _ (c .before .before .before .before .if1 .left) (c .before .before .test .given .1) refl
 
 returns-4 : tie.Need-returns-4
-returns-4 c = reached _ _ _ _ _ (c .before .before .before .before .before .if1 .left) (c .before .before .before .test2 .given .1) (c .requires-skill .ensures)
+returns-4 c = reached _ _ _ _ _ _ (c .before .before .before .before .before .if1 .left) (c .before .before .before .test2 .given .1) (c .requires-skill .ensures)
 
 pub is-hit-spec : {M : Type 1} → statement M
 is-hit-spec =
