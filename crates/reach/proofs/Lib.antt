@@ -1,3 +1,4 @@
 pub mod Skills
+pub mod Filled
 pub mod Telling
 pub mod Reach

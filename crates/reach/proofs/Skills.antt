@@ -102,18 +102,3 @@ module _ (skill : ℤ) (h : SFits w32 skill) where
       some-map (eqb (bits skill)) (λ a. skillBits (getBase f o a)) attributeSkills
       ∙ some-same _ _ (λ a. by-base (getBase f o a) ∙ sym (some-once (λ r. r .«attribute_id») (λ r. eqZ (cut (r .value)) skill) a (basesOf f o) s)) attributeSkills
       ∙ some-swap (λ r a. eqZ (r .«attribute_id») a) (λ r. eqZ (cut (r .value)) skill) attributeSkills (basesOf f o)
-
--- ---- as the code finds them
-
-pub skill-absent : {b : Option BaseAttribute} → none ≡ b → noSkill ≡ skillBits b
-skill-absent e = ap skillBits e
-
-pub skill-given : {b : Option BaseAttribute} {r : BaseAttribute} {n : ℕ} → some r ≡ b → n ≡ bits (cut (r .value)) → n ≡ skillBits b
-skill-given e h = h ∙ ap skillBits e
-
-six : {a b c d e f a′ b′ c′ d′ e′ f′ : ℕ} → a ≡ a′ → b ≡ b′ → c ≡ c′ → d ≡ d′ → e ≡ e′ → f ≡ f′ → a ∷ b ∷ c ∷ d ∷ e ∷ f ∷ [] ≡ a′ ∷ b′ ∷ c′ ∷ d′ ∷ e′ ∷ f′ ∷ []
-six p q r s t u = rw (p, q, r, s, t, u) refl
-
-pub six-skills : (f : Fit) {o x : Item} {a b c d e g : ℕ} → x ≡ o → a ≡ skillBits (getBase f x (pos 182)) → b ≡ skillBits (getBase f x (pos 183)) → c ≡ skillBits (getBase f x (pos 184)) → d ≡ skillBits (getBase f x (pos 1285)) → e ≡ skillBits (getBase f x (pos 1289)) → g ≡ skillBits (getBase f x (pos 1290)) → a ∷ b ∷ c ∷ d ∷ e ∷ g ∷ [] ≡ requiredBits f o
-unfolding requiredBits
-six-skills f {o} {x} i a b c d e g = six a b c d e g ∙ ap (requiredBits f) i

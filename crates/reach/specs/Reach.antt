@@ -1,10 +1,12 @@
 -- What of an object decides who is touched: its columns and the skills that it requires. Definitions only.
-use Prim.Native.Nat.{ℕ, _<_}
+use Prim.Native.Nat.{ℕ, suc, _<_}
 use mathlib.Core.Path.{_≡_}
-use mathlib.Core.Bool.{_&&_, _||_}
+use mathlib.Core.Bool.{_&&_, _||_, cond}
 use mathlib.Core.List.{List, [], _∷_, map}
 use mathlib.Core.Option.{Option, none, some}
+use lib.IntN.{ℤ}
 use lib.ListN.{length, getD}
+use Rattle.laws.specs.Lists.{eqZ}
 use Rattle.rules.specs.Bytes.{bits}
 use Rattle.rules.specs.Constants.{attributeSkills}
 use Rattle.rules.specs.Sheet.{Book, Fit}
@@ -28,6 +30,15 @@ skillBits (some r) = bits (cut (r .value))
 -- the bits of the skills that an object requires, by `attributeSkills`
 unfoldable pub requiredBits : Fit → Item → List ℕ
 requiredBits f o = map (λ a. skillBits (getBase f o a)) attributeSkills
+
+-- the place of a in a list, past the last where it is not there
+abbrev pub placeOf : ℤ → List ℤ → ℕ
+placeOf a [] = 0
+placeOf a (x ∷ r) = cond (eqZ a x) 0 (suc (placeOf a r))
+
+-- the place of the skill that an attribute names
+unfoldable pub slotOf : ℤ → ℕ
+slotOf a = placeOf a attributeSkills
 
 -- the columns: in the ship's location; in the char's, without its items; its items; items and charges in the ship, on the char, owned; all; the group
 unfoldable pub reachOf : Book → Fit → Item → List ℕ

@@ -1,16 +1,16 @@
 // What of the objects decides who is touched: two tables, a row for each object, read once.
 use categories::categories_of;
 use info::header::count_of;
+use info::records::base_attribute;
 use info::records::object;
 use integers::bits;
 use integers::cut;
 use integers::flag;
+use little_endian::index;
 use locations::Categories;
 use locations::is_in_ship;
 use locations::is_on_char;
 use locations::is_owner_modifiable;
-use look_ups::FoundBase;
-use look_ups::get_base;
 use rules::CHAR;
 use rules::CHARGE;
 use rules::ITEM;
@@ -21,12 +21,11 @@ ghost use mathlib.Core.Path.{_≡_};
 ghost use Prim.Native.Nat.{_<_};
 ghost use Rattle.rules.specs.Bytes.{countOf};
 ghost use Rattle.rules.specs.Sheet.{Book, Fit, bookOf, fitOf};
-ghost use Rattle.rules.specs.Info.{getBase};
 ghost use Rattle.rules.specs.Item as items;
 ghost use Rattle.rules.specs.Dispatch.{carrier};
-ghost use Rattle.info.specs.Sound.{HeldBook, HeldFit, SoundFit, Based};
+ghost use Rattle.info.specs.Sound.{HeldBook, SoundFit};
 ghost use Rattle.locations.specs.Categories.{CategoriesOf};
-ghost use Rattle.reach.specs.Reach.{skillBits, requiredBits, reachOf, Told};
+ghost use Rattle.reach.specs.Reach.{slotOf, requiredBits, reachOf, Told};
 
 // The item that an item or a charge goes by: a charge's stands before it.
 fn carrier_of(fit: &[u8], pairs: &[[u32; 2]; 10], i: usize) -> Item
@@ -77,18 +76,19 @@ pub fn reach_of(book: &[u8], fit: &[u8], pairs: &[[u32; 2]; 10], i: usize) -> [u
 // No skill: above every 32 bits.
 const NO_SKILL: u64 = 4294967296;
 
-// The skill that an object's attribute requires, by its bits.
-fn required_by(fit: &[u8], pairs: &[[u32; 2]; 10], o: Item, attribute: i32) -> u64
-    requires { ⌜ HeldFit (now fit) (now pairs) ⌝ }
-    requires { ⌜ Based (fitOf (now fit) (now pairs)) o ⌝ }
-    ensures { λ r. ⌜ r ≡ skillBits (getBase (fitOf (now (fit .entry)) (now (pairs .entry))) o attribute) ⌝ }
+// The place in a row of the skill that an attribute names: past it for any other attribute.
+fn slot_of(id: i32) -> usize
+    ensures { λ r. ⌜ r ≡ slotOf id ⌝ }
 {
-    let found = get_base(fit, pairs, o, attribute);
-    let FoundBase::At(b) = found else {
-        return NO_SKILL;
-    };
-    let skill = bits(cut(b.value));
-    skill as u64
+    match id {
+        182 => 0,
+        183 => 1,
+        184 => 2,
+        1285 => 3,
+        1289 => 4,
+        1290 => 5,
+        _ => 6,
+    }
 }
 
 // The skills that object i requires, fixed from base values.
@@ -98,14 +98,20 @@ pub fn required_skills(fit: &[u8], pairs: &[[u32; 2]; 10], i: usize) -> [u64; 6]
     ensures { λ r. ⌜ r ≡ requiredBits (fitOf (now (fit .entry)) (now (pairs .entry))) (items.object (fitOf (now (fit .entry)) (now (pairs .entry))) i) ⌝ }
 {
     let o = object(fit, pairs, i);
-    [
-        required_by(fit, pairs, o, 182),
-        required_by(fit, pairs, o, 183),
-        required_by(fit, pairs, o, 184),
-        required_by(fit, pairs, o, 1285),
-        required_by(fit, pairs, o, 1289),
-        required_by(fit, pairs, o, 1290),
-    ]
+    let first = index(o.first_attribute);
+    let n = index(o.attributes);
+    let mut row = [NO_SKILL; 6];
+    let mut k = 0;
+    while k < n {
+        let b = base_attribute(fit, pairs, first + k);
+        let slot = slot_of(b.attribute_id);
+        k += 1;
+        if slot < 6 {
+            let skill = bits(cut(b.value));
+            row[slot] = skill as u64;
+        }
+    }
+    row
 }
 
 // The required skills of all objects.
