@@ -5,7 +5,7 @@ use native.Mathlib.Omega.{arith}
 use mathlib.Core.Path.{_≡_, refl, sym, ap, subst, _∙_}
 use mathlib.Core.Logic.{_⊎_, inl, inr}
 use mathlib.Core.List.{List, []}
-use lib.ListN.{length, getD, set, replicate, length-set, length-replicate}
+use lib.ListN.{length, getD, set, length-set}
 use lib.Seq.{getD-set-same, getD-set-other}
 use Rattle.rules.specs.Sheet.{Fit}
 use Rattle.rules.specs.Item.{object}
@@ -20,12 +20,9 @@ pub record Telling (g : Item → List ℕ) (f : Fit) (n : ℕ) (rows₀ rows : L
   pub within : i ≤ n
   pub told : (j : ℕ) → j < i → getD rows j [] ≡ g (object f j)
 
-pub telling-none : {g : Item → List ℕ} {f : Fit} {n : ℕ} {rows : List (List ℕ)} → n ≡ length (f .objects) → n ≤ length rows → Telling g f n rows rows 0
-telling-none e r = record { all = e; room = r; long = refl; within = omega arith; told = λ j h. absurd (omega arith) }
-
--- a fresh table, with the same row for each
-pub telling-fresh : {g : Item → List ℕ} {f : Fit} {n m : ℕ} (row : List ℕ) → n ≡ m → length (f .objects) ≡ m → n ≤ 1024 → Telling g f n (replicate 1024 row) (replicate 1024 row) 0
-telling-fresh row e l h = telling-none (e ∙ sym l) (omega (arith, length-replicate 1024 row))
+-- none yet
+pub telling-none : {g : Item → List ℕ} {f : Fit} {n m : ℕ} {rows : List (List ℕ)} → n ≡ m → length (f .objects) ≡ m → n ≤ 1024 → length rows ≡ 1024 → Telling g f n rows rows 0
+telling-none e l h w = record { all = e ∙ sym l; room = omega arith; long = refl; within = omega arith; told = λ j h. absurd (omega arith) }
 
 module _ {g : Item → List ℕ} {f : Fit} {n : ℕ} {rows₀ rows : List (List ℕ)} {i : ℕ} (T : Telling g f n rows₀ rows i) where
   pub telling-more : {row : List ℕ} → i < n → row ≡ g (object f i) → Telling g f n rows₀ (set rows i row) (i + 1)

@@ -19,6 +19,7 @@ use rules::SHIP;
 use rules::SKILL;
 ghost use mathlib.Core.Path.{_≡_};
 ghost use Prim.Native.Nat.{_<_};
+ghost use lib.ListN.{length};
 ghost use Rattle.rules.specs.Bytes.{countOf};
 ghost use Rattle.rules.specs.Sheet.{Book, Fit, bookOf, fitOf};
 ghost use Rattle.rules.specs.Item as items;
@@ -114,37 +115,33 @@ pub fn required_skills(fit: &[u8], pairs: &[[u32; 2]; 10], i: usize) -> [u64; 6]
     row
 }
 
-// The required skills of all objects.
-pub fn skill_table(fit: &[u8], pairs: &[[u32; 2]; 10]) -> [[u64; 6]; 1024]
+// The required skills of all objects, into a table that is lent.
+pub fn skill_table(rows: &mut [[u64; 6]; 1024], fit: &[u8], pairs: &[[u32; 2]; 10])
     requires { ⌜ SoundFit (now fit) (now pairs) ⌝ }
-    ensures { λ r. ⌜ Told (requiredBits (fitOf (now (fit .entry)) (now (pairs .entry)))) (fitOf (now (fit .entry)) (now (pairs .entry))) r ⌝ }
+    requires { ⌜ length (now rows) ≡ 1024 ⌝ }
+    ensures { λ _. ⌜ Told (requiredBits (fitOf (now (fit .entry)) (now (pairs .entry)))) (fitOf (now (fit .entry)) (now (pairs .entry))) (now (rows .exit)) ⌝ }
 {
     let objects = count_of(pairs, 6);
-    let none = [NO_SKILL; 6];
-    let mut rows = [none; 1024];
     let mut i = 0;
     while i < objects {
         let row = required_skills(fit, pairs, i);
         rows[i] = row;
         i += 1;
     }
-    rows
 }
 
-// The columns of all objects.
-pub fn reach_table(book: &[u8], fit: &[u8], pairs: &[[u32; 2]; 10]) -> [[u32; 8]; 1024]
+// The columns of all objects, into a table that is lent.
+pub fn reach_table(rows: &mut [[u32; 8]; 1024], book: &[u8], fit: &[u8], pairs: &[[u32; 2]; 10])
     requires { ⌜ HeldBook (now book) (now pairs) ⌝ }
     requires { ⌜ SoundFit (now fit) (now pairs) ⌝ }
-    ensures { λ r. ⌜ Told (reachOf (bookOf (now (book .entry)) (now (pairs .entry))) (fitOf (now (fit .entry)) (now (pairs .entry)))) (fitOf (now (fit .entry)) (now (pairs .entry))) r ⌝ }
+    requires { ⌜ length (now rows) ≡ 1024 ⌝ }
+    ensures { λ _. ⌜ Told (reachOf (bookOf (now (book .entry)) (now (pairs .entry))) (fitOf (now (fit .entry)) (now (pairs .entry)))) (fitOf (now (fit .entry)) (now (pairs .entry))) (now (rows .exit)) ⌝ }
 {
     let objects = count_of(pairs, 6);
-    let zeros = [0u32; 8];
-    let mut rows = [zeros; 1024];
     let mut i = 0;
     while i < objects {
         let row = reach_of(book, fit, pairs, i);
         rows[i] = row;
         i += 1;
     }
-    rows
 }
