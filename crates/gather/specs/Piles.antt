@@ -15,7 +15,26 @@ use Rattle.buckets.specs.Held as bucket
 use Rattle.operate.specs.SoFar.{RunningOf}
 use Rattle.sources.specs.Keeping.{Keeping}
 use Rattle.gather.specs.declared.Pile.{Pile}
+use Rattle.gather.specs.declared.Growing.{Growing}
 use Rattle.gather.specs.declared.Stop.the-variants.{No, Because}
+
+-- the pile that grows in four columns, and has so much beside them
+abbrev pub whole : List Float → List ℕ → List Float → List ℕ → Growing → Pile
+whole pv ps nv ns p = record {
+  running = p .running;
+  positive = bucket.bucket pv ps (p .positive);
+  negative = bucket.bucket nv ns (p .negative);
+  own = p .own;
+  used = p .used;
+  stop = p .stop;
+}
+
+-- each column has eight
+pub record Eights (pv : List Float) (ps : List ℕ) (nv : List Float) (ns : List ℕ) : Type 0 where
+  pub positives : length pv ≡ 8
+  pub positive-sources : length ps ≡ 8
+  pub negatives : length nv ≡ 8
+  pub negative-sources : length ns ≡ 8
 
 -- the pile p holds what is gathered, g, of an operator that found the value v
 pub record PileOf (counts : List ℕ) (room : ℕ) (s₀ : List (List ℕ)) (f₀ : List (List Float)) (i : ℕ) (high : Bool) (op : EffectOperator) (v : Float) (g : Gathered) (p : Pile) (s : List (List ℕ)) (f : List (List Float)) : Type 0 where

@@ -15,7 +15,7 @@ use Rattle.rules.specs.declared.EffectOperator.{EffectOperator}
 use Rattle.rules.specs.declared.EffectOperator.the-variants.{PreAssign, PreMul, PreDiv, ModAdd, ModSub, PostMul, PostDiv, PostPercent, PostAssign}
 use Rattle.numbers.proofs.Steps.{bound, refused}
 use Rattle.operate.specs.declared.Running.{Running}
-use Rattle.operate.specs.SoFar.{plainly, RunningOf}
+use Rattle.operate.specs.SoFar.{plainly, stepOf, RunningOf}
 use Rattle.operate.proofs.Snocs.{kept, bind-good, bind-step-good, unit, unchanged}
 
 weighed-good : (p : ℕ) (l : List Copy) (v : Float) → T (finite v) → (w : Float) → weighed p l v ≡ Finite w → T (finite w)
@@ -66,13 +66,13 @@ abbrev pub Unpenalised : EffectOperator → Values → Type 0
 Unpenalised op g = hasPenalty op ≡ false → (g .positive ≡ []) × (g .negative ≡ [])
 
 module _ {high : Bool} {op : EffectOperator} {v : Float} {g : Values} {r : Running} (R : RunningOf high op v (g .unpenalized) r) (u : Unpenalised op g) where
-  begun : applied high op v g ≡ (r .step >>= copied g)
+  begun : applied high op v g ≡ (stepOf r >>= copied g)
   begun = applied-is high v g op u ∙ ap (λ s. s >>= copied g) (sym (R .step))
 
-  pub not-plain : r .step ≡ NotFinite → NotFinite ≡ applied high op v g
+  pub not-plain : stepOf r ≡ NotFinite → NotFinite ≡ applied high op v g
   not-plain e = sym (begun ∙ refused _ e)
 
-  module _ {x : Float} (e : r .step ≡ Finite x) {s : Step} (weighs : T (finite x) → s ≡ weighed 0 (sorted (g .positive)) x) where
+  module _ {x : Float} (e : stepOf r ≡ Finite x) {s : Step} (weighs : T (finite x) → s ≡ weighed 0 (sorted (g .positive)) x) where
     pub not-positive : s ≡ NotFinite → NotFinite ≡ applied high op v g
     not-positive n = sym (begun ∙ bound _ e ∙ refused _ (sym (weighs (R .good x e)) ∙ n))
 
@@ -84,7 +84,7 @@ module _ {high : Bool} {op : EffectOperator} {v : Float} {g : Values} {r : Runni
   -- a value that comes of it is finite
   pub applied-good : {x : Float} → applied high op v g ≡ Finite x → T (finite x)
   applied-good {x} e =
-      next-good (r .step) (copied g) (R .good)
+      next-good (stepOf r) (copied g) (R .good)
       (λ y f. next-good (weighed 0 (sorted (g .positive)) y) (weighed 0 (sorted (g .negative))) (weighed-good 0 (sorted (g .positive)) y f) (weighed-good 0 (sorted (g .negative))))
       x (sym begun ∙ e)
 

@@ -10,7 +10,7 @@ use Rattle.laws.specs.Floats.{finite, oneF}
 use Rattle.rules.specs.Number.{plus, times, power, _>>=_}
 use Rattle.rules.specs.Operate.{Stack, Copy, Values, assigned, added, multiplied}
 use Rattle.rules.specs.declared.Step.{Step}
-use Rattle.rules.specs.declared.Step.the-variants.{Finite}
+use Rattle.rules.specs.declared.Step.the-variants.{Finite, NotFinite}
 use Rattle.rules.specs.declared.EffectOperator.{EffectOperator}
 use Rattle.rules.specs.declared.EffectOperator.the-variants.{PreAssign, PreMul, PreDiv, ModAdd, ModSub, PostMul, PostDiv, PostPercent, PostAssign}
 use Rattle.buckets.specs.Held.{copy}
@@ -32,11 +32,19 @@ abbrev pub any? : List Stack → Bool
 any? [] = false
 any? (x ∷ l) = true
 
+abbrev pub stepFrom : Bool → Float → Step
+stepFrom true v = Finite v
+stepFrom false v = NotFinite
+
+-- the value so far, as a step
+abbrev pub stepOf : Running → Step
+stepOf r = stepFrom (r .finite) (r .value)
+
 -- r is what the values l, in their order, have made of v; a value that it has is finite
 pub record RunningOf (high : Bool) (op : EffectOperator) (v : Float) (l : List Stack) (r : Running) : Type 0 where
-  pub step : r .step ≡ plainly high op v l
+  pub step : stepOf r ≡ plainly high op v l
   pub any : r .any ≡ any? l
-  pub good : (x : Float) → r .step ≡ Finite x → T (finite x)
+  pub good : (x : Float) → stepOf r ≡ Finite x → T (finite x)
 
 -- ---- one value more
 
@@ -57,15 +65,15 @@ abbrev pub multipliedOne : Float → Float → ℕ → Step
 multipliedOne v x n = plus oneF x >>= λ y. power y n >>= λ z. times v z
 
 abbrev pub plainlyOne : Bool → EffectOperator → Running → Float → ℕ → Step
-plainlyOne high PreAssign r x n = chosenOf high (r .any) (r .step) x
-plainlyOne high PreMul r x n = r .step >>= λ v. multipliedOne v x n
-plainlyOne high PreDiv r x n = r .step >>= λ v. multipliedOne v x n
-plainlyOne high ModAdd r x n = r .step >>= λ v. addedOne v x n
-plainlyOne high ModSub r x n = r .step >>= λ v. addedOne v x n
-plainlyOne high PostMul r x n = r .step >>= λ v. multipliedOne v x n
-plainlyOne high PostDiv r x n = r .step >>= λ v. multipliedOne v x n
-plainlyOne high PostPercent r x n = r .step >>= λ v. multipliedOne v x n
-plainlyOne high PostAssign r x n = chosenOf high (r .any) (r .step) x
+plainlyOne high PreAssign r x n = chosenOf high (r .any) (stepOf r) x
+plainlyOne high PreMul r x n = stepOf r >>= λ v. multipliedOne v x n
+plainlyOne high PreDiv r x n = stepOf r >>= λ v. multipliedOne v x n
+plainlyOne high ModAdd r x n = stepOf r >>= λ v. addedOne v x n
+plainlyOne high ModSub r x n = stepOf r >>= λ v. addedOne v x n
+plainlyOne high PostMul r x n = stepOf r >>= λ v. multipliedOne v x n
+plainlyOne high PostDiv r x n = stepOf r >>= λ v. multipliedOne v x n
+plainlyOne high PostPercent r x n = stepOf r >>= λ v. multipliedOne v x n
+plainlyOne high PostAssign r x n = chosenOf high (r .any) (stepOf r) x
 
 -- ---- copies
 

@@ -1,5 +1,6 @@
 // What one operator does to a value with the values that it gathers, one by one (pass_3.rs).
 use buckets::Bucket;
+use buckets::insert;
 use numbers::as_float;
 use numbers::less;
 use numbers::power;
@@ -17,12 +18,14 @@ ghost use Rattle.laws.specs.Floats.{finite};
 ghost use Rattle.rules.specs.Number as N;
 ghost use Rattle.rules.specs.Operate.{Copy, Values, hasPenalty, applied};
 ghost use Rattle.rules.specs.Value.{withStack};
-ghost use Rattle.buckets.specs.Held.{Gathered};
-ghost use Rattle.operate.specs.SoFar.{better, chosenOf, addedOne, multipliedOne, plainlyOne, RunningOf, copiesFrom};
+ghost use Rattle.buckets.specs.Held.{Gathered, bucket};
+ghost use lib.ListN.{length};
+ghost use Rattle.operate.specs.SoFar.{better, chosenOf, addedOne, multipliedOne, plainlyOne, stepOf, RunningOf, copiesFrom};
 
-// What an operator has made of its unpenalised values so far, and whether there was one.
+// What an operator has made of its unpenalised values so far, whether that is finite, and whether there was one.
 pub struct Running {
-    pub step: Step,
+    pub value: f64,
+    pub finite: bool,
     pub any: bool,
 }
 
@@ -31,9 +34,20 @@ pub fn start(v: f64) -> Running
     ensures { λ r. ⌜ ((high : Bool) (op : EffectOperator) → T (finite v) → RunningOf high op v [] r) ⌝ }
 {
     Running {
-        step: Step::Finite(v),
+        value: v,
+        finite: true,
         any: false,
     }
+}
+
+// The same as a step.
+fn step_so_far(running: Running) -> Step
+    ensures { λ r. ⌜ r ≡ stepOf running ⌝ }
+{
+    if running.finite {
+        return Step::Finite(running.value);
+    }
+    Step::NotFinite
 }
 
 // The last of equal greatest, or the first of equal least.
@@ -96,7 +110,7 @@ fn multiplied(step: Step, x: f64, quantity: u32) -> Step
 fn stepped(running: Running, high: bool, operator: EffectOperator, x: f64, quantity: u32) -> Step
     ensures { λ r. ⌜ r ≡ plainlyOne high operator running x quantity ⌝ }
 {
-    let step = running.step;
+    let step = step_so_far(running);
     match operator {
         EffectOperator::PreAssign => chosen(high, running.any, step, x),
         EffectOperator::PreMul => multiplied(step, x, quantity),
@@ -123,9 +137,18 @@ pub fn more(
     if quantity == 0 {
         return running;
     }
-    Running {
-        step: stepped(running, high, operator, x, quantity),
-        any: true,
+    let step = stepped(running, high, operator, x, quantity);
+    match step {
+        Step::Finite(value) => Running {
+            value,
+            finite: true,
+            any: true,
+        },
+        Step::NotFinite => Running {
+            value: 0.0,
+            finite: false,
+            any: true,
+        },
     }
 }
 
@@ -133,7 +156,7 @@ pub fn more(
 pub fn finished(running: Running, positive: Bucket, negative: Bucket) -> Step
     ensures { λ r. ⌜ ((high : Bool) (op : EffectOperator) (v : Float) (g : Values) → RunningOf high op v (g .unpenalized) running → Gathered (g .positive) positive → Gathered (g .negative) negative → (hasPenalty op ≡ false → (g .positive ≡ []) × (g .negative ≡ [])) → r ≡ applied high op v g) ⌝ }
 {
-    let step = running.step;
+    let step = step_so_far(running);
     let Step::Finite(plain) = step else {
         return Step::NotFinite;
     };
@@ -144,18 +167,28 @@ pub fn finished(running: Running, positive: Bucket, negative: Bucket) -> Step
     negative.weigh(w)
 }
 
-// So many copies more, whose source rows are the first, and a step on each time.
-pub fn put_copies(bucket: Bucket, x: f64, first: u32, step: u32, copies: u32) -> Bucket
+// So many copies more in the columns of a bucket, whose source rows are the first, and a step on each time: how many were put in then.
+pub fn put_copies(
+    values: &mut [f64; 8],
+    sources: &mut [u32; 8],
+    count: usize,
+    x: f64,
+    first: u32,
+    step: u32,
+    copies: u32,
+) -> usize
     requires { ⌜ first + copies * step < 2 ^ 32 ⌝ }
-    ensures { λ r. ⌜ ((xs : List Copy) → Gathered xs bucket → T (finite x) → Gathered (xs ++ copiesFrom x first step copies) r) ⌝ }
+    requires { ⌜ (length (now values) ≡ 8) × (length (now sources) ≡ 8) ⌝ }
+    ensures { λ r. ⌜ ((xs : List Copy) → Gathered xs (bucket (now (values .entry)) (now (sources .entry)) count) → T (finite x) → Gathered (xs ++ copiesFrom x first step copies) (bucket (now (values .exit)) (now (sources .exit)) r)) ⌝ }
+    ensures { λ _. ⌜ (length (now (values .exit)) ≡ 8) × (length (now (sources .exit)) ≡ 8) ⌝ }
 {
-    let mut b = bucket;
+    let mut n = count;
     let mut source = first;
     let mut k: u32 = 0;
     while k < copies {
-        b = b.insert(x, source);
+        n = insert(values, sources, n, x, source);
         source += step;
         k += 1;
     }
-    b
+    n
 }

@@ -4,11 +4,12 @@ use apply::Got;
 use apply::Part;
 use apply::apply;
 use apply::held_to;
-use gather::Pile;
+use gather::Growing;
 use gather::Stop;
 use gather::add_entry;
 use gather::counted;
 use gather::empty;
+use gather::grown;
 use gather::stopped;
 use integers::signed;
 use item::codes::operator_code;
@@ -42,6 +43,7 @@ ghost use Rattle.rules.specs.Value.{valueOf, operate, gather, clamped};
 ghost use Rattle.rules.specs.Value as defined;
 ghost use Rattle.memory.specs.Steps.{rowAt, entryAt, strengthOf, evaluation};
 ghost use Rattle.memory.specs.Holding.{tables, highAt, Good, Ready, Busy, Piling, PileMeets};
+ghost use Rattle.gather.specs.Piles.{whole, Eights};
 ghost use Rattle.apply.specs.Answers.{Meets, PartMeets, heldBy};
 
 // The value of an attribute of an object: its row's, or the default where it has none.
@@ -412,6 +414,10 @@ fn gathered(
     ensures { λ r. ⌜ ((h : Busy (tables (now (book .entry)) (now (pairs .entry)) (now (states .entry)) (now (stretches .entry)) (now (limits .entry)) (now (rows .entry)) (now (bases .entry)) (now (entries .entry)) (now («entry_values» .entry))) run (now (values .entry)) (now (sources .entry)) (now (floats .entry)) used row own (operator ∷ [])) → PartMeets (h .ready .world) (h .ready .sources₀) (h .ready .floats₀) row (operate (h .ready .world) row (rowAt (h .ready .world) row) (valueOf (h .ready .world) left) (operator ∷ []) (record { value = found; mem = h .ready .mem })) r (now (values .exit)) (now (sources .exit)) (now (floats .exit))) ⌝ }
 {
     let count = rows[row][3] as usize;
+    let mut positives = [0.0; 8];
+    let mut positive_sources = [0u32; 8];
+    let mut negatives = [0.0; 8];
+    let mut negative_sources = [0u32; 8];
     let mut p = empty(found, own, used);
     let mut k: usize = 0;
     while k < count {
@@ -419,6 +425,10 @@ fn gathered(
             values,
             sources,
             floats,
+            &mut positives,
+            &mut positive_sources,
+            &mut negatives,
+            &mut negative_sources,
             book,
             pairs,
             states,
@@ -445,7 +455,8 @@ fn gathered(
     }
     let object = rows[row][0];
     let first = rows[row][4];
-    apply(floats, run, first, object, p)
+    let pile = grown(positives, positive_sources, negatives, negative_sources, p);
+    apply(floats, run, first, object, pile)
 }
 
 // Entry k of a row goes to the pile, if it is of the operator and runs or is recorded.
@@ -453,6 +464,10 @@ fn with_entry(
     values: &mut [f64],
     sources: &mut [[u32; 10]],
     floats: &mut [[f64; 2]],
+    positives: &mut [f64; 8],
+    positive_sources: &mut [u32; 8],
+    negatives: &mut [f64; 8],
+    negative_sources: &mut [u32; 8],
     book: &[u8],
     pairs: &[[u32; 2]; 10],
     states: &[[u32; 2]; 1024],
@@ -468,10 +483,12 @@ fn with_entry(
     operator: EffectOperator,
     high: bool,
     left: u32,
-    p: Pile,
-) -> Pile
-    requires { ⌜ Piling (tables (now book) (now pairs) (now states) (now stretches) (now limits) (now rows) (now bases) (now entries) (now «entry_values»)) run (now values) (now sources) (now floats) row k high operator p ⌝ }
-    ensures { λ r. ⌜ ((h : Piling (tables (now (book .entry)) (now (pairs .entry)) (now (states .entry)) (now (stretches .entry)) (now (limits .entry)) (now (rows .entry)) (now (bases .entry)) (now (entries .entry)) (now («entry_values» .entry))) run (now (values .entry)) (now (sources .entry)) (now (floats .entry)) row k high operator p) → PileMeets (h .ready .world) (h .ready .sources₀) (h .ready .floats₀) row high operator (h .found) (gather (h .ready .world) row (rowAt (h .ready .world) row) (valueOf (h .ready .world) left) operator (entryAt (h .ready .world) row k ∷ []) (record { mem = h .ready .mem; values = h .values })) r (now (values .exit)) (now (sources .exit)) (now (floats .exit))) ⌝ }
+    p: Growing,
+) -> Growing
+    requires { ⌜ Piling (tables (now book) (now pairs) (now states) (now stretches) (now limits) (now rows) (now bases) (now entries) (now «entry_values»)) run (now values) (now sources) (now floats) row k high operator (whole (now positives) (now «positive_sources») (now negatives) (now «negative_sources») p) ⌝ }
+    requires { ⌜ Eights (now positives) (now «positive_sources») (now negatives) (now «negative_sources») ⌝ }
+    ensures { λ r. ⌜ ((h : Piling (tables (now (book .entry)) (now (pairs .entry)) (now (states .entry)) (now (stretches .entry)) (now (limits .entry)) (now (rows .entry)) (now (bases .entry)) (now (entries .entry)) (now («entry_values» .entry))) run (now (values .entry)) (now (sources .entry)) (now (floats .entry)) row k high operator (whole (now (positives .entry)) (now («positive_sources» .entry)) (now (negatives .entry)) (now («negative_sources» .entry)) p)) → PileMeets (h .ready .world) (h .ready .sources₀) (h .ready .floats₀) row high operator (h .found) (gather (h .ready .world) row (rowAt (h .ready .world) row) (valueOf (h .ready .world) left) operator (entryAt (h .ready .world) row k ∷ []) (record { mem = h .ready .mem; values = h .values })) (whole (now (positives .exit)) (now («positive_sources» .exit)) (now (negatives .exit)) (now («negative_sources» .exit)) r) (now (values .exit)) (now (sources .exit)) (now (floats .exit))) ⌝ }
+    ensures { λ _. ⌜ Eights (now (positives .exit)) (now («positive_sources» .exit)) (now (negatives .exit)) (now («negative_sources» .exit)) ⌝ }
 {
     let at = rows[row][2] as usize + k;
     let code = entries[at][6];
@@ -508,7 +525,22 @@ fn with_entry(
     match got {
         Got::Value(v, used) => {
             let q = counted(p, p.own, used);
-            add_entry(sources, floats, run, first, object, high, runs, e, v, q)
+            add_entry(
+                positives,
+                positive_sources,
+                negatives,
+                negative_sources,
+                sources,
+                floats,
+                run,
+                first,
+                object,
+                high,
+                runs,
+                e,
+                v,
+                q,
+            )
         }
         Got::Refused(y) => stopped(p, y),
     }

@@ -19,7 +19,7 @@ same-length-2 : tie.Need-same-length-2
 same-length-2 c = search needs
 
 returns : tie.Need-returns
-returns c = (λ w counts s₀ f₀ i row op found g t b o e h z k fit. rw (c .before .before .before .before .before .if1 .taken) (c .before .before .add-running .ensures .0 w counts s₀ f₀ i row op found g t b o e h z k (λ y. rw (c .before .before .before .before .before .if1 .taken) at (fit y))), c .before .before .add-running .ensures .1)
+returns c = (λ w counts s₀ f₀ i row op found g t b o e h z k fit. rw (c .before .before .before .before .before .before .before .before .before .if1 .taken) (c .before .before .add-running .ensures .0 w counts s₀ f₀ i row op found g t b o e h z k (λ y. rw (c .before .before .before .before .before .before .before .before .before .if1 .taken) at (fit y))), c .before .before .add-running .ensures .1)
 
 add-idle-requires : tie.Need-add-idle-requires
 add-idle-requires c κs = search needs
@@ -31,7 +31,7 @@ same-length-4 : tie.Need-same-length-4
 same-length-4 c = search needs
 
 returns-2 : tie.Need-returns-2
-returns-2 c = (λ w counts s₀ f₀ i row op found g t b o e h z k fit. rw (c .before .before .before .before .before .if1 .left) (c .before .before .add-idle .ensures .0 w counts s₀ f₀ i row (c .before .before .before .before .before .before .args .high) op found g t b z k (λ y. rw (c .before .before .before .before .before .if1 .left) at (fit y))), c .before .before .add-idle .ensures .1)
+returns-2 c = (λ w counts s₀ f₀ i row op found g t b o e h z k fit. rw (c .before .before .before .before .before .if1 .left) (c .before .before .add-idle .ensures .0 w counts s₀ f₀ i row (c .before .before .before .before .before .before .args .high) op found g _ _ _ _ t b z k (λ y. rw (c .before .before .before .before .before .if1 .left) at (fit y))), (c .before .before .add-idle .ensures .1, c .before .before .before .before .before .before .pre .1))
 
 pub add-entry-spec : {M : Type 1} → statement M
 add-entry-spec =

@@ -1,0 +1,16 @@
+-- Made by `answers` from Proof.answers: edit that file.
+-- `operate::step_so_far` meets its contract.
+use borrow.Author.Needs.{needs}
+use Rattle.operate.proofs.step_so_far.Statement.{statement}
+use Rattle.operate.proofs.step_so_far.Tie as tie
+use Rattle.operate.proofs.step_so_far.Reads as reads
+use Rattle.operate.proofs.step_so_far.Lts as lts
+
+returns : tie.Need-returns
+returns c = rw (c .if1 .taken)
+
+returns-2 : tie.Need-returns-2
+returns-2 c = rw (c .if1 .left)
+
+pub step-so-far-spec : {M : Type 1} → statement M
+step-so-far-spec = tie.close (tie.spec returns returns-2)
