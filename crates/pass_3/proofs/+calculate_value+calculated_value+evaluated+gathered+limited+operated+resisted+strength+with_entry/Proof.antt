@@ -35,11 +35,12 @@ use Rattle.apply.proofs.held_to.Reads as held-to-reads
 use Rattle.gather.proofs.add_entry.Reads as add-entry-reads
 use Rattle.gather.proofs.counted.Reads as counted-reads
 use Rattle.gather.proofs.empty.Reads as empty-reads
+use Rattle.gather.proofs.grown.Reads as grown-reads
 use Rattle.gather.proofs.stopped.Reads as stopped-reads
-use Rattle.look_ups.proofs.get_dogma_attribute.Reads as get-dogma-attribute-reads
-use Rattle.item.proofs.codes.operator_code.Reads as operator-code-reads
-use Rattle.numbers.proofs.product.Reads as product-reads
 use Rattle.integers.proofs.signed.Reads as signed-reads
+use Rattle.item.proofs.codes.operator_code.Reads as operator-code-reads
+use Rattle.look_ups.proofs.get_dogma_attribute.Reads as get-dogma-attribute-reads
+use Rattle.numbers.proofs.product.Reads as product-reads
 use Rattle.reading.proofs.entries.entry_at.Reads as entry-at-reads
 use Rattle.reading.proofs.entries.has_operator.Reads as has-operator-reads
 use Rattle.reading.proofs.entries.is_running.Reads as is-running-reads
@@ -83,6 +84,7 @@ use Rattle.apply.proofs.Operating as operating
 use Rattle.apply.proofs.Falling as falling
 use Rattle.apply.proofs.Gathering.{Gathering}
 use Rattle.apply.proofs.Operating.{Operating}
+use Rattle.gather.specs.Piles.{whole, Eights}
 
 abbrev μ-calculate-value : Measures 12 calculate-value-kinds.ps ℕ
 μ-calculate-value κs a = 8 * nans (a .0 .now)
@@ -108,7 +110,7 @@ abbrev μ-resisted : Measures 12 resisted-kinds.ps ℕ
 abbrev μ-strength : Measures 12 strength-kinds.ps ℕ
 μ-strength κs a = 8 * nans (a .0 .now) + 3
 
-abbrev μ-with-entry : Measures 12 with-entry-kinds.ps ℕ
+abbrev μ-with-entry : Measures 16 with-entry-kinds.ps ℕ
 μ-with-entry κs a = 8 * nans (a .0 .now) + 4
 
 abbrev calculate-value-at : ℕ → In 12 calculate-value-kinds.ps
@@ -184,13 +186,13 @@ abbrev strength-below : ℕ → In 12 strength-kinds.ps
 strength-below t =
     and 12 strength-kinds.ps (falls 12 strength-kinds.ps _<_ μ-strength t) strength.Pre
 
-abbrev with-entry-at : ℕ → In 12 with-entry-kinds.ps
+abbrev with-entry-at : ℕ → In 16 with-entry-kinds.ps
 with-entry-at t =
-    and 12 with-entry-kinds.ps (is 12 with-entry-kinds.ps μ-with-entry t) with-entry.Pre
+    and 16 with-entry-kinds.ps (is 16 with-entry-kinds.ps μ-with-entry t) with-entry.Pre
 
-abbrev with-entry-below : ℕ → In 12 with-entry-kinds.ps
+abbrev with-entry-below : ℕ → In 16 with-entry-kinds.ps
 with-entry-below t =
-    and 12 with-entry-kinds.ps (falls 12 with-entry-kinds.ps _<_ μ-with-entry t) with-entry.Pre
+    and 16 with-entry-kinds.ps (falls 16 with-entry-kinds.ps _<_ μ-with-entry t) with-entry.Pre
 
 calculate-value-mul-v : (t : ℕ) → calculate-value-lts.Need-mul-v (
   evaluated-below t,
@@ -934,16 +936,18 @@ evaluated-returns-4 t c =
     λ h. let k = rw (c .before .before .before .before .before .before .before .before .before .before .before .before .before .before .before .before .before .before .before .before .got .given .1) at (c .before .before .before .before .before .before .before .before .before .before .before .before .before .before .before .before .before .before .before .before .before .before .before .before .before .before .operated .ensures h) in let l = rw (toZ-ofZ (sfits-of (c .before .before .before .before .before .before .before .before .before .before .before .before .before .before .before .before .before .before .before .before .before .before .before .before .before .before .before .before .before .before .before .before .struct-told .given .1 .1 .1 .0 .1)), c .before .before .before .before .before .before .before .before .before .low .given .1) at (c .before .before .before .before .before .before .before .before .before .before .before .before .before .before .before .limited .ensures (evaluating.operated-on h (c .before .before .before .before .before .before .before .before .before .before .before .before .before .before .before .before .before .before .before .before .before .before .before .before .before .before .before .before .before .before .before .before .before .before .before .before .before .before .before .before .before .before .before .args .left) (c .before .before .before .before .before .before .before .before .before .before .before .before .before .before .before .before .before .before .before .before .got .given .0 .0) (c .before .before .before .before .before .before .before .before .before .before .before .before .before .before .before .before .before .before .before .before .got .given .0 .1 .0) (c .before .before .before .before .before .before .before .before .before .before .before .before .before .before .before .before .before .before .before .before .before .before .before .before .before .before .operated .last .0) (c .before .before .before .before .before .before .before .before .before .before .before .before .before .before .before .before .before .before .before .before .before .before .before .before .before .before .operated .last .1 .0) (c .before .before .before .before .before .before .before .before .before .before .before .before .before .before .before .before .before .before .before .before .before .before .before .before .before .before .operated .last .1 .1 .0) k)) in evaluating.evaluated-meets h (c .before .before .before .before .before .before .before .before .before .before .before .before .before .before .before .before .before .before .before .before .before .before .before .before .before .before .before .before .before .before .before .before .before .before .before .before .before .before .before .before .before .before .before .args .left) (c .before .before .before .before .before .before .before .before .before .before .before .before .before .before .before .before .before .before .before .before .got .given .0 .0) (c .before .before .before .before .before .before .before .before .before .before .before .before .before .before .before .before .before .before .before .before .got .given .0 .1 .0) (c .before .before .before .before .before .before .before .before .before .before .before .before .before .before .before .before .before .before .before .before .before .before .before .before .before .before .operated .last .0) (c .before .before .before .before .before .before .before .before .before .before .before .before .before .before .before .before .before .before .before .before .before .before .before .before .before .before .operated .last .1 .0) (c .before .before .before .before .before .before .before .before .before .before .before .before .before .before .before .before .before .before .before .before .before .before .before .before .before .before .operated .last .1 .1 .0) k (getD (getD (c .before .before .before .before .before .before .before .before .before .before .before .before .before .before .before .before .before .before .before .before .before .before .before .before .before .before .before .before .before .before .before .before .before .before .before .before .before .before .before .before .before .before .before .args .rows .now) (c .before .before .before .before .before .before .before .before .before .before .before .before .before .before .before .before .before .before .before .before .before .before .before .before .before .before .before .before .before .before .before .before .before .before .before .before .before .before .before .before .before .before .before .args .row) []) 0 0) (c .before .before .before .before .before .before .before .before .before .before .before .before .before .before .before .before .before .before .before .before .before .before .before .before .before .before .before .before .before .before .before .before .before .before .get-dogma-attribute .result .«min_attribute_id») refl (ap (λ (r : DogmaAttribute). r .«min_attribute_id») (c .before .before .before .before .before .before .before .before .before .before .before .before .before .before .before .before .before .before .before .before .before .before .before .before .before .before .before .before .before .before .before .before .before .before .get-dogma-attribute .ensures ∙ ap (λ (a : ℤ). getDogmaAttribute (bookOf (c .before .before .before .before .before .before .before .before .before .before .before .before .before .before .before .before .before .before .before .before .before .before .before .before .before .before .before .before .before .before .before .before .before .before .before .before .before .before .before .before .before .before .before .args .book .now) (c .before .before .before .before .before .before .before .before .before .before .before .before .before .before .before .before .before .before .before .before .before .before .before .before .before .before .before .before .before .before .before .before .before .before .before .before .before .before .before .before .before .before .before .args .pairs .now)) a) (toZ-ofZ (sfits-of (c .before .before .before .before .before .before .before .before .before .before .before .before .before .before .before .before .before .before .before .before .before .before .before .before .before .before .before .before .before .before .before .before .before .before .before .before .before .signed .ok)) ∙ id))) (toZ w32 (ofZ w32 (c .before .before .before .before .before .before .before .before .before .before .before .before .before .before .before .before .before .before .before .before .before .before .before .before .before .before .before .before .before .before .before .before .before .before .get-dogma-attribute .result .«max_attribute_id»))) (toZ-ofZ (sfits-of (c .before .before .before .before .before .before .before .before .before .before .before .before .before .before .before .before .before .before .before .before .before .before .before .before .before .before .before .before .before .before .before .struct-told2 .given .1 .1 .1 .1 .0 .1)) ∙ ap (λ (r : DogmaAttribute). r .«max_attribute_id») (c .before .before .before .before .before .before .before .before .before .before .before .before .before .before .before .before .before .before .before .before .before .before .before .before .before .before .before .before .before .before .before .before .before .before .get-dogma-attribute .ensures ∙ ap (λ (a : ℤ). getDogmaAttribute (bookOf (c .before .before .before .before .before .before .before .before .before .before .before .before .before .before .before .before .before .before .before .before .before .before .before .before .before .before .before .before .before .before .before .before .before .before .before .before .before .before .before .before .before .before .before .args .book .now) (c .before .before .before .before .before .before .before .before .before .before .before .before .before .before .before .before .before .before .before .before .before .before .before .before .before .before .before .before .before .before .before .before .before .before .before .before .before .before .before .before .before .before .before .args .pairs .now)) a) (toZ-ofZ (sfits-of (c .before .before .before .before .before .before .before .before .before .before .before .before .before .before .before .before .before .before .before .before .before .before .before .before .before .before .before .before .before .before .before .before .before .before .before .before .before .signed .ok)) ∙ id))) (c .before .before .before .before .before .before .before .before .before .low .given .0 .0) (c .before .before .before .before .before .before .before .before .before .low .given .0 .1 .0) (c .before .before .before .before .before .before .before .before .before .before .before .before .before .before .before .limited .last .0) (c .before .before .before .before .before .before .before .before .before .before .before .before .before .before .before .limited .last .1 .0) (c .before .before .before .before .before .before .before .before .before .before .before .before .before .before .before .limited .last .1 .1 .0) l _ _ _ _ (c .before .before .before .before .limited2 .ensures (evaluating.raised-on h (c .before .before .before .before .before .before .before .before .before .before .before .before .before .before .before .before .before .before .before .before .before .before .before .before .before .before .before .before .before .before .before .before .before .before .before .before .before .before .before .before .before .before .before .args .left) (c .before .before .before .before .before .before .before .before .before .before .before .before .before .before .before .before .before .before .before .before .got .given .0 .0) (c .before .before .before .before .before .before .before .before .before .before .before .before .before .before .before .before .before .before .before .before .got .given .0 .1 .0) (c .before .before .before .before .before .before .before .before .before .before .before .before .before .before .before .before .before .before .before .before .before .before .before .before .before .before .operated .last .0) (c .before .before .before .before .before .before .before .before .before .before .before .before .before .before .before .before .before .before .before .before .before .before .before .before .before .before .operated .last .1 .0) (c .before .before .before .before .before .before .before .before .before .before .before .before .before .before .before .before .before .before .before .before .before .before .before .before .before .before .operated .last .1 .1 .0) k (getD (getD (c .before .before .before .before .before .before .before .before .before .before .before .before .before .before .before .before .before .before .before .before .before .before .before .before .before .before .before .before .before .before .before .before .before .before .before .before .before .before .before .before .before .before .before .args .rows .now) (c .before .before .before .before .before .before .before .before .before .before .before .before .before .before .before .before .before .before .before .before .before .before .before .before .before .before .before .before .before .before .before .before .before .before .before .before .before .before .before .before .before .before .before .args .row) []) 0 0) (c .before .before .before .before .before .before .before .before .before .before .before .before .before .before .before .before .before .before .before .before .before .before .before .before .before .before .before .before .before .before .before .before .before .before .get-dogma-attribute .result .«min_attribute_id») refl (ap (λ (r : DogmaAttribute). r .«min_attribute_id») (c .before .before .before .before .before .before .before .before .before .before .before .before .before .before .before .before .before .before .before .before .before .before .before .before .before .before .before .before .before .before .before .before .before .before .get-dogma-attribute .ensures ∙ ap (λ (a : ℤ). getDogmaAttribute (bookOf (c .before .before .before .before .before .before .before .before .before .before .before .before .before .before .before .before .before .before .before .before .before .before .before .before .before .before .before .before .before .before .before .before .before .before .before .before .before .before .before .before .before .before .before .args .book .now) (c .before .before .before .before .before .before .before .before .before .before .before .before .before .before .before .before .before .before .before .before .before .before .before .before .before .before .before .before .before .before .before .before .before .before .before .before .before .before .before .before .before .before .before .args .pairs .now)) a) (toZ-ofZ (sfits-of (c .before .before .before .before .before .before .before .before .before .before .before .before .before .before .before .before .before .before .before .before .before .before .before .before .before .before .before .before .before .before .before .before .before .before .before .before .before .signed .ok)) ∙ id))) (toZ w32 (ofZ w32 (c .before .before .before .before .before .before .before .before .before .before .before .before .before .before .before .before .before .before .before .before .before .before .before .before .before .before .before .before .before .before .before .before .before .before .get-dogma-attribute .result .«max_attribute_id»))) (toZ-ofZ (sfits-of (c .before .before .before .before .before .before .before .before .before .before .before .before .before .before .before .before .before .before .before .before .before .before .before .before .before .before .before .before .before .before .before .struct-told2 .given .1 .1 .1 .1 .0 .1)) ∙ ap (λ (r : DogmaAttribute). r .«max_attribute_id») (c .before .before .before .before .before .before .before .before .before .before .before .before .before .before .before .before .before .before .before .before .before .before .before .before .before .before .before .before .before .before .before .before .before .before .get-dogma-attribute .ensures ∙ ap (λ (a : ℤ). getDogmaAttribute (bookOf (c .before .before .before .before .before .before .before .before .before .before .before .before .before .before .before .before .before .before .before .before .before .before .before .before .before .before .before .before .before .before .before .before .before .before .before .before .before .before .before .before .before .before .before .args .book .now) (c .before .before .before .before .before .before .before .before .before .before .before .before .before .before .before .before .before .before .before .before .before .before .before .before .before .before .before .before .before .before .before .before .before .before .before .before .before .before .before .before .before .before .before .args .pairs .now)) a) (toZ-ofZ (sfits-of (c .before .before .before .before .before .before .before .before .before .before .before .before .before .before .before .before .before .before .before .before .before .before .before .before .before .before .before .before .before .before .before .before .before .before .before .before .before .signed .ok)) ∙ id))) (c .before .before .before .before .before .before .before .before .before .low .given .0 .0) (c .before .before .before .before .before .before .before .before .before .low .given .0 .1 .0) (c .before .before .before .before .before .before .before .before .before .before .before .before .before .before .before .limited .last .0) (c .before .before .before .before .before .before .before .before .before .before .before .before .before .before .before .limited .last .1 .0) (c .before .before .before .before .before .before .before .before .before .before .before .before .before .before .before .limited .last .1 .1 .0) l))
 
 abbrev gathered-Inv-loop : gathered-lts.InvT-loop
-gathered-Inv-loop values₀ sources₀ floats₀ book pairs states stretches limits rows bases entries entry-values run row operator high left found own used count p₀ k₀ values sources floats p k = ((k ≤ count) × (length values ≡ length values₀) × (length sources ≡ length sources₀) × (length floats ≡ length floats₀)) × ((h : Busy (tables book pairs states stretches limits rows bases entries entry-values) run values₀ sources₀ floats₀ used row own (operator ∷ [])) → Gathering (h .ready .world) (h .ready .sources₀) (h .ready .floats₀) left row high operator found (h .ready .mem) k values sources floats p)
+gathered-Inv-loop values₀ sources₀ floats₀ book pairs states stretches limits rows bases entries entry-values run row operator high left found own used count positives₀ positive-sources₀ negatives₀ negative-sources₀ p₀ k₀ values sources floats positives positive-sources negatives negative-sources p k = ((k ≤ count) × (length values ≡ length values₀) × (length sources ≡ length sources₀) × (length floats ≡ length floats₀) × Eights positives positive-sources negatives negative-sources) × ((h : Busy (tables book pairs states stretches limits rows bases entries entry-values) run values₀ sources₀ floats₀ used row own (operator ∷ [])) → Gathering (h .ready .world) (h .ready .sources₀) (h .ready .floats₀) left row high operator found (h .ready .mem) k values sources floats (whole positives positive-sources negatives negative-sources p))
 
 abbrev gathered-μ-loop : gathered-lts.MeasureT-loop
-gathered-μ-loop values₀ sources₀ floats₀ book pairs states stretches limits rows bases entries entry-values run row operator high left found own used count p₀ k₀ values sources floats p k = count - k
+gathered-μ-loop values₀ sources₀ floats₀ book pairs states stretches limits rows bases entries entry-values run row operator high left found own used count positives₀ positive-sources₀ negatives₀ negative-sources₀ p₀ k₀ values sources floats positives positive-sources negatives negative-sources p k = count - k
 
 gathered-mul-count : (t : ℕ) → gathered-lts.Need-mul-count (
   empty-reads.Asked,
   empty-reads.Learnt,
   with-entry-below t,
   with-entry.Post,
+  grown-reads.Asked,
+  grown-reads.Learnt,
   apply-reads.Asked,
   apply-reads.Learnt,
 ) (gathered-at t) gathered.Post gathered-Inv-loop gathered-μ-loop
@@ -954,6 +958,8 @@ gathered-index-1-count : (t : ℕ) → gathered-lts.Need-index-1-count (
   empty-reads.Learnt,
   with-entry-below t,
   with-entry.Post,
+  grown-reads.Asked,
+  grown-reads.Learnt,
   apply-reads.Asked,
   apply-reads.Learnt,
 ) (gathered-at t) gathered.Post gathered-Inv-loop gathered-μ-loop
@@ -964,6 +970,8 @@ gathered-index-2-count : (t : ℕ) → gathered-lts.Need-index-2-count (
   empty-reads.Learnt,
   with-entry-below t,
   with-entry.Post,
+  grown-reads.Asked,
+  grown-reads.Learnt,
   apply-reads.Asked,
   apply-reads.Learnt,
 ) (gathered-at t) gathered.Post gathered-Inv-loop gathered-μ-loop
@@ -974,6 +982,8 @@ gathered-cast-count : (t : ℕ) → gathered-lts.Need-cast-count (
   empty-reads.Learnt,
   with-entry-below t,
   with-entry.Post,
+  grown-reads.Asked,
+  grown-reads.Learnt,
   apply-reads.Asked,
   apply-reads.Learnt,
 ) (gathered-at t) gathered.Post gathered-Inv-loop gathered-μ-loop
@@ -984,6 +994,8 @@ gathered-empty-requires : (t : ℕ) → gathered-lts.Need-empty-requires (
   empty-reads.Learnt,
   with-entry-below t,
   with-entry.Post,
+  grown-reads.Asked,
+  grown-reads.Learnt,
   apply-reads.Asked,
   apply-reads.Learnt,
 ) (gathered-at t) gathered.Post gathered-Inv-loop gathered-μ-loop
@@ -994,36 +1006,44 @@ gathered-loop-holds : (t : ℕ) → gathered-lts.Need-loop-holds (
   empty-reads.Learnt,
   with-entry-below t,
   with-entry.Post,
+  grown-reads.Asked,
+  grown-reads.Learnt,
   apply-reads.Asked,
   apply-reads.Learnt,
 ) (gathered-at t) gathered.Post gathered-Inv-loop gathered-μ-loop
-gathered-loop-holds t c = ((omega arith, refl, refl, refl), λ h. gathering.gathering-starts h (c .before .before .before .before .before .before .args .left) (c .before .before .before .before .before .before .args .high) (c .before .before .before .before .before .before .args .found) _ (c .empty .ensures .0 _ _ _ _ (c .before .before .before .before .before .before .args .row) (c .before .before .before .before .before .before .args .high) (c .before .before .before .before .before .before .args .operator) _ _ _ (c .before .before .before .before .before .before .pre .1 .1 .0) (gathering.keeping-now h)) (c .empty .ensures .1 .2) (c .empty .ensures .1 .1))
+gathered-loop-holds t c = ((omega arith, refl, refl, refl, record { positives = refl; positive-sources = refl; negatives = refl; negative-sources = refl }), λ h. gathering.gathering-starts h (c .before .before .before .before .before .before .args .left) (c .before .before .before .before .before .before .args .high) (c .before .before .before .before .before .before .args .found) _ (c .empty .ensures .0 _ _ _ _ (c .before .before .before .before .before .before .args .row) (c .before .before .before .before .before .before .args .high) (c .before .before .before .before .before .before .args .operator) _ _ _ _ _ _ _ (c .before .before .before .before .before .before .pre .1 .1 .0) (gathering.keeping-now h)) (c .empty .ensures .1 .2) (c .empty .ensures .1 .1))
 
 gathered-with-entry-requires : (t : ℕ) → gathered-lts.Need-with-entry-requires (
   empty-reads.Asked,
   empty-reads.Learnt,
   with-entry-below t,
   with-entry.Post,
+  grown-reads.Asked,
+  grown-reads.Learnt,
   apply-reads.Asked,
   apply-reads.Learnt,
 ) (gathered-at t) gathered.Post gathered-Inv-loop gathered-μ-loop
-gathered-with-entry-requires t c κs = (omega (arith, c .before .before .before .before .before .before .before .before .before .before .before .pre .0, falling.gathering-falls (c .before .before .before .before .before .before .before .before .before .before .before .pre .1 .0) (c .before .before .before .before .loop .inv .1 (c .before .before .before .before .before .before .before .before .before .before .before .pre .1 .0))), gathering.piling (c .before .before .before .before .before .before .before .before .before .before .before .pre .1 .0) (c .before .before .before .before .loop .inv .1 (c .before .before .before .before .before .before .before .before .before .before .before .pre .1 .0)) (omega (arith, c .before .before .before .loop-test .taken, c .before .before .before .before .before .before .before .before .before .before .before .pre .1 .0 .ready .told .row (c .before .before .before .before .before .before .before .before .before .before .before .args .row) (c .before .before .before .before .before .before .before .before .before .before .before .pre .1 .0 .within) .count)))
+gathered-with-entry-requires t c κs = (omega (arith, c .before .before .before .before .before .before .before .before .before .before .before .before .before .before .before .pre .0, falling.gathering-falls (c .before .before .before .before .before .before .before .before .before .before .before .before .before .before .before .pre .1 .0) (c .before .before .before .before .before .before .before .before .loop .inv .1 (c .before .before .before .before .before .before .before .before .before .before .before .before .before .before .before .pre .1 .0))), (gathering.piling (c .before .before .before .before .before .before .before .before .before .before .before .before .before .before .before .pre .1 .0) (c .before .before .before .before .before .before .before .before .loop .inv .1 (c .before .before .before .before .before .before .before .before .before .before .before .before .before .before .before .pre .1 .0)) (omega (arith, c .before .before .before .before .before .before .before .loop-test .taken, c .before .before .before .before .before .before .before .before .before .before .before .before .before .before .before .pre .1 .0 .ready .told .row (c .before .before .before .before .before .before .before .before .before .before .before .before .before .before .before .args .row) (c .before .before .before .before .before .before .before .before .before .before .before .before .before .before .before .pre .1 .0 .within) .count)), c .before .before .before .before .before .before .before .before .loop .inv .0 .4))
 
 gathered-add-k : (t : ℕ) → gathered-lts.Need-add-k (
   empty-reads.Asked,
   empty-reads.Learnt,
   with-entry-below t,
   with-entry.Post,
+  grown-reads.Asked,
+  grown-reads.Learnt,
   apply-reads.Asked,
   apply-reads.Learnt,
 ) (gathered-at t) gathered.Post gathered-Inv-loop gathered-μ-loop
-gathered-add-k t c = fits-below (c .before .before .before .before .before .before .before .before .before .loop .k + 1) (length (c .before .before .before .before .before .before .before .before .before .before .before .before .before .before .before .before .args .entries .now)) (omega (arith, c .before .before .before .before .before .before .before .before .loop-test .taken, first-and-count (c .before .before .before .before .before .before .before .before .before .before .before .before .before .before .before .before .pre .1 .0 .ready) (c .before .before .before .before .before .before .before .before .before .before .before .before .before .before .before .before .args .row) (c .before .before .before .before .before .before .before .before .before .before .before .before .before .before .before .before .pre .1 .0 .within))) (c .before .before .before .before .before .before .before .before .before .before .before .before .before .before .before .before .good .1 .1 .1 .1 .1 .1 .1 .1 .1 .1 .0 .0)
+gathered-add-k t c = fits-below (c .before .before .before .before .before .before .before .before .before .before .before .before .before .loop .k + 1) (length (c .before .before .before .before .before .before .before .before .before .before .before .before .before .before .before .before .before .before .before .before .args .entries .now)) (omega (arith, c .before .before .before .before .before .before .before .before .before .before .before .before .loop-test .taken, first-and-count (c .before .before .before .before .before .before .before .before .before .before .before .before .before .before .before .before .before .before .before .before .pre .1 .0 .ready) (c .before .before .before .before .before .before .before .before .before .before .before .before .before .before .before .before .before .before .before .before .args .row) (c .before .before .before .before .before .before .before .before .before .before .before .before .before .before .before .before .before .before .before .before .pre .1 .0 .within))) (c .before .before .before .before .before .before .before .before .before .before .before .before .before .before .before .before .before .before .before .before .good .1 .1 .1 .1 .1 .1 .1 .1 .1 .1 .0 .0)
 
 gathered-enum-told : (t : ℕ) → gathered-lts.Need-enum-told (
   empty-reads.Asked,
   empty-reads.Learnt,
   with-entry-below t,
   with-entry.Post,
+  grown-reads.Asked,
+  grown-reads.Learnt,
   apply-reads.Asked,
   apply-reads.Learnt,
 ) (gathered-at t) gathered.Post gathered-Inv-loop gathered-μ-loop
@@ -1034,6 +1054,8 @@ gathered-loop-less : (t : ℕ) → gathered-lts.Need-loop-less (
   empty-reads.Learnt,
   with-entry-below t,
   with-entry.Post,
+  grown-reads.Asked,
+  grown-reads.Learnt,
   apply-reads.Asked,
   apply-reads.Learnt,
 ) (gathered-at t) gathered.Post gathered-Inv-loop gathered-μ-loop
@@ -1044,16 +1066,20 @@ gathered-loop-again : (t : ℕ) → gathered-lts.Need-loop-again (
   empty-reads.Learnt,
   with-entry-below t,
   with-entry.Post,
+  grown-reads.Asked,
+  grown-reads.Learnt,
   apply-reads.Asked,
   apply-reads.Learnt,
 ) (gathered-at t) gathered.Post gathered-Inv-loop gathered-μ-loop
-gathered-loop-again t c = ((omega (arith, c .before .before .before .before .before .before .before .before .before .before .loop-test .taken), c .before .before .before .before .before .before .with-entry .kept .0 ∙ c .before .before .before .before .before .before .before .before .before .before .before .loop .inv .0 .1, c .before .before .before .before .before .before .with-entry .kept .1 .0 ∙ c .before .before .before .before .before .before .before .before .before .before .before .loop .inv .0 .2, c .before .before .before .before .before .before .with-entry .kept .1 .1 .0 ∙ c .before .before .before .before .before .before .before .before .before .before .before .loop .inv .0 .3), λ h. let inside : (c .before .before .before .before .before .before .before .before .before .before .before .loop .k) < length ((rowAt (h .ready .world) (c .before .before .before .before .before .before .before .before .before .before .before .before .before .before .before .before .before .before .args .row)) .entries) = omega (arith, c .before .before .before .before .before .before .before .before .before .before .loop-test .taken, h .ready .told .row (c .before .before .before .before .before .before .before .before .before .before .before .before .before .before .before .before .before .before .args .row) (h .within) .count) in gathering.gathering-next h (c .before .before .before .before .before .before .before .before .before .before .before .loop .inv .1 h) inside _ _ _ _ (c .before .before .before .before .before .before .with-entry .ensures (gathering.piling h (c .before .before .before .before .before .before .before .before .before .before .before .loop .inv .1 h) inside)) (c .enum-told .given .1))
+gathered-loop-again t c = ((omega (arith, c .before .before .before .before .before .before .before .before .before .before .before .before .before .before .loop-test .taken), c .before .before .before .before .before .before .with-entry .kept .0 ∙ c .before .before .before .before .before .before .before .before .before .before .before .before .before .before .before .loop .inv .0 .1, c .before .before .before .before .before .before .with-entry .kept .1 .0 ∙ c .before .before .before .before .before .before .before .before .before .before .before .before .before .before .before .loop .inv .0 .2, c .before .before .before .before .before .before .with-entry .kept .1 .1 .0 ∙ c .before .before .before .before .before .before .before .before .before .before .before .before .before .before .before .loop .inv .0 .3, c .before .before .before .before .before .before .with-entry .ensures .1), λ h. let inside : (c .before .before .before .before .before .before .before .before .before .before .before .before .before .before .before .loop .k) < length ((rowAt (h .ready .world) (c .before .before .before .before .before .before .before .before .before .before .before .before .before .before .before .before .before .before .before .before .before .before .args .row)) .entries) = omega (arith, c .before .before .before .before .before .before .before .before .before .before .before .before .before .before .loop-test .taken, h .ready .told .row (c .before .before .before .before .before .before .before .before .before .before .before .before .before .before .before .before .before .before .before .before .before .before .args .row) (h .within) .count) in gathering.gathering-next h (c .before .before .before .before .before .before .before .before .before .before .before .before .before .before .before .loop .inv .1 h) inside _ _ _ _ (c .before .before .before .before .before .before .with-entry .ensures .0 (gathering.piling h (c .before .before .before .before .before .before .before .before .before .before .before .before .before .before .before .loop .inv .1 h) inside)) (c .enum-told .given .1))
 
 gathered-enum-known-stop : (t : ℕ) → gathered-lts.Need-enum-known-stop (
   empty-reads.Asked,
   empty-reads.Learnt,
   with-entry-below t,
   with-entry.Post,
+  grown-reads.Asked,
+  grown-reads.Learnt,
   apply-reads.Asked,
   apply-reads.Learnt,
 ) (gathered-at t) gathered.Post gathered-Inv-loop gathered-μ-loop
@@ -1064,46 +1090,56 @@ gathered-same-length : (t : ℕ) → gathered-lts.Need-same-length (
   empty-reads.Learnt,
   with-entry-below t,
   with-entry.Post,
+  grown-reads.Asked,
+  grown-reads.Learnt,
   apply-reads.Asked,
   apply-reads.Learnt,
 ) (gathered-at t) gathered.Post gathered-Inv-loop gathered-μ-loop
-gathered-same-length t c = c .before .before .before .before .before .before .before .with-entry .kept .0 ∙ c .before .before .before .before .before .before .before .before .before .before .before .before .loop .inv .0 .1
+gathered-same-length t c = c .before .before .before .before .before .before .before .with-entry .kept .0 ∙ c .before .before .before .before .before .before .before .before .before .before .before .before .before .before .before .before .loop .inv .0 .1
 
 gathered-same-length-2 : (t : ℕ) → gathered-lts.Need-same-length-2 (
   empty-reads.Asked,
   empty-reads.Learnt,
   with-entry-below t,
   with-entry.Post,
+  grown-reads.Asked,
+  grown-reads.Learnt,
   apply-reads.Asked,
   apply-reads.Learnt,
 ) (gathered-at t) gathered.Post gathered-Inv-loop gathered-μ-loop
-gathered-same-length-2 t c = c .before .before .before .before .before .before .before .with-entry .kept .1 .0 ∙ c .before .before .before .before .before .before .before .before .before .before .before .before .loop .inv .0 .2
+gathered-same-length-2 t c = c .before .before .before .before .before .before .before .with-entry .kept .1 .0 ∙ c .before .before .before .before .before .before .before .before .before .before .before .before .before .before .before .before .loop .inv .0 .2
 
 gathered-same-length-3 : (t : ℕ) → gathered-lts.Need-same-length-3 (
   empty-reads.Asked,
   empty-reads.Learnt,
   with-entry-below t,
   with-entry.Post,
+  grown-reads.Asked,
+  grown-reads.Learnt,
   apply-reads.Asked,
   apply-reads.Learnt,
 ) (gathered-at t) gathered.Post gathered-Inv-loop gathered-μ-loop
-gathered-same-length-3 t c = c .before .before .before .before .before .before .before .with-entry .kept .1 .1 .0 ∙ c .before .before .before .before .before .before .before .before .before .before .before .before .loop .inv .0 .3
+gathered-same-length-3 t c = c .before .before .before .before .before .before .before .with-entry .kept .1 .1 .0 ∙ c .before .before .before .before .before .before .before .before .before .before .before .before .before .before .before .before .loop .inv .0 .3
 
 gathered-returns : (t : ℕ) → gathered-lts.Need-returns (
   empty-reads.Asked,
   empty-reads.Learnt,
   with-entry-below t,
   with-entry.Post,
+  grown-reads.Asked,
+  grown-reads.Learnt,
   apply-reads.Asked,
   apply-reads.Learnt,
 ) (gathered-at t) gathered.Post gathered-Inv-loop gathered-μ-loop
-gathered-returns t c = λ h. let inside : (c .before .before .before .before .before .before .before .before .before .before .before .before .loop .k) < length ((rowAt (h .ready .world) (c .before .before .before .before .before .before .before .before .before .before .before .before .before .before .before .before .before .before .before .args .row)) .entries) = omega (arith, c .before .before .before .before .before .before .before .before .before .before .before .loop-test .taken, h .ready .told .row (c .before .before .before .before .before .before .before .before .before .before .before .before .before .before .before .before .before .before .before .args .row) (h .within) .count) in gathering.gathering-refused h (c .before .before .before .before .before .before .before .before .before .before .before .before .loop .inv .1 h) inside _ _ _ _ _ (c .before .before .before .before .before .before .before .with-entry .ensures (gathering.piling h (c .before .before .before .before .before .before .before .before .before .before .before .before .loop .inv .1 h) inside)) (c .before .stop .given .1)
+gathered-returns t c = λ h. let inside : (c .before .before .before .before .before .before .before .before .before .before .before .before .before .before .before .before .loop .k) < length ((rowAt (h .ready .world) (c .before .before .before .before .before .before .before .before .before .before .before .before .before .before .before .before .before .before .before .before .before .before .before .args .row)) .entries) = omega (arith, c .before .before .before .before .before .before .before .before .before .before .before .before .before .before .before .loop-test .taken, h .ready .told .row (c .before .before .before .before .before .before .before .before .before .before .before .before .before .before .before .before .before .before .before .before .before .before .before .args .row) (h .within) .count) in gathering.gathering-refused h (c .before .before .before .before .before .before .before .before .before .before .before .before .before .before .before .before .loop .inv .1 h) inside _ _ _ _ _ (c .before .before .before .before .before .before .before .with-entry .ensures .0 (gathering.piling h (c .before .before .before .before .before .before .before .before .before .before .before .before .before .before .before .before .loop .inv .1 h) inside)) (c .before .stop .given .1)
 
 gathered-mul-object : (t : ℕ) → gathered-lts.Need-mul-object (
   empty-reads.Asked,
   empty-reads.Learnt,
   with-entry-below t,
   with-entry.Post,
+  grown-reads.Asked,
+  grown-reads.Learnt,
   apply-reads.Asked,
   apply-reads.Learnt,
 ) (gathered-at t) gathered.Post gathered-Inv-loop gathered-μ-loop
@@ -1114,6 +1150,8 @@ gathered-index-1-object : (t : ℕ) → gathered-lts.Need-index-1-object (
   empty-reads.Learnt,
   with-entry-below t,
   with-entry.Post,
+  grown-reads.Asked,
+  grown-reads.Learnt,
   apply-reads.Asked,
   apply-reads.Learnt,
 ) (gathered-at t) gathered.Post gathered-Inv-loop gathered-μ-loop
@@ -1124,6 +1162,8 @@ gathered-index-2-object : (t : ℕ) → gathered-lts.Need-index-2-object (
   empty-reads.Learnt,
   with-entry-below t,
   with-entry.Post,
+  grown-reads.Asked,
+  grown-reads.Learnt,
   apply-reads.Asked,
   apply-reads.Learnt,
 ) (gathered-at t) gathered.Post gathered-Inv-loop gathered-μ-loop
@@ -1134,6 +1174,8 @@ gathered-mul-first : (t : ℕ) → gathered-lts.Need-mul-first (
   empty-reads.Learnt,
   with-entry-below t,
   with-entry.Post,
+  grown-reads.Asked,
+  grown-reads.Learnt,
   apply-reads.Asked,
   apply-reads.Learnt,
 ) (gathered-at t) gathered.Post gathered-Inv-loop gathered-μ-loop
@@ -1144,6 +1186,8 @@ gathered-index-1-first : (t : ℕ) → gathered-lts.Need-index-1-first (
   empty-reads.Learnt,
   with-entry-below t,
   with-entry.Post,
+  grown-reads.Asked,
+  grown-reads.Learnt,
   apply-reads.Asked,
   apply-reads.Learnt,
 ) (gathered-at t) gathered.Post gathered-Inv-loop gathered-μ-loop
@@ -1154,62 +1198,86 @@ gathered-index-2-first : (t : ℕ) → gathered-lts.Need-index-2-first (
   empty-reads.Learnt,
   with-entry-below t,
   with-entry.Post,
+  grown-reads.Asked,
+  grown-reads.Learnt,
   apply-reads.Asked,
   apply-reads.Learnt,
 ) (gathered-at t) gathered.Post gathered-Inv-loop gathered-μ-loop
 gathered-index-2-first t c = search needs
+
+gathered-grown-requires : (t : ℕ) → gathered-lts.Need-grown-requires (
+  empty-reads.Asked,
+  empty-reads.Learnt,
+  with-entry-below t,
+  with-entry.Post,
+  grown-reads.Asked,
+  grown-reads.Learnt,
+  apply-reads.Asked,
+  apply-reads.Learnt,
+) (gathered-at t) gathered.Post gathered-Inv-loop gathered-μ-loop
+gathered-grown-requires t c κs = search needs
 
 gathered-apply-requires : (t : ℕ) → gathered-lts.Need-apply-requires (
   empty-reads.Asked,
   empty-reads.Learnt,
   with-entry-below t,
   with-entry.Post,
+  grown-reads.Asked,
+  grown-reads.Learnt,
   apply-reads.Asked,
   apply-reads.Learnt,
 ) (gathered-at t) gathered.Post gathered-Inv-loop gathered-μ-loop
-gathered-apply-requires t c κs = gathering.floats-there (c .before .before .before .before .before .before .before .before .before .before .before .pre .1 .0) (c .before .before .before .before .loop .inv .1 (c .before .before .before .before .before .before .before .before .before .before .before .pre .1 .0))
+gathered-apply-requires t c κs = gathering.floats-there (c .before .before .before .before .before .before .before .before .before .before .before .before .pre .1 .0) (c .before .before .before .before .before .loop .inv .1 (c .before .before .before .before .before .before .before .before .before .before .before .before .pre .1 .0))
 
 gathered-same-length-4 : (t : ℕ) → gathered-lts.Need-same-length-4 (
   empty-reads.Asked,
   empty-reads.Learnt,
   with-entry-below t,
   with-entry.Post,
+  grown-reads.Asked,
+  grown-reads.Learnt,
   apply-reads.Asked,
   apply-reads.Learnt,
 ) (gathered-at t) gathered.Post gathered-Inv-loop gathered-μ-loop
-gathered-same-length-4 t c = c .before .before .before .before .before .before .loop .inv .0 .1
+gathered-same-length-4 t c = c .before .before .before .before .before .before .before .loop .inv .0 .1
 
 gathered-same-length-5 : (t : ℕ) → gathered-lts.Need-same-length-5 (
   empty-reads.Asked,
   empty-reads.Learnt,
   with-entry-below t,
   with-entry.Post,
+  grown-reads.Asked,
+  grown-reads.Learnt,
   apply-reads.Asked,
   apply-reads.Learnt,
 ) (gathered-at t) gathered.Post gathered-Inv-loop gathered-μ-loop
-gathered-same-length-5 t c = c .before .before .before .before .before .before .loop .inv .0 .2
+gathered-same-length-5 t c = c .before .before .before .before .before .before .before .loop .inv .0 .2
 
 gathered-same-length-6 : (t : ℕ) → gathered-lts.Need-same-length-6 (
   empty-reads.Asked,
   empty-reads.Learnt,
   with-entry-below t,
   with-entry.Post,
+  grown-reads.Asked,
+  grown-reads.Learnt,
   apply-reads.Asked,
   apply-reads.Learnt,
 ) (gathered-at t) gathered.Post gathered-Inv-loop gathered-μ-loop
-gathered-same-length-6 t c = c .before .apply .kept .0 ∙ c .before .before .before .before .before .before .loop .inv .0 .3
+gathered-same-length-6 t c = c .before .apply .kept .0 ∙ c .before .before .before .before .before .before .before .loop .inv .0 .3
 
 gathered-returns-2 : (t : ℕ) → gathered-lts.Need-returns-2 (
   empty-reads.Asked,
   empty-reads.Learnt,
   with-entry-below t,
   with-entry.Post,
+  grown-reads.Asked,
+  grown-reads.Learnt,
   apply-reads.Asked,
   apply-reads.Learnt,
 ) (gathered-at t) gathered.Post gathered-Inv-loop gathered-μ-loop
 gathered-returns-2 t c =
-    λ h. let G = c .before .before .before .before .before .before .loop .inv .1 h in let all : length ((rowAt (h .ready .world) (c .before .before .before .before .before .before .before .before .before .before .before .before .before .args .row)) .entries) ≤ (c .before .before .before .before .before .before .loop .k) = omega (arith, c .before .before .before .before .before .loop-test .left, h .ready .told .row (c .before .before .before .before .before .before .before .before .before .before .before .before .before .args .row) (h .within) .count) in
-    gathering.gathering-applied h G all (c .before .before .before .before .before .before .before .before .before .before .before .before .before .pre .1 .1 .1 ∙ gathering.high-is (h .ready) (c .before .before .before .before .before .before .before .before .before .before .before .before .before .args .row) (h .within)) _ _ _ (c .before .apply .ensures (h .ready .world) _ (h .ready .sources₀) (h .ready .floats₀) (c .before .before .before .before .before .before .before .before .before .before .before .before .before .args .row) _ (c .before .before .before .before .before .before .before .before .before .before .before .before .before .args .high) (c .before .before .before .before .before .before .before .before .before .before .before .before .before .args .operator) (c .before .before .before .before .before .before .before .before .before .before .before .before .before .args .found) (G .sofar) _ (h .ready .told .recorded) (gathering.begins h G all refl) (sym (h .ready .told .held .object (c .before .before .before .before .before .before .before .before .before .before .before .before .before .args .row) (h .within))) (G .piled) (gathering.all-fresh h G all) (gathering.none-recorded h G all) (gathering.all-plain h G all))
+    λ h. let G = c .before .before .before .before .before .before .before .loop .inv .1 h in let all : length ((rowAt (h .ready .world) (c .before .before .before .before .before .before .before .before .before .before .before .before .before .before .args .row)) .entries) ≤ (c .before .before .before .before .before .before .before .loop .k) = omega (arith, c .before .before .before .before .before .before .loop-test .left, h .ready .told .row (c .before .before .before .before .before .before .before .before .before .before .before .before .before .before .args .row) (h .within) .count) in
+    gathering.gathering-applied h G all (c .before .before .before .before .before .before .before .before .before .before .before .before .before .before .pre .1 .1 .1 ∙ gathering.high-is (h .ready) (c .before .before .before .before .before .before .before .before .before .before .before .before .before .before .args .row) (h .within)) _ _ _ (c .before .apply .ensures (h .ready .world) _ (h .ready .sources₀) (h .ready .floats₀) (c .before .before .before .before .before .before .before .before .before .before .before .before .before .before .args .row) _ (c .before .before .before .before .before .before .before .before .before .before .before .before .before .before .args .high) (c .before .before .before .before .before .before .before .before .before .before .before .before .before .before .args .operator) (c .before .before .before .before .before .before .before .before .before .before .before .before .before .before .args .found) (G .sofar) _ (h .ready .told .recorded) (gathering.begins h G all refl) (sym (h .ready .told .held .object (c .before .before .before .before .before .before .before .before .before .before .before .before .before .before .args .row) (h .within))) (rw (c .before .before .before .grown .ensures) (G .piled)) (gathering.all-fresh h G all) (gathering.none-recorded h G all) (gathering.all-plain h G all))
 
 limited-returns : (t : ℕ) → limited-lts.Need-returns (
   calculated-value-below t,
@@ -1985,7 +2053,7 @@ with-entry-cast-at : (t : ℕ) → with-entry-lts.Need-cast-at (
   stopped-reads.Asked,
   stopped-reads.Learnt,
 ) (with-entry-at t) with-entry.Post
-with-entry-cast-at t c = first-fits (c .before .before .before .before .before .pre .1 .ready) (c .before .before .before .before .before .args .row) (c .before .before .before .before .before .pre .1 .within) (c .before .before .before .before .before .good .1 .1 .1 .1 .1 .1 .1 .1 .1 .1 .0 .0)
+with-entry-cast-at t c = first-fits (c .before .before .before .before .before .pre .1 .0 .ready) (c .before .before .before .before .before .args .row) (c .before .before .before .before .before .pre .1 .0 .within) (c .before .before .before .before .before .good .1 .1 .1 .1 .1 .1 .1 .1 .1 .1 .1 .1 .1 .1 .0 .0)
 
 with-entry-add-at : (t : ℕ) → with-entry-lts.Need-add-at (
   operator-code-reads.Asked,
@@ -2003,7 +2071,7 @@ with-entry-add-at : (t : ℕ) → with-entry-lts.Need-add-at (
   stopped-reads.Asked,
   stopped-reads.Learnt,
 ) (with-entry-at t) with-entry.Post
-with-entry-add-at t c = taking.place-fits (c .before .before .before .before .before .pre .1) (c .before .before .before .before .before .good .1 .1 .1 .1 .1 .1 .1 .1 .1 .1 .0 .0)
+with-entry-add-at t c = taking.place-fits (c .before .before .before .before .before .pre .1 .0) (c .before .before .before .before .before .good .1 .1 .1 .1 .1 .1 .1 .1 .1 .1 .1 .1 .1 .1 .0 .0)
 
 with-entry-mul-code : (t : ℕ) → with-entry-lts.Need-mul-code (
   operator-code-reads.Asked,
@@ -2021,7 +2089,7 @@ with-entry-mul-code : (t : ℕ) → with-entry-lts.Need-mul-code (
   stopped-reads.Asked,
   stopped-reads.Learnt,
 ) (with-entry-at t) with-entry.Post
-with-entry-mul-code t c = scaled-fits _ _ _ ((taking.place-inside (c .before .before .before .before .before .pre .1)) .0) (c .before .before .before .before .before .good .1 .1 .1 .1 .1 .1 .1 .1 .1 .1 .0 .1)
+with-entry-mul-code t c = scaled-fits _ _ _ ((taking.place-inside (c .before .before .before .before .before .pre .1 .0)) .0) (c .before .before .before .before .before .good .1 .1 .1 .1 .1 .1 .1 .1 .1 .1 .1 .1 .1 .1 .0 .1)
 
 with-entry-index-1-code : (t : ℕ) → with-entry-lts.Need-index-1-code (
   operator-code-reads.Asked,
@@ -2039,7 +2107,7 @@ with-entry-index-1-code : (t : ℕ) → with-entry-lts.Need-index-1-code (
   stopped-reads.Asked,
   stopped-reads.Learnt,
 ) (with-entry-at t) with-entry.Post
-with-entry-index-1-code t c = (taking.place-inside (c .before .before .before .before .before .pre .1)) .0
+with-entry-index-1-code t c = (taking.place-inside (c .before .before .before .before .before .pre .1 .0)) .0
 
 with-entry-index-2-code : (t : ℕ) → with-entry-lts.Need-index-2-code (
   operator-code-reads.Asked,
@@ -2093,7 +2161,7 @@ with-entry-returns : (t : ℕ) → with-entry-lts.Need-returns (
   stopped-reads.Asked,
   stopped-reads.Learnt,
 ) (with-entry-at t) with-entry.Post
-with-entry-returns t c = λ h. taking.entry-other h (c .before .before .before .before .before .before .before .before .args .left) (λ e. c .if1 .taken (e ∙ sym (c .before .operator-code .ensures)))
+with-entry-returns t c = (λ h. taking.entry-other h (c .before .before .before .before .before .before .before .before .args .left) (λ e. c .if1 .taken (e ∙ sym (c .before .operator-code .ensures))), c .before .before .before .before .before .before .before .before .pre .1 .1)
 
 with-entry-entry-at-requires : (t : ℕ) → with-entry-lts.Need-entry-at-requires (
   operator-code-reads.Asked,
@@ -2111,7 +2179,7 @@ with-entry-entry-at-requires : (t : ℕ) → with-entry-lts.Need-entry-at-requir
   stopped-reads.Asked,
   stopped-reads.Learnt,
 ) (with-entry-at t) with-entry.Post
-with-entry-entry-at-requires t c κs = taking.place-inside (c .before .before .before .before .before .before .before .before .pre .1)
+with-entry-entry-at-requires t c κs = taking.place-inside (c .before .before .before .before .before .before .before .before .pre .1 .0)
 
 with-entry-is-running-requires : (t : ℕ) → with-entry-lts.Need-is-running-requires (
   operator-code-reads.Asked,
@@ -2129,7 +2197,7 @@ with-entry-is-running-requires : (t : ℕ) → with-entry-lts.Need-is-running-re
   stopped-reads.Asked,
   stopped-reads.Learnt,
 ) (with-entry-at t) with-entry.Post
-with-entry-is-running-requires t c κs = (taking.entry-good (c .before .before .before .before .before .before .before .before .before .pre .1) (c .before .before .before .before .before .before .before .before .before .args .left) _ (c .entry-at .ensures _ (taking.entry-held (c .before .before .before .before .before .before .before .before .before .pre .1))) (c .before .if1 .left ∙ c .before .before .operator-code .ensures)) .sourced
+with-entry-is-running-requires t c κs = (taking.entry-good (c .before .before .before .before .before .before .before .before .before .pre .1 .0) (c .before .before .before .before .before .before .before .before .before .args .left) _ (c .entry-at .ensures _ (taking.entry-held (c .before .before .before .before .before .before .before .before .before .pre .1 .0))) (c .before .if1 .left ∙ c .before .before .operator-code .ensures)) .sourced
 
 with-entry-returns-2 : (t : ℕ) → with-entry-lts.Need-returns-2 (
   operator-code-reads.Asked,
@@ -2149,7 +2217,7 @@ with-entry-returns-2 : (t : ℕ) → with-entry-lts.Need-returns-2 (
 ) (with-entry-at t) with-entry.Post
 with-entry-returns-2 t c =
     let none : (c .before .before .is-running .result || (c .before .before .before .before .before .before .before .before .before .before .before .before .args .run .recording)) ≡ false = sym (not-not (c .before .before .is-running .result || (c .before .before .before .before .before .before .before .before .before .before .before .before .args .run .recording))) ∙ ap not (c .if2 .taken) in
-    λ h. taking.entry-idle h (c .before .before .before .before .before .before .before .before .before .before .before .before .args .left) _ (c .before .before .before .entry-at .ensures _ (taking.entry-held h)) (c .before .before .before .before .if1 .left ∙ c .before .before .before .before .before .operator-code .ensures) (sym (c .before .before .is-running .ensures) ∙ or-false-left (c .before .before .is-running .result) (c .before .before .before .before .before .before .before .before .before .before .before .before .args .run .recording) none) (or-false-right (c .before .before .is-running .result) (c .before .before .before .before .before .before .before .before .before .before .before .before .args .run .recording) none)
+    (λ h. taking.entry-idle h (c .before .before .before .before .before .before .before .before .before .before .before .before .args .left) _ (c .before .before .before .entry-at .ensures _ (taking.entry-held h)) (c .before .before .before .before .if1 .left ∙ c .before .before .before .before .before .operator-code .ensures) (sym (c .before .before .is-running .ensures) ∙ or-false-left (c .before .before .is-running .result) (c .before .before .before .before .before .before .before .before .before .before .before .before .args .run .recording) none) (or-false-right (c .before .before .is-running .result) (c .before .before .before .before .before .before .before .before .before .before .before .before .args .run .recording) none), c .before .before .before .before .before .before .before .before .before .before .before .before .pre .1 .1)
 
 with-entry-mul-object : (t : ℕ) → with-entry-lts.Need-mul-object (
   operator-code-reads.Asked,
@@ -2167,7 +2235,7 @@ with-entry-mul-object : (t : ℕ) → with-entry-lts.Need-mul-object (
   stopped-reads.Asked,
   stopped-reads.Learnt,
 ) (with-entry-at t) with-entry.Post
-with-entry-mul-object t c = scaled-fits _ _ _ (row-inside (c .before .before .before .before .before .before .before .before .before .before .before .before .pre .1 .ready) (c .before .before .before .before .before .before .before .before .before .before .before .before .args .row) (c .before .before .before .before .before .before .before .before .before .before .before .before .pre .1 .within)) (c .before .before .before .before .before .before .before .before .before .before .before .before .good .1 .1 .1 .1 .1 .1 .1 .1 .0 .1)
+with-entry-mul-object t c = scaled-fits _ _ _ (row-inside (c .before .before .before .before .before .before .before .before .before .before .before .before .pre .1 .0 .ready) (c .before .before .before .before .before .before .before .before .before .before .before .before .args .row) (c .before .before .before .before .before .before .before .before .before .before .before .before .pre .1 .0 .within)) (c .before .before .before .before .before .before .before .before .before .before .before .before .good .1 .1 .1 .1 .1 .1 .1 .1 .1 .1 .1 .1 .0 .1)
 
 with-entry-index-1-object : (t : ℕ) → with-entry-lts.Need-index-1-object (
   operator-code-reads.Asked,
@@ -2185,7 +2253,7 @@ with-entry-index-1-object : (t : ℕ) → with-entry-lts.Need-index-1-object (
   stopped-reads.Asked,
   stopped-reads.Learnt,
 ) (with-entry-at t) with-entry.Post
-with-entry-index-1-object t c = row-inside (c .before .before .before .before .before .before .before .before .before .before .before .before .pre .1 .ready) (c .before .before .before .before .before .before .before .before .before .before .before .before .args .row) (c .before .before .before .before .before .before .before .before .before .before .before .before .pre .1 .within)
+with-entry-index-1-object t c = row-inside (c .before .before .before .before .before .before .before .before .before .before .before .before .pre .1 .0 .ready) (c .before .before .before .before .before .before .before .before .before .before .before .before .args .row) (c .before .before .before .before .before .before .before .before .before .before .before .before .pre .1 .0 .within)
 
 with-entry-index-2-object : (t : ℕ) → with-entry-lts.Need-index-2-object (
   operator-code-reads.Asked,
@@ -2221,7 +2289,7 @@ with-entry-mul-first : (t : ℕ) → with-entry-lts.Need-mul-first (
   stopped-reads.Asked,
   stopped-reads.Learnt,
 ) (with-entry-at t) with-entry.Post
-with-entry-mul-first t c = scaled-fits _ _ _ (row-inside (c .before .before .before .before .before .before .before .before .before .before .before .before .before .pre .1 .ready) (c .before .before .before .before .before .before .before .before .before .before .before .before .before .args .row) (c .before .before .before .before .before .before .before .before .before .before .before .before .before .pre .1 .within)) (c .before .before .before .before .before .before .before .before .before .before .before .before .before .good .1 .1 .1 .1 .1 .1 .1 .1 .0 .1)
+with-entry-mul-first t c = scaled-fits _ _ _ (row-inside (c .before .before .before .before .before .before .before .before .before .before .before .before .before .pre .1 .0 .ready) (c .before .before .before .before .before .before .before .before .before .before .before .before .before .args .row) (c .before .before .before .before .before .before .before .before .before .before .before .before .before .pre .1 .0 .within)) (c .before .before .before .before .before .before .before .before .before .before .before .before .before .good .1 .1 .1 .1 .1 .1 .1 .1 .1 .1 .1 .1 .0 .1)
 
 with-entry-index-1-first : (t : ℕ) → with-entry-lts.Need-index-1-first (
   operator-code-reads.Asked,
@@ -2239,7 +2307,7 @@ with-entry-index-1-first : (t : ℕ) → with-entry-lts.Need-index-1-first (
   stopped-reads.Asked,
   stopped-reads.Learnt,
 ) (with-entry-at t) with-entry.Post
-with-entry-index-1-first t c = row-inside (c .before .before .before .before .before .before .before .before .before .before .before .before .before .pre .1 .ready) (c .before .before .before .before .before .before .before .before .before .before .before .before .before .args .row) (c .before .before .before .before .before .before .before .before .before .before .before .before .before .pre .1 .within)
+with-entry-index-1-first t c = row-inside (c .before .before .before .before .before .before .before .before .before .before .before .before .before .pre .1 .0 .ready) (c .before .before .before .before .before .before .before .before .before .before .before .before .before .args .row) (c .before .before .before .before .before .before .before .before .before .before .before .before .before .pre .1 .0 .within)
 
 with-entry-index-2-first : (t : ℕ) → with-entry-lts.Need-index-2-first (
   operator-code-reads.Asked,
@@ -2275,7 +2343,7 @@ with-entry-strength-requires : (t : ℕ) → with-entry-lts.Need-strength-requir
   stopped-reads.Asked,
   stopped-reads.Learnt,
 ) (with-entry-at t) with-entry.Post
-with-entry-strength-requires t c κs = (omega (arith, c .before .before .before .before .before .before .before .before .before .before .before .before .before .before .before .before .before .pre .0), (c .before .before .before .before .before .before .before .before .before .before .before .before .before .before .before .before .before .pre .1 .ready, taking.entry-good (c .before .before .before .before .before .before .before .before .before .before .before .before .before .before .before .before .before .pre .1) (c .before .before .before .before .before .before .before .before .before .before .before .before .before .before .before .before .before .args .left) _ (c .before .before .before .before .before .before .before .before .entry-at .ensures _ (taking.entry-held (c .before .before .before .before .before .before .before .before .before .before .before .before .before .before .before .before .before .pre .1))) (c .before .before .before .before .before .before .before .before .before .if1 .left ∙ c .before .before .before .before .before .before .before .before .before .before .operator-code .ensures)))
+with-entry-strength-requires t c κs = (omega (arith, c .before .before .before .before .before .before .before .before .before .before .before .before .before .before .before .before .before .pre .0), (c .before .before .before .before .before .before .before .before .before .before .before .before .before .before .before .before .before .pre .1 .0 .ready, taking.entry-good (c .before .before .before .before .before .before .before .before .before .before .before .before .before .before .before .before .before .pre .1 .0) (c .before .before .before .before .before .before .before .before .before .before .before .before .before .before .before .before .before .args .left) _ (c .before .before .before .before .before .before .before .before .entry-at .ensures _ (taking.entry-held (c .before .before .before .before .before .before .before .before .before .before .before .before .before .before .before .before .before .pre .1 .0))) (c .before .before .before .before .before .before .before .before .before .if1 .left ∙ c .before .before .before .before .before .before .before .before .before .before .operator-code .ensures)))
 
 with-entry-enum-known-got : (t : ℕ) → with-entry-lts.Need-enum-known-got (
   operator-code-reads.Asked,
@@ -2330,8 +2398,8 @@ with-entry-add-entry-requires : (t : ℕ) → with-entry-lts.Need-add-entry-requ
   stopped-reads.Learnt,
 ) (with-entry-at t) with-entry.Post
 with-entry-add-entry-requires t c κs =
-    let h = c .before .before .before .before .before .before .before .before .before .before .before .before .before .before .before .before .before .before .before .before .before .before .before .before .before .before .before .before .pre .1 in
-    taking.entry-lengths h (c .before .before .before .before .before .before .before .before .before .before .before .before .before .before .before .before .before .before .before .before .before .before .before .before .before .before .before .before .args .left) _ (c .before .before .before .before .before .before .before .before .before .before .before .before .before .before .before .before .before .before .before .entry-at .ensures _ (taking.entry-held h)) (c .before .before .before .before .before .before .before .before .before .before .before .before .before .before .before .before .before .before .before .before .if1 .left ∙ c .before .before .before .before .before .before .before .before .before .before .before .before .before .before .before .before .before .before .before .before .before .operator-code .ensures) _ (c .before .before .before .before .before .before .before .before .before .before .before .before .before .before .before .before .before .before .is-running .ensures) (sym (not-not _) ∙ ap not (c .before .before .before .before .before .before .before .before .before .before .before .before .before .before .before .before .if2 .left)) _ _ _ _ _ (rw (c .before .before .before .before .got .given .1) at (c .before .before .before .before .before .before .before .before .before .before .strength .ensures (h .ready) (c .before .before .before .before .before .before .before .before .before .before .before .before .before .before .before .before .before .before .before .before .before .before .before .before .before .before .before .before .args .row) (rowAt (h .ready .world) (c .before .before .before .before .before .before .before .before .before .before .before .before .before .before .before .before .before .before .before .before .before .before .before .before .before .before .before .before .args .row)) (taking.entry-object h refl))) (c .before .before .counted .result) (c .before .before .counted .ensures .0) (c .before .before .counted .ensures .1)
+    let h = c .before .before .before .before .before .before .before .before .before .before .before .before .before .before .before .before .before .before .before .before .before .before .before .before .before .before .before .before .before .before .before .before .pre .1 .0 in
+    (taking.entry-lengths h (c .before .before .before .before .before .before .before .before .before .before .before .before .before .before .before .before .before .before .before .before .before .before .before .before .before .before .before .before .before .before .before .before .args .left) _ (c .before .before .before .before .before .before .before .before .before .before .before .before .before .before .before .before .before .before .before .before .before .before .before .entry-at .ensures _ (taking.entry-held h)) (c .before .before .before .before .before .before .before .before .before .before .before .before .before .before .before .before .before .before .before .before .before .before .before .before .if1 .left ∙ c .before .before .before .before .before .before .before .before .before .before .before .before .before .before .before .before .before .before .before .before .before .before .before .before .before .operator-code .ensures) _ (c .before .before .before .before .before .before .before .before .before .before .before .before .before .before .before .before .before .before .before .before .before .before .is-running .ensures) (sym (not-not _) ∙ ap not (c .before .before .before .before .before .before .before .before .before .before .before .before .before .before .before .before .before .before .before .before .if2 .left)) _ _ _ _ _ (rw (c .before .before .before .before .before .before .before .before .got .given .1) at (c .before .before .before .before .before .before .before .before .before .before .before .before .before .before .strength .ensures (h .ready) (c .before .before .before .before .before .before .before .before .before .before .before .before .before .before .before .before .before .before .before .before .before .before .before .before .before .before .before .before .before .before .before .before .args .row) (rowAt (h .ready .world) (c .before .before .before .before .before .before .before .before .before .before .before .before .before .before .before .before .before .before .before .before .before .before .before .before .before .before .before .before .before .before .before .before .args .row)) (taking.entry-object h refl))) (whole (c .before .before .before .before .before .before .before .before .before .before .before .before .before .before .before .before .before .before .before .before .before .before .before .before .before .before .before .before .before .before .before .before .args .positives .now) (c .before .before .before .before .before .before .before .before .before .before .before .before .before .before .before .before .before .before .before .before .before .before .before .before .before .before .before .before .before .before .before .before .args .positive-sources .now) (c .before .before .before .before .before .before .before .before .before .before .before .before .before .before .before .before .before .before .before .before .before .before .before .before .before .before .before .before .before .before .before .before .args .negatives .now) (c .before .before .before .before .before .before .before .before .before .before .before .before .before .before .before .before .before .before .before .before .before .before .before .before .before .before .before .before .before .before .before .before .args .negative-sources .now) (c .before .before .before .before .before .before .counted .result)) (c .before .before .before .before .before .before .counted .ensures .0) (c .before .before .before .before .before .before .counted .ensures .1), c .before .before .before .before .before .before .before .before .before .before .before .before .before .before .before .before .before .before .before .before .before .before .before .before .before .before .before .before .before .before .before .before .pre .1 .1)
 
 with-entry-enum-known-got-2 : (t : ℕ) → with-entry-lts.Need-enum-known-got-2 (
   operator-code-reads.Asked,
@@ -2385,7 +2453,7 @@ with-entry-same-length : (t : ℕ) → with-entry-lts.Need-same-length (
   stopped-reads.Asked,
   stopped-reads.Learnt,
 ) (with-entry-at t) with-entry.Post
-with-entry-same-length t c = c .before .before .before .before .before .before .before .before .before .before .before .before .before .strength .kept .0
+with-entry-same-length t c = c .before .before .before .before .before .before .before .before .before .before .before .before .before .before .before .before .before .strength .kept .0
 
 with-entry-same-length-2 : (t : ℕ) → with-entry-lts.Need-same-length-2 (
   operator-code-reads.Asked,
@@ -2439,12 +2507,14 @@ with-entry-returns-3 : (t : ℕ) → with-entry-lts.Need-returns-3 (
   stopped-reads.Asked,
   stopped-reads.Learnt,
 ) (with-entry-at t) with-entry.Post
-with-entry-returns-3 t c =
-    λ h. let k = rw (c .before .before .before .before .before .before .before .got .given .1) at (c .before .before .before .before .before .before .before .before .before .before .before .before .before .strength .ensures (h .ready) (c .before .before .before .before .before .before .before .before .before .before .before .before .before .before .before .before .before .before .before .before .before .before .before .before .before .before .before .before .before .before .before .args .row) (rowAt (h .ready .world) (c .before .before .before .before .before .before .before .before .before .before .before .before .before .before .before .before .before .before .before .before .before .before .before .before .before .before .before .before .before .before .before .args .row)) (taking.entry-object h refl)) in
-    taking.entry-added h (c .before .before .before .before .before .before .before .before .before .before .before .before .before .before .before .before .before .before .before .before .before .before .before .before .before .before .before .before .before .before .before .args .left) _ (c .before .before .before .before .before .before .before .before .before .before .before .before .before .before .before .before .before .before .before .before .before .before .entry-at .ensures _ (taking.entry-held h)) (c .before .before .before .before .before .before .before .before .before .before .before .before .before .before .before .before .before .before .before .before .before .before .before .if1 .left ∙ c .before .before .before .before .before .before .before .before .before .before .before .before .before .before .before .before .before .before .before .before .before .before .before .before .operator-code .ensures) _ (c .before .before .before .before .before .before .before .before .before .before .before .before .before .before .before .before .before .before .before .before .before .is-running .ensures) (sym (not-not _) ∙ ap not (c .before .before .before .before .before .before .before .before .before .before .before .before .before .before .before .before .before .before .before .if2 .left)) _ _ _ _ _ k _ _ _
-    (c .before .before .add-entry .ensures .0 (h .ready .world) _ (h .ready .sources₀) (h .ready .floats₀) (c .before .before .before .before .before .before .before .before .before .before .before .before .before .before .before .before .before .before .before .before .before .before .before .before .before .before .before .before .before .before .before .args .row) _ (c .before .before .before .before .before .before .before .before .before .before .before .before .before .before .before .before .before .before .before .before .before .before .before .before .before .before .before .before .before .before .before .args .operator) (h .found) _ (h .ready .told .recorded) (taking.entry-begins h refl) (taking.entry-object h refl) (taking.entry-operator h (c .before .before .before .before .before .before .before .before .before .before .before .before .before .before .before .before .before .before .before .before .before .before .before .before .before .before .before .before .before .before .before .args .left) _ (c .before .before .before .before .before .before .before .before .before .before .before .before .before .before .before .before .before .before .before .before .before .before .entry-at .ensures _ (taking.entry-held h)) (c .before .before .before .before .before .before .before .before .before .before .before .before .before .before .before .before .before .before .before .before .before .before .before .if1 .left ∙ c .before .before .before .before .before .before .before .before .before .before .before .before .before .before .before .before .before .before .before .before .before .before .before .before .operator-code .ensures)) (taking.entry-number h (c .before .before .before .before .before .before .before .before .before .before .before .before .before .before .before .before .before .before .before .before .before .before .before .before .before .before .before .before .before .before .before .args .left) _ (c .before .before .before .before .before .before .before .before .before .before .before .before .before .before .before .before .before .before .before .before .before .before .entry-at .ensures _ (taking.entry-held h)) (c .before .before .before .before .before .before .before .before .before .before .before .before .before .before .before .before .before .before .before .before .before .before .before .if1 .left ∙ c .before .before .before .before .before .before .before .before .before .before .before .before .before .before .before .before .before .before .before .before .before .before .before .before .operator-code .ensures) _ (c .before .before .before .before .before .before .before .before .before .before .before .before .before .before .before .before .before .before .before .before .before .is-running .ensures) (sym (not-not _) ∙ ap not (c .before .before .before .before .before .before .before .before .before .before .before .before .before .before .before .before .before .before .before .if2 .left)) _ _ _ _ _ k) (c .before .before .before .before .before .counted .ensures .2 ∙ h .going)
-    (taking.entry-pile h (c .before .before .before .before .before .before .before .before .before .before .before .before .before .before .before .before .before .before .before .before .before .before .before .before .before .before .before .before .before .before .before .args .left) _ (c .before .before .before .before .before .before .before .before .before .before .before .before .before .before .before .before .before .before .before .before .before .before .entry-at .ensures _ (taking.entry-held h)) (c .before .before .before .before .before .before .before .before .before .before .before .before .before .before .before .before .before .before .before .before .before .before .before .if1 .left ∙ c .before .before .before .before .before .before .before .before .before .before .before .before .before .before .before .before .before .before .before .before .before .before .before .before .operator-code .ensures) _ (c .before .before .before .before .before .before .before .before .before .before .before .before .before .before .before .before .before .before .before .before .before .is-running .ensures) (sym (not-not _) ∙ ap not (c .before .before .before .before .before .before .before .before .before .before .before .before .before .before .before .before .before .before .before .if2 .left)) _ _ _ _ _ k _ (c .before .before .before .before .before .counted .ensures .0) (c .before .before .before .before .before .counted .ensures .1) (c .before .before .before .before .before .counted .ensures .3) (c .before .before .before .before .before .counted .ensures .4) (c .before .before .before .before .before .counted .ensures .5))
-    (taking.entry-room h (c .before .before .before .before .before .before .before .before .before .before .before .before .before .before .before .before .before .before .before .before .before .before .before .before .before .before .before .before .before .before .before .args .left) _ (c .before .before .before .before .before .before .before .before .before .before .before .before .before .before .before .before .before .before .before .before .before .before .entry-at .ensures _ (taking.entry-held h)) (c .before .before .before .before .before .before .before .before .before .before .before .before .before .before .before .before .before .before .before .before .before .before .before .if1 .left ∙ c .before .before .before .before .before .before .before .before .before .before .before .before .before .before .before .before .before .before .before .before .before .before .before .before .operator-code .ensures) _ (c .before .before .before .before .before .before .before .before .before .before .before .before .before .before .before .before .before .before .before .before .before .is-running .ensures) (sym (not-not _) ∙ ap not (c .before .before .before .before .before .before .before .before .before .before .before .before .before .before .before .before .before .before .before .if2 .left)) _ _ _ _ _ k))
+with-entry-returns-3 t c = (
+  λ h. let k = rw (c .before .before .before .before .before .before .before .before .before .before .before .got .given .1) at (c .before .before .before .before .before .before .before .before .before .before .before .before .before .before .before .before .before .strength .ensures (h .ready) (c .before .before .before .before .before .before .before .before .before .before .before .before .before .before .before .before .before .before .before .before .before .before .before .before .before .before .before .before .before .before .before .before .before .before .before .args .row) (rowAt (h .ready .world) (c .before .before .before .before .before .before .before .before .before .before .before .before .before .before .before .before .before .before .before .before .before .before .before .before .before .before .before .before .before .before .before .before .before .before .before .args .row)) (taking.entry-object h refl)) in
+      taking.entry-added h (c .before .before .before .before .before .before .before .before .before .before .before .before .before .before .before .before .before .before .before .before .before .before .before .before .before .before .before .before .before .before .before .before .before .before .before .args .left) _ (c .before .before .before .before .before .before .before .before .before .before .before .before .before .before .before .before .before .before .before .before .before .before .before .before .before .before .entry-at .ensures _ (taking.entry-held h)) (c .before .before .before .before .before .before .before .before .before .before .before .before .before .before .before .before .before .before .before .before .before .before .before .before .before .before .before .if1 .left ∙ c .before .before .before .before .before .before .before .before .before .before .before .before .before .before .before .before .before .before .before .before .before .before .before .before .before .before .before .before .operator-code .ensures) _ (c .before .before .before .before .before .before .before .before .before .before .before .before .before .before .before .before .before .before .before .before .before .before .before .before .before .is-running .ensures) (sym (not-not _) ∙ ap not (c .before .before .before .before .before .before .before .before .before .before .before .before .before .before .before .before .before .before .before .before .before .before .before .if2 .left)) _ _ _ _ _ k _ _ _
+      (c .before .before .add-entry .ensures .0 (h .ready .world) _ (h .ready .sources₀) (h .ready .floats₀) (c .before .before .before .before .before .before .before .before .before .before .before .before .before .before .before .before .before .before .before .before .before .before .before .before .before .before .before .before .before .before .before .before .before .before .before .args .row) _ (c .before .before .before .before .before .before .before .before .before .before .before .before .before .before .before .before .before .before .before .before .before .before .before .before .before .before .before .before .before .before .before .before .before .before .before .args .operator) (h .found) _ (h .ready .told .recorded) (taking.entry-begins h refl) (taking.entry-object h refl) (taking.entry-operator h (c .before .before .before .before .before .before .before .before .before .before .before .before .before .before .before .before .before .before .before .before .before .before .before .before .before .before .before .before .before .before .before .before .before .before .before .args .left) _ (c .before .before .before .before .before .before .before .before .before .before .before .before .before .before .before .before .before .before .before .before .before .before .before .before .before .before .entry-at .ensures _ (taking.entry-held h)) (c .before .before .before .before .before .before .before .before .before .before .before .before .before .before .before .before .before .before .before .before .before .before .before .before .before .before .before .if1 .left ∙ c .before .before .before .before .before .before .before .before .before .before .before .before .before .before .before .before .before .before .before .before .before .before .before .before .before .before .before .before .operator-code .ensures)) (taking.entry-number h (c .before .before .before .before .before .before .before .before .before .before .before .before .before .before .before .before .before .before .before .before .before .before .before .before .before .before .before .before .before .before .before .before .before .before .before .args .left) _ (c .before .before .before .before .before .before .before .before .before .before .before .before .before .before .before .before .before .before .before .before .before .before .before .before .before .before .entry-at .ensures _ (taking.entry-held h)) (c .before .before .before .before .before .before .before .before .before .before .before .before .before .before .before .before .before .before .before .before .before .before .before .before .before .before .before .if1 .left ∙ c .before .before .before .before .before .before .before .before .before .before .before .before .before .before .before .before .before .before .before .before .before .before .before .before .before .before .before .before .operator-code .ensures) _ (c .before .before .before .before .before .before .before .before .before .before .before .before .before .before .before .before .before .before .before .before .before .before .before .before .before .is-running .ensures) (sym (not-not _) ∙ ap not (c .before .before .before .before .before .before .before .before .before .before .before .before .before .before .before .before .before .before .before .before .before .before .before .if2 .left)) _ _ _ _ _ k) (c .before .before .before .before .before .before .before .before .before .counted .ensures .2 ∙ h .going)
+      (taking.entry-pile h (c .before .before .before .before .before .before .before .before .before .before .before .before .before .before .before .before .before .before .before .before .before .before .before .before .before .before .before .before .before .before .before .before .before .before .before .args .left) _ (c .before .before .before .before .before .before .before .before .before .before .before .before .before .before .before .before .before .before .before .before .before .before .before .before .before .before .entry-at .ensures _ (taking.entry-held h)) (c .before .before .before .before .before .before .before .before .before .before .before .before .before .before .before .before .before .before .before .before .before .before .before .before .before .before .before .if1 .left ∙ c .before .before .before .before .before .before .before .before .before .before .before .before .before .before .before .before .before .before .before .before .before .before .before .before .before .before .before .before .operator-code .ensures) _ (c .before .before .before .before .before .before .before .before .before .before .before .before .before .before .before .before .before .before .before .before .before .before .before .before .before .is-running .ensures) (sym (not-not _) ∙ ap not (c .before .before .before .before .before .before .before .before .before .before .before .before .before .before .before .before .before .before .before .before .before .before .before .if2 .left)) _ _ _ _ _ k (whole (c .before .before .before .before .before .before .before .before .before .before .before .before .before .before .before .before .before .before .before .before .before .before .before .before .before .before .before .before .before .before .before .before .before .before .before .args .positives .now) (c .before .before .before .before .before .before .before .before .before .before .before .before .before .before .before .before .before .before .before .before .before .before .before .before .before .before .before .before .before .before .before .before .before .before .before .args .positive-sources .now) (c .before .before .before .before .before .before .before .before .before .before .before .before .before .before .before .before .before .before .before .before .before .before .before .before .before .before .before .before .before .before .before .before .before .before .before .args .negatives .now) (c .before .before .before .before .before .before .before .before .before .before .before .before .before .before .before .before .before .before .before .before .before .before .before .before .before .before .before .before .before .before .before .before .before .before .before .args .negative-sources .now) (c .before .before .before .before .before .before .before .before .before .counted .result)) (c .before .before .before .before .before .before .before .before .before .counted .ensures .0) (c .before .before .before .before .before .before .before .before .before .counted .ensures .1) (c .before .before .before .before .before .before .before .before .before .counted .ensures .3) (rw (c .before .before .before .before .before .before .before .before .before .counted .ensures .4) refl) (rw (c .before .before .before .before .before .before .before .before .before .counted .ensures .5) refl))
+      (taking.entry-room h (c .before .before .before .before .before .before .before .before .before .before .before .before .before .before .before .before .before .before .before .before .before .before .before .before .before .before .before .before .before .before .before .before .before .before .before .args .left) _ (c .before .before .before .before .before .before .before .before .before .before .before .before .before .before .before .before .before .before .before .before .before .before .before .before .before .before .entry-at .ensures _ (taking.entry-held h)) (c .before .before .before .before .before .before .before .before .before .before .before .before .before .before .before .before .before .before .before .before .before .before .before .before .before .before .before .if1 .left ∙ c .before .before .before .before .before .before .before .before .before .before .before .before .before .before .before .before .before .before .before .before .before .before .before .before .before .before .before .before .operator-code .ensures) _ (c .before .before .before .before .before .before .before .before .before .before .before .before .before .before .before .before .before .before .before .before .before .before .before .before .before .is-running .ensures) (sym (not-not _) ∙ ap not (c .before .before .before .before .before .before .before .before .before .before .before .before .before .before .before .before .before .before .before .before .before .before .before .if2 .left)) _ _ _ _ _ k)),
+  c .before .before .add-entry .ensures .1 .1,
+)
 
 with-entry-same-length-4 : (t : ℕ) → with-entry-lts.Need-same-length-4 (
   operator-code-reads.Asked,
@@ -2516,7 +2586,7 @@ with-entry-returns-4 : (t : ℕ) → with-entry-lts.Need-returns-4 (
   stopped-reads.Asked,
   stopped-reads.Learnt,
 ) (with-entry-at t) with-entry.Post
-with-entry-returns-4 t c = λ h. taking.entry-refused h (c .before .before .before .before .before .before .before .before .before .before .before .before .before .before .before .before .before .before .before .before .before .before .before .before .before .before .args .left) _ (c .before .before .before .before .before .before .before .before .before .before .before .before .before .before .before .before .before .entry-at .ensures _ (taking.entry-held h)) (c .before .before .before .before .before .before .before .before .before .before .before .before .before .before .before .before .before .before .if1 .left ∙ c .before .before .before .before .before .before .before .before .before .before .before .before .before .before .before .before .before .before .before .operator-code .ensures) _ (c .before .before .before .before .before .before .before .before .before .before .before .before .before .before .before .before .is-running .ensures) (sym (not-not _) ∙ ap not (c .before .before .before .before .before .before .before .before .before .before .before .before .before .before .if2 .left)) _ _ _ _ _ (rw (c .before .before .got2 .given .1) at (c .before .before .before .before .before .before .before .before .strength .ensures (h .ready) (c .before .before .before .before .before .before .before .before .before .before .before .before .before .before .before .before .before .before .before .before .before .before .before .before .before .before .args .row) (rowAt (h .ready .world) (c .before .before .before .before .before .before .before .before .before .before .before .before .before .before .before .before .before .before .before .before .before .before .before .before .before .before .args .row)) (taking.entry-object h refl))) (c .stopped .ensures .2)
+with-entry-returns-4 t c = (λ h. taking.entry-refused h (c .before .before .before .before .before .before .before .before .before .before .before .before .before .before .before .before .before .before .before .before .before .before .before .before .before .before .args .left) _ (c .before .before .before .before .before .before .before .before .before .before .before .before .before .before .before .before .before .entry-at .ensures _ (taking.entry-held h)) (c .before .before .before .before .before .before .before .before .before .before .before .before .before .before .before .before .before .before .if1 .left ∙ c .before .before .before .before .before .before .before .before .before .before .before .before .before .before .before .before .before .before .before .operator-code .ensures) _ (c .before .before .before .before .before .before .before .before .before .before .before .before .before .before .before .before .is-running .ensures) (sym (not-not _) ∙ ap not (c .before .before .before .before .before .before .before .before .before .before .before .before .before .before .if2 .left)) _ _ _ _ _ (rw (c .before .before .got2 .given .1) at (c .before .before .before .before .before .before .before .before .strength .ensures (h .ready) (c .before .before .before .before .before .before .before .before .before .before .before .before .before .before .before .before .before .before .before .before .before .before .before .before .before .before .args .row) (rowAt (h .ready .world) (c .before .before .before .before .before .before .before .before .before .before .before .before .before .before .before .before .before .before .before .before .before .before .before .before .before .before .args .row)) (taking.entry-object h refl))) (c .stopped .ensures .2), c .before .before .before .before .before .before .before .before .before .before .before .before .before .before .before .before .before .before .before .before .before .before .before .before .before .before .pre .1 .1)
 
 pub +calculate-value+calculated-value+evaluated+gathered+limited+operated+resisted+strength+with-entry-spec :
     {M : Type 1} → statement M
@@ -2633,6 +2703,8 @@ pub +calculate-value+calculated-value+evaluated+gathered+limited+operated+resist
       empty-reads.Learnt,
       with-entry-below t,
       with-entry.Post,
+      grown-reads.Asked,
+      grown-reads.Learnt,
       apply-reads.Asked,
       apply-reads.Learnt,
     )
@@ -2662,6 +2734,7 @@ pub +calculate-value+calculated-value+evaluated+gathered+limited+operated+resist
     (gathered-mul-first t)
     (gathered-index-1-first t)
     (gathered-index-2-first t)
+    (gathered-grown-requires t)
     (gathered-apply-requires t)
     (gathered-same-length-4 t)
     (gathered-same-length-5 t)
