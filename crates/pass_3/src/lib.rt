@@ -580,48 +580,75 @@ fn strength(
             source_category: _,
             attribute_id,
         } => {
-            let got = calculated_value(
-                values,
-                sources,
-                floats,
-                book,
-                pairs,
-                states,
-                stretches,
-                limits,
-                rows,
-                bases,
-                entries,
-                entry_values,
-                run,
-                source,
-                attribute_id,
-                left,
-                used,
-            );
-            let Got::Value(v, u) = got else {
-                return got;
-            };
-            resisted(
-                values,
-                sources,
-                floats,
-                book,
-                pairs,
-                states,
-                stretches,
-                limits,
-                rows,
-                bases,
-                entries,
-                entry_values,
-                run,
-                object,
-                resistance,
-                v,
-                left,
-                u,
-            )
+            let found = find(rows, stretches, source, attribute_id);
+            match found {
+                Found::At(row) => {
+                    let got = calculate_value(
+                        values,
+                        sources,
+                        floats,
+                        book,
+                        pairs,
+                        states,
+                        stretches,
+                        limits,
+                        rows,
+                        bases,
+                        entries,
+                        entry_values,
+                        run,
+                        row,
+                        left,
+                        used,
+                    );
+                    let Got::Value(v, u) = got else {
+                        return got;
+                    };
+                    resisted(
+                        values,
+                        sources,
+                        floats,
+                        book,
+                        pairs,
+                        states,
+                        stretches,
+                        limits,
+                        rows,
+                        bases,
+                        entries,
+                        entry_values,
+                        run,
+                        object,
+                        resistance,
+                        v,
+                        left,
+                        u,
+                    )
+                }
+                Found::Nothing => {
+                    let record = get_dogma_attribute(book, pairs, attribute_id);
+                    resisted(
+                        values,
+                        sources,
+                        floats,
+                        book,
+                        pairs,
+                        states,
+                        stretches,
+                        limits,
+                        rows,
+                        bases,
+                        entries,
+                        entry_values,
+                        run,
+                        object,
+                        resistance,
+                        record.default_value,
+                        left,
+                        used,
+                    )
+                }
+            }
         }
     }
 }

@@ -1860,128 +1860,300 @@ resisted-returns-4 : (t : ℕ) → resisted-lts.Need-returns-4 (
 resisted-returns-4 t c = λ h i row o. rw (c .before .before .before .before .before .before .before .before .before .before .before .before .before .before .before .resistance .given .1) (limiting.resist-not-finite _ _ _ _ _ _ i row _ (c .before .before .before .before .before .before .before .before .before .before .before .before .before .before .before .before .before .before .before .before .before .args .v) _ _ _ _ (rw (toZ-ofZ (sfits-of (c .before .before .before .before .before .before .before .before .before .before .before .before .before .before .known-told .given .0 .1)), c .before .before .before .before .got .given .1) at (c .before .before .before .before .before .before .before .before .before .before .calculated-value .ensures h)) (sym (c .before .before .product .ensures) ∙ c .enum-told3 .given .1) o)
 
 strength-enum-known-origin : (t : ℕ) → strength-lts.Need-enum-known-origin (
-  calculated-value-below t,
-  calculated-value.Post,
+  find-reads.Asked,
+  find-reads.Learnt,
+  calculate-value-below t,
+  calculate-value.Post,
   resisted-below t,
   resisted.Post,
+  get-dogma-attribute-reads.Asked,
+  get-dogma-attribute-reads.Learnt,
 ) (strength-at t) strength.Post
 strength-enum-known-origin t c = search needs
 
 strength-enum-known-origin-2 : (t : ℕ) → strength-lts.Need-enum-known-origin-2 (
-  calculated-value-below t,
-  calculated-value.Post,
+  find-reads.Asked,
+  find-reads.Learnt,
+  calculate-value-below t,
+  calculate-value.Post,
   resisted-below t,
   resisted.Post,
+  get-dogma-attribute-reads.Asked,
+  get-dogma-attribute-reads.Learnt,
 ) (strength-at t) strength.Post
 strength-enum-known-origin-2 t c = search needs
 
-strength-calculated-value-requires : (t : ℕ) → strength-lts.Need-calculated-value-requires (
-  calculated-value-below t,
-  calculated-value.Post,
+strength-find-requires : (t : ℕ) → strength-lts.Need-find-requires (
+  find-reads.Asked,
+  find-reads.Learnt,
+  calculate-value-below t,
+  calculate-value.Post,
   resisted-below t,
   resisted.Post,
+  get-dogma-attribute-reads.Asked,
+  get-dogma-attribute-reads.Learnt,
 ) (strength-at t) strength.Post
-strength-calculated-value-requires t c κs = (omega (arith, c .before .before .before .before .before .before .before .before .before .before .pre .0), (c .before .before .before .before .before .before .before .before .before .before .pre .1 .0, rw (c .before .before .before .before .origin2 .given .1) at (c .before .before .before .before .before .before .before .before .before .before .pre .1 .1 .sourced)))
+strength-find-requires t c κs = rw (c .before .origin2 .given .1) at (c .before .before .before .before .before .before .before .pre .1 .1 .sourced)
+
+strength-enum-known-found : (t : ℕ) → strength-lts.Need-enum-known-found (
+  find-reads.Asked,
+  find-reads.Learnt,
+  calculate-value-below t,
+  calculate-value.Post,
+  resisted-below t,
+  resisted.Post,
+  get-dogma-attribute-reads.Asked,
+  get-dogma-attribute-reads.Learnt,
+) (strength-at t) strength.Post
+strength-enum-known-found t c = search needs
+
+strength-calculate-value-requires : (t : ℕ) → strength-lts.Need-calculate-value-requires (
+  find-reads.Asked,
+  find-reads.Learnt,
+  calculate-value-below t,
+  calculate-value.Post,
+  resisted-below t,
+  resisted.Post,
+  get-dogma-attribute-reads.Asked,
+  get-dogma-attribute-reads.Learnt,
+) (strength-at t) strength.Post
+strength-calculate-value-requires t c κs = (omega (arith, c .before .before .before .before .before .before .before .before .before .before .before .before .before .before .pre .0), ((c .before .before .before .before .before .before .before .before .before .before .before .before .before .before .pre .1 .0), finding.found-inside (c .before .before .before .before .before .before .before .before .before .before .before .before .before .before .pre .1 .0) (c .before .before .before .before .before .before .before .before .origin2 .given .0 .1 .0) (c .before .before .before .before .before .before .before .before .origin2 .given .0 .1 .1 .1 .0) _ (rw (toZ-ofZ (sfits-of (c .before .before .before .before .before .before .before .known-told2 .given .1 .1 .1 .0 .1)), c .before .before .before .before .found .given .1) at (c .before .before .before .before .before .before .find .ensures ((c .before .before .before .before .before .before .before .before .before .before .before .before .before .before .pre .1 .0) .world .rows) ((c .before .before .before .before .before .before .before .before .before .before .before .before .before .before .pre .1 .0) .told .held) ((c .before .before .before .before .before .before .before .before .before .before .before .before .before .before .pre .1 .0) .told .stretched)))))
 
 strength-enum-known-got : (t : ℕ) → strength-lts.Need-enum-known-got (
-  calculated-value-below t,
-  calculated-value.Post,
+  find-reads.Asked,
+  find-reads.Learnt,
+  calculate-value-below t,
+  calculate-value.Post,
   resisted-below t,
   resisted.Post,
+  get-dogma-attribute-reads.Asked,
+  get-dogma-attribute-reads.Learnt,
 ) (strength-at t) strength.Post
 strength-enum-known-got t c = search needs
 
 strength-enum-told : (t : ℕ) → strength-lts.Need-enum-told (
-  calculated-value-below t,
-  calculated-value.Post,
+  find-reads.Asked,
+  find-reads.Learnt,
+  calculate-value-below t,
+  calculate-value.Post,
   resisted-below t,
   resisted.Post,
+  get-dogma-attribute-reads.Asked,
+  get-dogma-attribute-reads.Learnt,
 ) (strength-at t) strength.Post
 strength-enum-told t c = search needs
 
 strength-same-length : (t : ℕ) → strength-lts.Need-same-length (
-  calculated-value-below t,
-  calculated-value.Post,
+  find-reads.Asked,
+  find-reads.Learnt,
+  calculate-value-below t,
+  calculate-value.Post,
   resisted-below t,
   resisted.Post,
+  get-dogma-attribute-reads.Asked,
+  get-dogma-attribute-reads.Learnt,
 ) (strength-at t) strength.Post
 strength-same-length t c = search needs
 
 strength-same-length-2 : (t : ℕ) → strength-lts.Need-same-length-2 (
-  calculated-value-below t,
-  calculated-value.Post,
+  find-reads.Asked,
+  find-reads.Learnt,
+  calculate-value-below t,
+  calculate-value.Post,
   resisted-below t,
   resisted.Post,
+  get-dogma-attribute-reads.Asked,
+  get-dogma-attribute-reads.Learnt,
 ) (strength-at t) strength.Post
 strength-same-length-2 t c = search needs
 
 strength-same-length-3 : (t : ℕ) → strength-lts.Need-same-length-3 (
-  calculated-value-below t,
-  calculated-value.Post,
+  find-reads.Asked,
+  find-reads.Learnt,
+  calculate-value-below t,
+  calculate-value.Post,
   resisted-below t,
   resisted.Post,
+  get-dogma-attribute-reads.Asked,
+  get-dogma-attribute-reads.Learnt,
 ) (strength-at t) strength.Post
 strength-same-length-3 t c = search needs
 
 strength-returns : (t : ℕ) → strength-lts.Need-returns (
-  calculated-value-below t,
-  calculated-value.Post,
+  find-reads.Asked,
+  find-reads.Learnt,
+  calculate-value-below t,
+  calculate-value.Post,
   resisted-below t,
   resisted.Post,
+  get-dogma-attribute-reads.Asked,
+  get-dogma-attribute-reads.Learnt,
 ) (strength-at t) strength.Post
-strength-returns t c = λ h i row o. limiting.strength-refused _ _ _ _ _ _ i row _ (c .before .before .before .before .before .before .before .before .before .before .before .before .before .before .before .before .before .args .e) _ (c .before .before .before .before .before .before .before .before .before .before .before .origin2 .given .0 .0) (c .before .before .before .before .before .before .before .before .before .before .before .origin2 .given .0 .1 .0) (c .before .before .before .before .before .before .before .before .before .before .before .origin2 .given .0 .1 .1 .0) (c .before .before .before .before .before .before .before .before .before .before .before .origin2 .given .0 .1 .1 .1 .0) (c .before .before .before .before .before .before .before .before .before .before .before .origin2 .given .1) _ _ (c .enum-told .given .1) (rw (toZ-ofZ (sfits-of (c .before .before .before .before .before .before .before .before .before .before .known-told2 .given .1 .1 .1 .0 .1))) at (c .before .before .before .before .before .before .calculated-value .ensures h))
+strength-returns t c = λ h i row o. limiting.strength-refused _ _ _ _ _ _ i row _ (c .before .before .before .before .before .before .before .before .before .before .before .before .before .before .before .before .before .before .before .before .before .args .e) _ (c .before .before .before .before .before .before .before .before .before .before .before .before .before .before .before .origin2 .given .0 .0) (c .before .before .before .before .before .before .before .before .before .before .before .before .before .before .before .origin2 .given .0 .1 .0) (c .before .before .before .before .before .before .before .before .before .before .before .before .before .before .before .origin2 .given .0 .1 .1 .0) (c .before .before .before .before .before .before .before .before .before .before .before .before .before .before .before .origin2 .given .0 .1 .1 .1 .0) (c .before .before .before .before .before .before .before .before .before .before .before .before .before .before .before .origin2 .given .1) _ _ (c .enum-told .given .1) (finding.found-meets h (c .before .before .before .before .before .before .before .before .before .before .before .before .before .before .before .origin2 .given .0 .1 .0) (c .before .before .before .before .before .before .before .before .before .before .before .before .before .before .before .origin2 .given .0 .1 .1 .1 .0) (c .before .before .before .before .before .before .before .before .before .before .before .before .before .before .before .before .before .before .before .before .before .args .left) _ (rw (toZ-ofZ (sfits-of (c .before .before .before .before .before .before .before .before .before .before .before .before .before .before .known-told2 .given .1 .1 .1 .0 .1)), c .before .before .before .before .before .before .before .before .before .before .before .found .given .1) at (c .before .before .before .before .before .before .before .before .before .before .before .before .before .find .ensures (h .world .rows) (h .told .held) (h .told .stretched))) _ _ _ _ (c .before .before .before .before .before .before .calculate-value .ensures h))
 
 strength-resisted-requires : (t : ℕ) → strength-lts.Need-resisted-requires (
-  calculated-value-below t,
-  calculated-value.Post,
+  find-reads.Asked,
+  find-reads.Learnt,
+  calculate-value-below t,
+  calculate-value.Post,
   resisted-below t,
   resisted.Post,
+  get-dogma-attribute-reads.Asked,
+  get-dogma-attribute-reads.Learnt,
 ) (strength-at t) strength.Post
 strength-resisted-requires t c κs =
-    let k = rw (toZ-ofZ (sfits-of (c .before .before .before .before .before .before .before .before .before .before .before .before .before .before .known-told2 .given .1 .1 .1 .0 .1)), c .before .before .before .before .got .given .1) at (c .before .before .before .before .before .before .before .before .before .before .calculated-value .ensures (c .before .before .before .before .before .before .before .before .before .before .before .before .before .before .before .before .before .before .before .before .before .pre .1 .0)) in
-    (omega (arith, c .before .before .before .before .before .before .before .before .before .before .before .before .before .before .before .before .before .before .before .before .before .pre .0, falling.read-falls (c .before .before .before .before .before .before .before .before .before .before .before .before .before .before .before .before .before .before .before .before .before .pre .1 .0) (c .before .before .before .before .before .before .before .before .before .before .before .before .before .before .before .before .before .before .before .before .before .args .left) (c .before .before .before .before .before .before .before .before .before .before .before .before .before .before .before .origin2 .given .0 .1 .0) (c .before .before .before .before .before .before .before .before .before .before .before .before .before .before .before .origin2 .given .0 .1 .1 .1 .0) (c .before .before .before .before .got .given .0 .0) (c .before .before .before .before .got .given .0 .1 .0) (c .before .before .before .before .before .before .before .before .before .before .calculated-value .last .0) (c .before .before .before .before .before .before .before .before .before .before .calculated-value .last .1 .0) (c .before .before .before .before .before .before .before .before .before .before .calculated-value .last .1 .1 .0) k), (goes-on-from (c .before .before .before .before .before .before .before .before .before .before .before .before .before .before .before .before .before .before .before .before .before .pre .1 .0) (valueOf (c .before .before .before .before .before .before .before .before .before .before .before .before .before .before .before .before .before .before .before .before .before .pre .1 .0 .world) (c .before .before .before .before .before .before .before .before .before .before .before .before .before .before .before .before .before .before .before .before .before .args .left) (c .before .before .before .before .before .before .before .before .before .before .before .before .before .before .before .origin2 .given .0 .1 .0) (c .before .before .before .before .before .before .before .before .before .before .before .before .before .before .before .origin2 .given .0 .1 .1 .1 .0) (c .before .before .before .before .before .before .before .before .before .before .before .before .before .before .before .before .before .before .before .before .before .pre .1 .0 .mem)) (c .before .before .before .before .got .given .0 .0) (c .before .before .before .before .got .given .0 .1 .0) (c .before .before .before .before .before .before .before .before .before .before .calculated-value .last .0) (c .before .before .before .before .before .before .before .before .before .before .calculated-value .last .1 .0) (c .before .before .before .before .before .before .before .before .before .before .calculated-value .last .1 .1 .0) k, number-of (c .before .before .before .before .before .before .before .before .before .before .before .before .before .before .before .before .before .before .before .before .before .pre .1 .0) (valueOf (c .before .before .before .before .before .before .before .before .before .before .before .before .before .before .before .before .before .before .before .before .before .pre .1 .0 .world) (c .before .before .before .before .before .before .before .before .before .before .before .before .before .before .before .before .before .before .before .before .before .args .left) (c .before .before .before .before .before .before .before .before .before .before .before .before .before .before .before .origin2 .given .0 .1 .0) (c .before .before .before .before .before .before .before .before .before .before .before .before .before .before .before .origin2 .given .0 .1 .1 .1 .0) (c .before .before .before .before .before .before .before .before .before .before .before .before .before .before .before .before .before .before .before .before .before .pre .1 .0 .mem)) (c .before .before .before .before .got .given .0 .0) (c .before .before .before .before .got .given .0 .1 .0) (c .before .before .before .before .before .before .before .before .before .before .calculated-value .last .0) (c .before .before .before .before .before .before .before .before .before .before .calculated-value .last .1 .0) (c .before .before .before .before .before .before .before .before .before .before .calculated-value .last .1 .1 .0) k))
+    let k = rw (c .before .before .before .before .got .given .1) at (finding.found-meets (c .before .before .before .before .before .before .before .before .before .before .before .before .before .before .before .before .before .before .before .before .before .before .before .before .before .pre .1 .0) (c .before .before .before .before .before .before .before .before .before .before .before .before .before .before .before .before .before .before .before .origin2 .given .0 .1 .0) (c .before .before .before .before .before .before .before .before .before .before .before .before .before .before .before .before .before .before .before .origin2 .given .0 .1 .1 .1 .0) (c .before .before .before .before .before .before .before .before .before .before .before .before .before .before .before .before .before .before .before .before .before .before .before .before .before .args .left) _ (rw (toZ-ofZ (sfits-of (c .before .before .before .before .before .before .before .before .before .before .before .before .before .before .before .before .before .before .known-told2 .given .1 .1 .1 .0 .1)), c .before .before .before .before .before .before .before .before .before .before .before .before .before .before .before .found .given .1) at (c .before .before .before .before .before .before .before .before .before .before .before .before .before .before .before .before .before .find .ensures ((c .before .before .before .before .before .before .before .before .before .before .before .before .before .before .before .before .before .before .before .before .before .before .before .before .before .pre .1 .0) .world .rows) ((c .before .before .before .before .before .before .before .before .before .before .before .before .before .before .before .before .before .before .before .before .before .before .before .before .before .pre .1 .0) .told .held) ((c .before .before .before .before .before .before .before .before .before .before .before .before .before .before .before .before .before .before .before .before .before .before .before .before .before .pre .1 .0) .told .stretched))) _ _ _ _ (c .before .before .before .before .before .before .before .before .before .before .calculate-value .ensures (c .before .before .before .before .before .before .before .before .before .before .before .before .before .before .before .before .before .before .before .before .before .before .before .before .before .pre .1 .0))) in
+    (omega (arith, c .before .before .before .before .before .before .before .before .before .before .before .before .before .before .before .before .before .before .before .before .before .before .before .before .before .pre .0, falling.read-falls (c .before .before .before .before .before .before .before .before .before .before .before .before .before .before .before .before .before .before .before .before .before .before .before .before .before .pre .1 .0) (c .before .before .before .before .before .before .before .before .before .before .before .before .before .before .before .before .before .before .before .before .before .before .before .before .before .args .left) (c .before .before .before .before .before .before .before .before .before .before .before .before .before .before .before .before .before .before .before .origin2 .given .0 .1 .0) (c .before .before .before .before .before .before .before .before .before .before .before .before .before .before .before .before .before .before .before .origin2 .given .0 .1 .1 .1 .0) (c .before .before .before .before .got .given .0 .0) (c .before .before .before .before .got .given .0 .1 .0) (c .before .before .before .before .before .before .before .before .before .before .calculate-value .last .0) (c .before .before .before .before .before .before .before .before .before .before .calculate-value .last .1 .0) (c .before .before .before .before .before .before .before .before .before .before .calculate-value .last .1 .1 .0) k), (goes-on-from (c .before .before .before .before .before .before .before .before .before .before .before .before .before .before .before .before .before .before .before .before .before .before .before .before .before .pre .1 .0) (valueOf ((c .before .before .before .before .before .before .before .before .before .before .before .before .before .before .before .before .before .before .before .before .before .before .before .before .before .pre .1 .0) .world) (c .before .before .before .before .before .before .before .before .before .before .before .before .before .before .before .before .before .before .before .before .before .before .before .before .before .args .left) (c .before .before .before .before .before .before .before .before .before .before .before .before .before .before .before .before .before .before .before .origin2 .given .0 .1 .0) (c .before .before .before .before .before .before .before .before .before .before .before .before .before .before .before .before .before .before .before .origin2 .given .0 .1 .1 .1 .0) ((c .before .before .before .before .before .before .before .before .before .before .before .before .before .before .before .before .before .before .before .before .before .before .before .before .before .pre .1 .0) .mem)) (c .before .before .before .before .got .given .0 .0) (c .before .before .before .before .got .given .0 .1 .0) (c .before .before .before .before .before .before .before .before .before .before .calculate-value .last .0) (c .before .before .before .before .before .before .before .before .before .before .calculate-value .last .1 .0) (c .before .before .before .before .before .before .before .before .before .before .calculate-value .last .1 .1 .0) k, number-of (c .before .before .before .before .before .before .before .before .before .before .before .before .before .before .before .before .before .before .before .before .before .before .before .before .before .pre .1 .0) (valueOf ((c .before .before .before .before .before .before .before .before .before .before .before .before .before .before .before .before .before .before .before .before .before .before .before .before .before .pre .1 .0) .world) (c .before .before .before .before .before .before .before .before .before .before .before .before .before .before .before .before .before .before .before .before .before .before .before .before .before .args .left) (c .before .before .before .before .before .before .before .before .before .before .before .before .before .before .before .before .before .before .before .origin2 .given .0 .1 .0) (c .before .before .before .before .before .before .before .before .before .before .before .before .before .before .before .before .before .before .before .origin2 .given .0 .1 .1 .1 .0) ((c .before .before .before .before .before .before .before .before .before .before .before .before .before .before .before .before .before .before .before .before .before .before .before .before .before .pre .1 .0) .mem)) (c .before .before .before .before .got .given .0 .0) (c .before .before .before .before .got .given .0 .1 .0) (c .before .before .before .before .before .before .before .before .before .before .calculate-value .last .0) (c .before .before .before .before .before .before .before .before .before .before .calculate-value .last .1 .0) (c .before .before .before .before .before .before .before .before .before .before .calculate-value .last .1 .1 .0) k))
 
-strength-returns-2 : (t : ℕ) → strength-lts.Need-returns-2 (
-  calculated-value-below t,
-  calculated-value.Post,
+strength-enum-told-2 : (t : ℕ) → strength-lts.Need-enum-told-2 (
+  find-reads.Asked,
+  find-reads.Learnt,
+  calculate-value-below t,
+  calculate-value.Post,
   resisted-below t,
   resisted.Post,
+  get-dogma-attribute-reads.Asked,
+  get-dogma-attribute-reads.Learnt,
+) (strength-at t) strength.Post
+strength-enum-told-2 t c = search needs
+
+strength-get-dogma-attribute-requires : (t : ℕ) → strength-lts.Need-get-dogma-attribute-requires (
+  find-reads.Asked,
+  find-reads.Learnt,
+  calculate-value-below t,
+  calculate-value.Post,
+  resisted-below t,
+  resisted.Post,
+  get-dogma-attribute-reads.Asked,
+  get-dogma-attribute-reads.Learnt,
+) (strength-at t) strength.Post
+strength-get-dogma-attribute-requires t c κs = search needs
+
+strength-resisted-requires-2 : (t : ℕ) → strength-lts.Need-resisted-requires-2 (
+  find-reads.Asked,
+  find-reads.Learnt,
+  calculate-value-below t,
+  calculate-value.Post,
+  resisted-below t,
+  resisted.Post,
+  get-dogma-attribute-reads.Asked,
+  get-dogma-attribute-reads.Learnt,
+) (strength-at t) strength.Post
+strength-resisted-requires-2 t c κs =
+    let k = (finding.absent-meets (c .before .before .before .before .before .before .before .before .before .before .before .before .before .before .pre .1 .0) (c .before .before .before .before .before .before .before .before .origin2 .given .0 .1 .0) (c .before .before .before .before .before .before .before .before .origin2 .given .0 .1 .1 .1 .0) (c .before .before .before .before .before .before .before .before .before .before .before .before .before .before .args .left) (rw (toZ-ofZ (sfits-of (c .before .before .before .before .before .before .before .known-told2 .given .1 .1 .1 .0 .1)), c .before .before .before .before .enum-told2 .given .1) at (c .before .before .before .before .before .before .find .ensures ((c .before .before .before .before .before .before .before .before .before .before .before .before .before .before .pre .1 .0) .world .rows) ((c .before .before .before .before .before .before .before .before .before .before .before .before .before .before .pre .1 .0) .told .held) ((c .before .before .before .before .before .before .before .before .before .before .before .before .before .before .pre .1 .0) .told .stretched))) _ (ap (λ (r : DogmaAttribute). r .«default_value») (rw (toZ-ofZ (sfits-of (c .before .before .before .before .before .before .before .known-told2 .given .1 .1 .1 .0 .1))) at (c .before .before .before .get-dogma-attribute .ensures)))) in
+    (omega (arith, c .before .before .before .before .before .before .before .before .before .before .before .before .before .before .pre .0), (goes-on-from (c .before .before .before .before .before .before .before .before .before .before .before .before .before .before .pre .1 .0) (valueOf ((c .before .before .before .before .before .before .before .before .before .before .before .before .before .before .pre .1 .0) .world) (c .before .before .before .before .before .before .before .before .before .before .before .before .before .before .args .left) (c .before .before .before .before .before .before .before .before .origin2 .given .0 .1 .0) (c .before .before .before .before .before .before .before .before .origin2 .given .0 .1 .1 .1 .0) ((c .before .before .before .before .before .before .before .before .before .before .before .before .before .before .pre .1 .0) .mem)) (c .before .before .before .get-dogma-attribute .result .«default_value») (c .before .before .before .before .before .before .before .before .before .before .before .before .before .before .args .used) (c .before .before .before .before .before .before .before .before .before .before .before .before .before .before .args .values .now) (c .before .before .before .before .before .before .before .before .before .before .before .before .before .before .args .sources .now) (c .before .before .before .before .before .before .before .before .before .before .before .before .before .before .args .floats .now) k, number-of (c .before .before .before .before .before .before .before .before .before .before .before .before .before .before .pre .1 .0) (valueOf ((c .before .before .before .before .before .before .before .before .before .before .before .before .before .before .pre .1 .0) .world) (c .before .before .before .before .before .before .before .before .before .before .before .before .before .before .args .left) (c .before .before .before .before .before .before .before .before .origin2 .given .0 .1 .0) (c .before .before .before .before .before .before .before .before .origin2 .given .0 .1 .1 .1 .0) ((c .before .before .before .before .before .before .before .before .before .before .before .before .before .before .pre .1 .0) .mem)) (c .before .before .before .get-dogma-attribute .result .«default_value») (c .before .before .before .before .before .before .before .before .before .before .before .before .before .before .args .used) (c .before .before .before .before .before .before .before .before .before .before .before .before .before .before .args .values .now) (c .before .before .before .before .before .before .before .before .before .before .before .before .before .before .args .sources .now) (c .before .before .before .before .before .before .before .before .before .before .before .before .before .before .args .floats .now) k))
+
+strength-returns-2 : (t : ℕ) → strength-lts.Need-returns-2 (
+  find-reads.Asked,
+  find-reads.Learnt,
+  calculate-value-below t,
+  calculate-value.Post,
+  resisted-below t,
+  resisted.Post,
+  get-dogma-attribute-reads.Asked,
+  get-dogma-attribute-reads.Learnt,
 ) (strength-at t) strength.Post
 strength-returns-2 t c = λ h i row o. limiting.buff-strength _ _ _ _ _ _ i row _ (c .before .before .before .before .before .before .before .args .e) _ _ _ (c .before .origin .given .1) (rw (c .before .origin .given .1) at (c .before .before .before .before .before .before .before .pre .1 .1 .valued)) (h .holds)
 
 strength-same-length-4 : (t : ℕ) → strength-lts.Need-same-length-4 (
-  calculated-value-below t,
-  calculated-value.Post,
+  find-reads.Asked,
+  find-reads.Learnt,
+  calculate-value-below t,
+  calculate-value.Post,
   resisted-below t,
   resisted.Post,
+  get-dogma-attribute-reads.Asked,
+  get-dogma-attribute-reads.Learnt,
 ) (strength-at t) strength.Post
 strength-same-length-4 t c = search needs
 
 strength-same-length-5 : (t : ℕ) → strength-lts.Need-same-length-5 (
-  calculated-value-below t,
-  calculated-value.Post,
+  find-reads.Asked,
+  find-reads.Learnt,
+  calculate-value-below t,
+  calculate-value.Post,
   resisted-below t,
   resisted.Post,
+  get-dogma-attribute-reads.Asked,
+  get-dogma-attribute-reads.Learnt,
 ) (strength-at t) strength.Post
 strength-same-length-5 t c = search needs
 
 strength-same-length-6 : (t : ℕ) → strength-lts.Need-same-length-6 (
-  calculated-value-below t,
-  calculated-value.Post,
+  find-reads.Asked,
+  find-reads.Learnt,
+  calculate-value-below t,
+  calculate-value.Post,
   resisted-below t,
   resisted.Post,
+  get-dogma-attribute-reads.Asked,
+  get-dogma-attribute-reads.Learnt,
 ) (strength-at t) strength.Post
 strength-same-length-6 t c = search needs
 
 strength-returns-3 : (t : ℕ) → strength-lts.Need-returns-3 (
-  calculated-value-below t,
-  calculated-value.Post,
+  find-reads.Asked,
+  find-reads.Learnt,
+  calculate-value-below t,
+  calculate-value.Post,
   resisted-below t,
   resisted.Post,
+  get-dogma-attribute-reads.Asked,
+  get-dogma-attribute-reads.Learnt,
 ) (strength-at t) strength.Post
 strength-returns-3 t c =
-    λ h i row o. let k = rw (toZ-ofZ (sfits-of (c .before .before .before .before .before .before .before .before .before .before .before .before .before .before .before .before .before .before .before .known-told2 .given .1 .1 .1 .0 .1)), c .before .before .before .before .before .before .before .before .before .got .given .1) at (c .before .before .before .before .before .before .before .before .before .before .before .before .before .before .before .calculated-value .ensures h) in
-    limiting.strength-resisted (h .world) (h .sources₀) (h .floats₀) (c .before .before .before .before .before .before .before .before .before .before .before .before .before .before .before .calculated-value .last .0) (c .before .before .before .before .before .before .before .before .before .before .before .before .before .before .before .calculated-value .last .1 .0) (c .before .before .before .before .before .before .before .before .before .before .before .before .before .before .before .calculated-value .last .1 .1 .0) i row (valueOf (h .world) (c .before .before .before .before .before .before .before .before .before .before .before .before .before .before .before .before .before .before .before .before .before .before .before .before .before .before .args .left)) (c .before .before .before .before .before .before .before .before .before .before .before .before .before .before .before .before .before .before .before .before .before .before .before .before .before .before .args .e) (h .mem) (c .before .before .before .before .before .before .before .before .before .before .before .before .before .before .before .before .before .before .before .before .origin2 .given .0 .0) (c .before .before .before .before .before .before .before .before .before .before .before .before .before .before .before .before .before .before .before .before .origin2 .given .0 .1 .0) (c .before .before .before .before .before .before .before .before .before .before .before .before .before .before .before .before .before .before .before .before .origin2 .given .0 .1 .1 .0) (c .before .before .before .before .before .before .before .before .before .before .before .before .before .before .before .before .before .before .before .before .origin2 .given .0 .1 .1 .1 .0) (c .before .before .before .before .before .before .before .before .before .before .before .before .before .before .before .before .before .before .before .before .origin2 .given .1) (c .before .before .before .before .before .before .before .before .before .got .given .0 .0) (c .before .before .before .before .before .before .before .before .before .got .given .0 .1 .0) k _ _ _ _ (c .before .before .before .before .resisted .ensures (goes-on-from h (valueOf (h .world) (c .before .before .before .before .before .before .before .before .before .before .before .before .before .before .before .before .before .before .before .before .before .before .before .before .before .before .args .left) (c .before .before .before .before .before .before .before .before .before .before .before .before .before .before .before .before .before .before .before .before .origin2 .given .0 .1 .0) (c .before .before .before .before .before .before .before .before .before .before .before .before .before .before .before .before .before .before .before .before .origin2 .given .0 .1 .1 .1 .0) (h .mem)) (c .before .before .before .before .before .before .before .before .before .got .given .0 .0) (c .before .before .before .before .before .before .before .before .before .got .given .0 .1 .0) (c .before .before .before .before .before .before .before .before .before .before .before .before .before .before .before .calculated-value .last .0) (c .before .before .before .before .before .before .before .before .before .before .before .before .before .before .before .calculated-value .last .1 .0) (c .before .before .before .before .before .before .before .before .before .before .before .before .before .before .before .calculated-value .last .1 .1 .0) k) i row o)
+    λ h i row o. let k = rw (c .before .before .before .before .before .before .before .before .before .got .given .1) at (finding.found-meets h (c .before .before .before .before .before .before .before .before .before .before .before .before .before .before .before .before .before .before .before .before .before .before .before .before .origin2 .given .0 .1 .0) (c .before .before .before .before .before .before .before .before .before .before .before .before .before .before .before .before .before .before .before .before .before .before .before .before .origin2 .given .0 .1 .1 .1 .0) (c .before .before .before .before .before .before .before .before .before .before .before .before .before .before .before .before .before .before .before .before .before .before .before .before .before .before .before .before .before .before .args .left) _ (rw (toZ-ofZ (sfits-of (c .before .before .before .before .before .before .before .before .before .before .before .before .before .before .before .before .before .before .before .before .before .before .before .known-told2 .given .1 .1 .1 .0 .1)), c .before .before .before .before .before .before .before .before .before .before .before .before .before .before .before .before .before .before .before .before .found .given .1) at (c .before .before .before .before .before .before .before .before .before .before .before .before .before .before .before .before .before .before .before .before .before .before .find .ensures (h .world .rows) (h .told .held) (h .told .stretched))) _ _ _ _ (c .before .before .before .before .before .before .before .before .before .before .before .before .before .before .before .calculate-value .ensures h)) in
+    limiting.strength-resisted (h .world) (h .sources₀) (h .floats₀) (c .before .before .before .before .before .before .before .before .before .before .before .before .before .before .before .calculate-value .last .0) (c .before .before .before .before .before .before .before .before .before .before .before .before .before .before .before .calculate-value .last .1 .0) (c .before .before .before .before .before .before .before .before .before .before .before .before .before .before .before .calculate-value .last .1 .1 .0) i row (valueOf (h .world) (c .before .before .before .before .before .before .before .before .before .before .before .before .before .before .before .before .before .before .before .before .before .before .before .before .before .before .before .before .before .before .args .left)) (c .before .before .before .before .before .before .before .before .before .before .before .before .before .before .before .before .before .before .before .before .before .before .before .before .before .before .before .before .before .before .args .e) (h .mem) (c .before .before .before .before .before .before .before .before .before .before .before .before .before .before .before .before .before .before .before .before .before .before .before .before .origin2 .given .0 .0) (c .before .before .before .before .before .before .before .before .before .before .before .before .before .before .before .before .before .before .before .before .before .before .before .before .origin2 .given .0 .1 .0) (c .before .before .before .before .before .before .before .before .before .before .before .before .before .before .before .before .before .before .before .before .before .before .before .before .origin2 .given .0 .1 .1 .0) (c .before .before .before .before .before .before .before .before .before .before .before .before .before .before .before .before .before .before .before .before .before .before .before .before .origin2 .given .0 .1 .1 .1 .0) (c .before .before .before .before .before .before .before .before .before .before .before .before .before .before .before .before .before .before .before .before .before .before .before .before .origin2 .given .1) (c .before .before .before .before .before .before .before .before .before .got .given .0 .0) (c .before .before .before .before .before .before .before .before .before .got .given .0 .1 .0) k _ _ _ _ (c .before .before .before .before .resisted .ensures (goes-on-from h (valueOf (h .world) (c .before .before .before .before .before .before .before .before .before .before .before .before .before .before .before .before .before .before .before .before .before .before .before .before .before .before .before .before .before .before .args .left) (c .before .before .before .before .before .before .before .before .before .before .before .before .before .before .before .before .before .before .before .before .before .before .before .before .origin2 .given .0 .1 .0) (c .before .before .before .before .before .before .before .before .before .before .before .before .before .before .before .before .before .before .before .before .before .before .before .before .origin2 .given .0 .1 .1 .1 .0) (h .mem)) (c .before .before .before .before .before .before .before .before .before .got .given .0 .0) (c .before .before .before .before .before .before .before .before .before .got .given .0 .1 .0) (c .before .before .before .before .before .before .before .before .before .before .before .before .before .before .before .calculate-value .last .0) (c .before .before .before .before .before .before .before .before .before .before .before .before .before .before .before .calculate-value .last .1 .0) (c .before .before .before .before .before .before .before .before .before .before .before .before .before .before .before .calculate-value .last .1 .1 .0) k) i row o)
+
+strength-same-length-7 : (t : ℕ) → strength-lts.Need-same-length-7 (
+  find-reads.Asked,
+  find-reads.Learnt,
+  calculate-value-below t,
+  calculate-value.Post,
+  resisted-below t,
+  resisted.Post,
+  get-dogma-attribute-reads.Asked,
+  get-dogma-attribute-reads.Learnt,
+) (strength-at t) strength.Post
+strength-same-length-7 t c = search needs
+
+strength-same-length-8 : (t : ℕ) → strength-lts.Need-same-length-8 (
+  find-reads.Asked,
+  find-reads.Learnt,
+  calculate-value-below t,
+  calculate-value.Post,
+  resisted-below t,
+  resisted.Post,
+  get-dogma-attribute-reads.Asked,
+  get-dogma-attribute-reads.Learnt,
+) (strength-at t) strength.Post
+strength-same-length-8 t c = search needs
+
+strength-same-length-9 : (t : ℕ) → strength-lts.Need-same-length-9 (
+  find-reads.Asked,
+  find-reads.Learnt,
+  calculate-value-below t,
+  calculate-value.Post,
+  resisted-below t,
+  resisted.Post,
+  get-dogma-attribute-reads.Asked,
+  get-dogma-attribute-reads.Learnt,
+) (strength-at t) strength.Post
+strength-same-length-9 t c = search needs
+
+strength-returns-4 : (t : ℕ) → strength-lts.Need-returns-4 (
+  find-reads.Asked,
+  find-reads.Learnt,
+  calculate-value-below t,
+  calculate-value.Post,
+  resisted-below t,
+  resisted.Post,
+  get-dogma-attribute-reads.Asked,
+  get-dogma-attribute-reads.Learnt,
+) (strength-at t) strength.Post
+strength-returns-4 t c =
+    λ h i row o. let k = (finding.absent-meets h (c .before .before .before .before .before .before .before .before .before .before .before .before .before .origin2 .given .0 .1 .0) (c .before .before .before .before .before .before .before .before .before .before .before .before .before .origin2 .given .0 .1 .1 .1 .0) (c .before .before .before .before .before .before .before .before .before .before .before .before .before .before .before .before .before .before .before .args .left) (rw (toZ-ofZ (sfits-of (c .before .before .before .before .before .before .before .before .before .before .before .before .known-told2 .given .1 .1 .1 .0 .1)), c .before .before .before .before .before .before .before .before .before .enum-told2 .given .1) at (c .before .before .before .before .before .before .before .before .before .before .before .find .ensures (h .world .rows) (h .told .held) (h .told .stretched))) _ (ap (λ (r : DogmaAttribute). r .«default_value») (rw (toZ-ofZ (sfits-of (c .before .before .before .before .before .before .before .before .before .before .before .before .known-told2 .given .1 .1 .1 .0 .1))) at (c .before .before .before .before .before .before .before .before .get-dogma-attribute .ensures)))) in
+    limiting.strength-resisted (h .world) (h .sources₀) (h .floats₀) (c .before .before .before .before .before .before .before .before .before .before .before .before .before .before .before .before .before .before .before .args .values .now) (c .before .before .before .before .before .before .before .before .before .before .before .before .before .before .before .before .before .before .before .args .sources .now) (c .before .before .before .before .before .before .before .before .before .before .before .before .before .before .before .before .before .before .before .args .floats .now) i row (valueOf (h .world) (c .before .before .before .before .before .before .before .before .before .before .before .before .before .before .before .before .before .before .before .args .left)) (c .before .before .before .before .before .before .before .before .before .before .before .before .before .before .before .before .before .before .before .args .e) (h .mem) (c .before .before .before .before .before .before .before .before .before .before .before .before .before .origin2 .given .0 .0) (c .before .before .before .before .before .before .before .before .before .before .before .before .before .origin2 .given .0 .1 .0) (c .before .before .before .before .before .before .before .before .before .before .before .before .before .origin2 .given .0 .1 .1 .0) (c .before .before .before .before .before .before .before .before .before .before .before .before .before .origin2 .given .0 .1 .1 .1 .0) (c .before .before .before .before .before .before .before .before .before .before .before .before .before .origin2 .given .1) (c .before .before .before .before .before .before .before .before .get-dogma-attribute .result .«default_value») (c .before .before .before .before .before .before .before .before .before .before .before .before .before .before .before .before .before .before .before .args .used) k _ _ _ _ (c .before .before .before .before .resisted2 .ensures (goes-on-from h (valueOf (h .world) (c .before .before .before .before .before .before .before .before .before .before .before .before .before .before .before .before .before .before .before .args .left) (c .before .before .before .before .before .before .before .before .before .before .before .before .before .origin2 .given .0 .1 .0) (c .before .before .before .before .before .before .before .before .before .before .before .before .before .origin2 .given .0 .1 .1 .1 .0) (h .mem)) (c .before .before .before .before .before .before .before .before .get-dogma-attribute .result .«default_value») (c .before .before .before .before .before .before .before .before .before .before .before .before .before .before .before .before .before .before .before .args .used) (c .before .before .before .before .before .before .before .before .before .before .before .before .before .before .before .before .before .before .before .args .values .now) (c .before .before .before .before .before .before .before .before .before .before .before .before .before .before .before .before .before .before .before .args .sources .now) (c .before .before .before .before .before .before .before .before .before .before .before .before .before .before .before .before .before .before .before .args .floats .now) k) i row o)
 
 with-entry-mul-at : (t : ℕ) → with-entry-lts.Need-mul-at (
   operator-code-reads.Asked,
@@ -2833,16 +3005,22 @@ pub +calculate-value+calculated-value+evaluated+gathered+limited+operated+resist
     (resisted-same-length-9 t)
     (resisted-returns-4 t))
     (λ t. strength-lts.spec (
-      calculated-value-below t,
-      calculated-value.Post,
+      find-reads.Asked,
+      find-reads.Learnt,
+      calculate-value-below t,
+      calculate-value.Post,
       resisted-below t,
       resisted.Post,
+      get-dogma-attribute-reads.Asked,
+      get-dogma-attribute-reads.Learnt,
     )
     (strength-at t)
     strength.Post
     (strength-enum-known-origin t)
     (strength-enum-known-origin-2 t)
-    (strength-calculated-value-requires t)
+    (strength-find-requires t)
+    (strength-enum-known-found t)
+    (strength-calculate-value-requires t)
     (strength-enum-known-got t)
     (strength-enum-told t)
     (strength-same-length t)
@@ -2850,11 +3028,18 @@ pub +calculate-value+calculated-value+evaluated+gathered+limited+operated+resist
     (strength-same-length-3 t)
     (strength-returns t)
     (strength-resisted-requires t)
+    (strength-enum-told-2 t)
+    (strength-get-dogma-attribute-requires t)
+    (strength-resisted-requires-2 t)
     (strength-returns-2 t)
     (strength-same-length-4 t)
     (strength-same-length-5 t)
     (strength-same-length-6 t)
-    (strength-returns-3 t))
+    (strength-returns-3 t)
+    (strength-same-length-7 t)
+    (strength-same-length-8 t)
+    (strength-same-length-9 t)
+    (strength-returns-4 t))
     λ t. with-entry-lts.spec (
       operator-code-reads.Asked,
       operator-code-reads.Learnt,
