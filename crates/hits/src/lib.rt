@@ -70,7 +70,7 @@ fn one(target: u32, test: Test) -> Aim
 }
 
 // The aim at nobody.
-fn none() -> Aim
+pub fn none() -> Aim
     ensures { λ r. ⌜ r ≡ nobody ⌝ }
 {
     Aim {
