@@ -2,19 +2,20 @@
 use Prim.Native.Nat.{ℕ, suc, _+_, _-_, _≤_, _<_}
 use native.Mathlib.Omega.{arith}
 use mathlib.Core.Path.{_≡_, refl, sym, ap, _∙_}
-use mathlib.Core.Bool.{Bool, true, false}
+use mathlib.Core.Bool.{Bool, true, false, not, _||_}
 use mathlib.Core.List.{List, [], _∷_, _++_, map}
 use mathlib.Core.Option.{Option, none, some}
 use lib.Dec.{eqb}
 use lib.IntN.{ℤ}
 use lib.Ieee.{Float}
-use lib.ListN.{length, getD}
+use lib.ListN.{length, getD, set, length-set, getD-replicate}
+use lib.Seq.{getD-set-same, getD-set-other}
 use mir.Syntax.{w32}
 use mir.Val.{SFits, toZ, ofZ}
 use mir.Facts.{toZ-ofZ}
-use borrow.Author.Tests.{eq-eqb, ne-eqb}
+use borrow.Author.Tests.{eqb-true, eqb-false, eq-eqb, ne-eqb}
 use Rattle.laws.specs.Lists.{some?, span}
-use Rattle.laws.proofs.Scans.{some-on, some-off, some-done}
+use Rattle.laws.proofs.Scans.{some-step, some-on, some-off, some-done}
 use Rattle.laws.proofs.Spans.{span-left, span-end}
 use Rattle.rules.specs.Codes.{categoryAt, categoryCode, operatorAt, operatorCode, sameOperator}
 use Rattle.rules.specs.Item.{runsAt}
@@ -27,7 +28,7 @@ use Rattle.rules.specs.declared.Origin.the-variants as origin
 use Rattle.rules.specs.declared.OptionalId.{OptionalId}
 use Rattle.rules.specs.declared.OptionalId.the-variants.{Absent, Given}
 use Rattle.item.proofs.Back.{category-back, operator-back}
-use Rattle.reading.specs.Held.{NarrowOrigin, NarrowId, EntryHeld, isRunning, hasCode}
+use Rattle.reading.specs.Held.{NarrowOrigin, NarrowId, EntryHeld, isRunning, hasCode, isMarked}
 
 -- ---- codes
 
@@ -133,3 +134,60 @@ module _ (l : List (List ℕ)) (first e code i : ℕ) (inside : e ≤ length l) 
 
     pub code-missing : e ≤ i → false ≡ some? (hasCode c) (span first (e - first) l)
     code-missing h = sym (left ∙ some-done (hasCode code) (span-end i e l h)) ∙ ap (λ (k : ℕ). some? (hasCode k) (span first (e - first) l)) is
+
+-- ---- marks at the codes of the places first to i: what is left of the places to e decides the others
+
+pub record Marks (l : List (List ℕ)) (first e i : ℕ) (m : List ℕ) : Type 0 where
+  pub long : length m ≡ 9
+  pub is : (c : ℕ) → c < 9 → isMarked m c || some? (hasCode c) (span i (e - i) l) ≡ some? (hasCode c) (span first (e - first) l)
+
+abbrev noMarks : List ℕ
+noMarks = 0 ∷ 0 ∷ 0 ∷ 0 ∷ 0 ∷ 0 ∷ 0 ∷ 0 ∷ 0 ∷ []
+
+none-marked : (c : ℕ) → c < 9 → getD noMarks c 0 ≡ 0
+none-marked c h = getD-replicate 9 c 0 0 h
+
+pub marks-none : (l : List (List ℕ)) (first e : ℕ) → Marks l first e first noMarks
+marks-none l first e = record { long = refl; is = λ c h. ap (λ (n : ℕ). not (eqb n 0) || some? (hasCode c) (span first (e - first) l)) (none-marked c h) }
+
+-- one that is there
+or-there : (a rest : Bool) → a || (true || rest) ≡ true
+or-there true rest = refl
+or-there false rest = refl
+
+or-none : (a : Bool) → a || false ≡ a
+or-none true = refl
+or-none false = refl
+
+-- no mark, as the code tests it
+pub mark-left : (m : List ℕ) (c : ℕ) → getD m c 0 ≡ 0 → isMarked m c ≡ false
+mark-left m c e = ap not (eq-eqb (getD m c 0) 0 e)
+
+module _ (l : List (List ℕ)) (first e i : ℕ) {m : List ℕ} (inside : e ≤ length l) (M : Marks l first e i m) where
+  pub marks-all : e ≤ i → (c : ℕ) → c < 9 → isMarked m c ≡ some? (hasCode c) (span first (e - first) l)
+  marks-all h c b = sym (ap (λ (t : Bool). isMarked m c || t) (some-done (hasCode c) (span-end i e l h)) ∙ or-none (isMarked m c)) ∙ M .is c b
+
+  module _ (h : i < e) {code : ℕ} (is : code ≡ getD (getD l i []) 6 0) where
+    abbrev rest : ℕ → Bool
+    rest c = some? (hasCode c) (span (i + 1) (e - (i + 1)) l)
+
+    step : (c : ℕ) → some? (hasCode c) (span i (e - i) l) ≡ eqb code c || rest c
+    step c = some-step (hasCode c) (span-left i e l [] h (omega arith)) ∙ ap (λ (n : ℕ). eqb n c || rest c) (sym is)
+
+    -- another code: the mark is as it was
+    beside : (c : ℕ) → c < 9 → (code ≡ c → ⊥) → isMarked m c || rest c ≡ some? (hasCode c) (span first (e - first) l)
+    beside c b n = sym (ap (λ (t : Bool). isMarked m c || t) (step c ∙ ap (λ (t : Bool). t || rest c) (ne-eqb code c n))) ∙ M .is c b
+
+    pub marks-past : 9 ≤ code → Marks l first e (i + 1) m
+    marks-past p = record { long = M .long; is = λ c b. beside c b (λ q. omega (arith, p, b, q)) }
+
+    pub marks-on : code < 9 → Marks l first e (i + 1) (set m code 1)
+    marks-on p = record { long = length-set m code 1 ∙ M .long; is = λ c b. at c b (eqb code c) refl }
+      where
+        at : (c : ℕ) → c < 9 → (t : Bool) → eqb code c ≡ t → isMarked (set m code 1) c || rest c ≡ some? (hasCode c) (span first (e - first) l)
+        at c b true q =
+            ap (λ (n : ℕ). not (eqb n 0) || rest c) (ap (λ (k : ℕ). getD (set m code 1) k 0) (sym (eqb-true code c q)) ∙ getD-set-same m code 1 0 (omega (arith, p, M .long)))
+            ∙ sym (sym (M .is c b) ∙ ap (λ (t : Bool). isMarked m c || t) (step c ∙ ap (λ (t : Bool). t || rest c) q) ∙ or-there (isMarked m c) (rest c))
+        at c b false q =
+            ap (λ (n : ℕ). not (eqb n 0) || rest c) (getD-set-other m code c 1 0 (λ s. eqb-false code c q (sym s)))
+            ∙ beside c b (eqb-false code c q)

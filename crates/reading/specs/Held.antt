@@ -1,7 +1,7 @@
 -- Rows and entries as they stand in the columns, and what is read off them. Definitions only.
 use Prim.Native.Nat.{ℕ, _<_}
 use mathlib.Core.Path.{_≡_}
-use mathlib.Core.Bool.{Bool, true, _&&_, cond}
+use mathlib.Core.Bool.{Bool, true, not, _&&_, cond}
 use mathlib.Core.List.{List, [], _∷_}
 use mathlib.Core.Option.{Option, none, some}
 use lib.Dec.{eqb, ltb}
@@ -98,3 +98,7 @@ isRunning states (origin.Buff b v) = true
 -- an entry's operator has the code
 abbrev pub hasCode : ℕ → List ℕ → Bool
 hasCode code e = eqb (getD e 6 0) code
+
+-- the code has a mark
+abbrev pub isMarked : List ℕ → ℕ → Bool
+isMarked marks code = not (eqb (getD marks code 0) 0)

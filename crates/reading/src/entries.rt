@@ -21,7 +21,7 @@ ghost use Rattle.laws.specs.Lists.{some?, span};
 ghost use Rattle.rules.specs.Codes.{categoryCode, operatorCode};
 ghost use Rattle.rules.specs.Operate.{hasPenalty};
 ghost use Rattle.rules.specs.Columns.{originNumbers, originValue, optionalNumbers};
-ghost use Rattle.reading.specs.Held.{NarrowOrigin, NarrowId, EntryHeld, Sourced, isRunning, hasCode};
+ghost use Rattle.reading.specs.Held.{NarrowOrigin, NarrowId, EntryHeld, Sourced, isRunning, hasCode, isMarked};
 
 // What the code of a category stands for; no other number is met.
 fn category_of(code: u32) -> EffectCategory
@@ -129,6 +129,23 @@ pub fn has_operator(
         i += 1;
     }
     false
+}
+
+// A mark for each operator that an entry from first to end is of, at its code.
+pub fn operators_in(entries: &[[u32; 11]], first: usize, end: usize) -> [u32; 9]
+    requires { ⌜ end ≤ length (now entries) ⌝ }
+    ensures { λ r. ⌜ ((c : ℕ) → c < 9 → isMarked r c ≡ some? (hasCode c) (span first (end - first) (now (entries .entry)))) ⌝ }
+{
+    let mut marks = [0u32; 9];
+    let mut i = first;
+    while i < end {
+        let code = index(entries[i][6]);
+        i += 1;
+        if code < 9 {
+            marks[code] = 1;
+        }
+    }
+    marks
 }
 
 // Whether an operator takes the stacking penalty.
