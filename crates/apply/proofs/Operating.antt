@@ -19,7 +19,8 @@ use Rattle.rules.specs.declared.EffectOperator.{EffectOperator}
 use Rattle.rules.specs.declared.EffectOperator.the-variants.{PreAssign}
 use Rattle.rules.specs.declared.Refusal.{Refusal}
 use Rattle.operate.proofs.PassedOver.{isOf, operate-none}
-use Rattle.reading.specs.Held.{hasCode}
+use Rattle.reading.specs.Held.{hasCode, isMarked}
+use Rattle.reading.proofs.Decodes.{mark-left}
 use Rattle.sources.specs.declared.Run.{Run}
 use Rattle.sources.specs.Planned.{countsOf, plannedFor, plannedBy, Started, Grown}
 use Rattle.sources.proofs.Planning.{counts-long, some-none, operate-gives, leaves-started}
@@ -110,6 +111,15 @@ module _ {t : Tables} {run : Run} {v₀ : List Float} {s₁ : List (List ℕ)} {
     module _ (inside : code < 9) (o : EffectOperator) (of : (p : EffectOperator) → code ≡ operatorCode p → o ≡ p) where
       o-is : o ≡ getD operators code PreAssign
       o-is = of (getD operators code PreAssign) (sym (operators-at code inside))
+
+      code-is : code ≡ operatorCode o
+      code-is = sym (ap operatorCode o-is ∙ operators-at code inside)
+
+      -- no entry has an operator whose code has no mark
+      pub unmarked-none : (marks : List ℕ) {first end : ℕ} → first ≡ getD (getD (t .rows) i []) 2 0 → end ≡ first + getD (getD (t .rows) i []) 3 0
+          → ((c : ℕ) → c < 9 → isMarked marks c ≡ some? (hasCode c) (span first (end - first) (t .entries))) → getD marks code 0 ≡ 0 → some? (isOf o) (row .entries) ≡ false
+      unmarked-none marks {first} {end} a b e n =
+          sym (has-is o a b (e code inside ∙ ap (λ (k : ℕ). some? (hasCode k) (span first (end - first) (t .entries))) code-is)) ∙ mark-left marks code n
 
       next : take (code + 1) operators ≡ take code operators ++ (o ∷ [])
       next = take-operators code inside ∙ ap (λ (p : EffectOperator). take code operators ++ (p ∷ [])) (sym o-is)

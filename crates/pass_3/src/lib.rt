@@ -16,9 +16,9 @@ use item::codes::operator_code;
 use look_ups::get_dogma_attribute;
 use numbers::product;
 use reading::entries::entry_at;
-use reading::entries::has_operator;
 use reading::entries::is_running;
 use reading::entries::operator_of;
+use reading::entries::operators_in;
 use reading::rows::Found;
 use rules::Effect;
 use rules::EffectOperator;
@@ -342,14 +342,16 @@ fn operated(
 {
     let first = rows[row][2] as usize;
     let end = first + rows[row][3] as usize;
+    let marks = operators_in(entries, first, end);
     let mut value = bases[row];
     let mut own: u32 = 0;
     let mut u = used;
     let mut code: u32 = 0;
     while code < 9 {
         let operator = operator_of(code);
+        let mark = marks[code as usize];
         code += 1;
-        if has_operator(entries, first, end, operator) {
+        if mark != 0 {
             let part = gathered(
                 values,
                 sources,

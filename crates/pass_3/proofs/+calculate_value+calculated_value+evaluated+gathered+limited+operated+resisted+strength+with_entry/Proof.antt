@@ -42,9 +42,9 @@ use Rattle.item.proofs.codes.operator_code.Reads as operator-code-reads
 use Rattle.look_ups.proofs.get_dogma_attribute.Reads as get-dogma-attribute-reads
 use Rattle.numbers.proofs.product.Reads as product-reads
 use Rattle.reading.proofs.entries.entry_at.Reads as entry-at-reads
-use Rattle.reading.proofs.entries.has_operator.Reads as has-operator-reads
 use Rattle.reading.proofs.entries.is_running.Reads as is-running-reads
 use Rattle.reading.proofs.entries.operator_of.Reads as operator-of-reads
+use Rattle.reading.proofs.entries.operators_in.Reads as operators-in-reads
 use Rattle.stretches.proofs.find.Reads as find-reads
 use Rattle.stretches.proofs.is_limited.Reads as is-limited-reads
 use Rattle.pass_3.proofs.+calculate_value+calculated_value+evaluated+gathered+limited+operated+resisted+strength+with_entry.{statement}
@@ -1384,308 +1384,338 @@ limited-returns-3 : (t : ℕ) → limited-lts.Need-returns-3 (
 limited-returns-3 t c = λ h. rw (c .held-to .ensures) (limiting.limit-held _ _ _ _ _ _ (c .before .before .before .before .before .before .before .before .before .before .before .before .before .before .before .before .before .args .object) _ (c .before .before .before .before .before .before .before .before .before .before .before .before .before .before .before .before .before .args .least) (c .before .before .before .before .before .before .before .before .before .before .before .before .before .before .before .before .before .args .limit) (c .before .before .before .before .before .before .before .before .before .before .before .before .before .before .before .before .before .args .v) _ (tested-apart {w = w32} (c .before .before .before .before .before .before .before .before .before .before .before .before .before .before .before .before .before .args .limit) (pos 0) (c .before .before .before .before .before .before .before .before .before .before .before .before .before .before .before .before .before .fits .limit) (search needs) (c .before .before .before .before .before .before .before .before .before .before .before .before .if1 .left)) _ _ (c .before .before .before .before .before .before .before .before .before .before .before .before .before .before .before .before .before .pre .1 .1 .1) (rw (toZ-ofZ (c .before .before .before .before .before .before .before .before .before .before .before .before .before .before .before .before .before .fits .limit), c .before .before .got .given .1) at (c .before .before .before .before .before .before .before .before .calculated-value .ensures h)))
 
 abbrev operated-Inv-loop : operated-lts.InvT-loop
-operated-Inv-loop values₀ sources₀ floats₀ book pairs states stretches limits rows bases entries entry-values run row high left used first end value₀ own₀ u₀ code₀ values sources floats value own u code = ((code ≤ 9) × (length values ≡ length values₀) × (length sources ≡ length sources₀) × (length floats ≡ length floats₀)) × ((h : Busy (tables book pairs states stretches limits rows bases entries entry-values) run values₀ sources₀ floats₀ used row 0 operators) → Operating (h .ready .world) (h .ready .sources₀) (h .ready .floats₀) left row (h .ready .mem) code values sources floats value own u)
+operated-Inv-loop values₀ sources₀ floats₀ book pairs states stretches limits rows bases entries entry-values run row high left used first end marks value₀ own₀ u₀ code₀ values sources floats value own u code = ((code ≤ 9) × (length values ≡ length values₀) × (length sources ≡ length sources₀) × (length floats ≡ length floats₀)) × ((h : Busy (tables book pairs states stretches limits rows bases entries entry-values) run values₀ sources₀ floats₀ used row 0 operators) → Operating (h .ready .world) (h .ready .sources₀) (h .ready .floats₀) left row (h .ready .mem) code values sources floats value own u)
 
 abbrev operated-μ-loop : operated-lts.MeasureT-loop
-operated-μ-loop values₀ sources₀ floats₀ book pairs states stretches limits rows bases entries entry-values run row high left used first end value₀ own₀ u₀ code₀ values sources floats value own u code = 9 - code
+operated-μ-loop values₀ sources₀ floats₀ book pairs states stretches limits rows bases entries entry-values run row high left used first end marks value₀ own₀ u₀ code₀ values sources floats value own u code = 9 - code
 
 operated-mul-first : (t : ℕ) → operated-lts.Need-mul-first (
+  operators-in-reads.Asked,
+  operators-in-reads.Learnt,
   operator-of-reads.Asked,
   operator-of-reads.Learnt,
-  has-operator-reads.Asked,
-  has-operator-reads.Learnt,
   gathered-below t,
   gathered.Post,
 ) (operated-at t) operated.Post operated-Inv-loop operated-μ-loop
 operated-mul-first t c = search needs
 
 operated-index-1-first : (t : ℕ) → operated-lts.Need-index-1-first (
+  operators-in-reads.Asked,
+  operators-in-reads.Learnt,
   operator-of-reads.Asked,
   operator-of-reads.Learnt,
-  has-operator-reads.Asked,
-  has-operator-reads.Learnt,
   gathered-below t,
   gathered.Post,
 ) (operated-at t) operated.Post operated-Inv-loop operated-μ-loop
 operated-index-1-first t c = search needs
 
 operated-index-2-first : (t : ℕ) → operated-lts.Need-index-2-first (
+  operators-in-reads.Asked,
+  operators-in-reads.Learnt,
   operator-of-reads.Asked,
   operator-of-reads.Learnt,
-  has-operator-reads.Asked,
-  has-operator-reads.Learnt,
   gathered-below t,
   gathered.Post,
 ) (operated-at t) operated.Post operated-Inv-loop operated-μ-loop
 operated-index-2-first t c = search needs
 
 operated-cast-first : (t : ℕ) → operated-lts.Need-cast-first (
+  operators-in-reads.Asked,
+  operators-in-reads.Learnt,
   operator-of-reads.Asked,
   operator-of-reads.Learnt,
-  has-operator-reads.Asked,
-  has-operator-reads.Learnt,
   gathered-below t,
   gathered.Post,
 ) (operated-at t) operated.Post operated-Inv-loop operated-μ-loop
 operated-cast-first t c = first-fits (c .before .before .before .before .before .pre .1 .0 .ready) (c .before .before .before .before .before .args .row) (c .before .before .before .before .before .pre .1 .0 .within) (c .before .before .before .before .before .good .1 .1 .1 .1 .1 .1 .1 .1 .1 .1 .0 .0)
 
 operated-mul-end : (t : ℕ) → operated-lts.Need-mul-end (
+  operators-in-reads.Asked,
+  operators-in-reads.Learnt,
   operator-of-reads.Asked,
   operator-of-reads.Learnt,
-  has-operator-reads.Asked,
-  has-operator-reads.Learnt,
   gathered-below t,
   gathered.Post,
 ) (operated-at t) operated.Post operated-Inv-loop operated-μ-loop
 operated-mul-end t c = search needs
 
 operated-index-1-end : (t : ℕ) → operated-lts.Need-index-1-end (
+  operators-in-reads.Asked,
+  operators-in-reads.Learnt,
   operator-of-reads.Asked,
   operator-of-reads.Learnt,
-  has-operator-reads.Asked,
-  has-operator-reads.Learnt,
   gathered-below t,
   gathered.Post,
 ) (operated-at t) operated.Post operated-Inv-loop operated-μ-loop
 operated-index-1-end t c = search needs
 
 operated-index-2-end : (t : ℕ) → operated-lts.Need-index-2-end (
+  operators-in-reads.Asked,
+  operators-in-reads.Learnt,
   operator-of-reads.Asked,
   operator-of-reads.Learnt,
-  has-operator-reads.Asked,
-  has-operator-reads.Learnt,
   gathered-below t,
   gathered.Post,
 ) (operated-at t) operated.Post operated-Inv-loop operated-μ-loop
 operated-index-2-end t c = search needs
 
 operated-cast-end : (t : ℕ) → operated-lts.Need-cast-end (
+  operators-in-reads.Asked,
+  operators-in-reads.Learnt,
   operator-of-reads.Asked,
   operator-of-reads.Learnt,
-  has-operator-reads.Asked,
-  has-operator-reads.Learnt,
   gathered-below t,
   gathered.Post,
 ) (operated-at t) operated.Post operated-Inv-loop operated-μ-loop
 operated-cast-end t c = count-fits (c .before .before .before .before .before .before .pre .1 .0 .ready) (c .before .before .before .before .before .before .args .row) (c .before .before .before .before .before .before .pre .1 .0 .within) (c .before .before .before .before .before .before .good .1 .1 .1 .1 .1 .1 .1 .1 .1 .1 .0 .0)
 
 operated-add-end : (t : ℕ) → operated-lts.Need-add-end (
+  operators-in-reads.Asked,
+  operators-in-reads.Learnt,
   operator-of-reads.Asked,
   operator-of-reads.Learnt,
-  has-operator-reads.Asked,
-  has-operator-reads.Learnt,
   gathered-below t,
   gathered.Post,
 ) (operated-at t) operated.Post operated-Inv-loop operated-μ-loop
 operated-add-end t c = end-fits (c .before .before .before .before .before .before .pre .1 .0 .ready) (c .before .before .before .before .before .before .args .row) (c .before .before .before .before .before .before .pre .1 .0 .within) (c .before .before .before .before .before .before .good .1 .1 .1 .1 .1 .1 .1 .1 .1 .1 .0 .0)
 
-operated-mul-value : (t : ℕ) → operated-lts.Need-mul-value (
+operated-operators-in-requires : (t : ℕ) → operated-lts.Need-operators-in-requires (
+  operators-in-reads.Asked,
+  operators-in-reads.Learnt,
   operator-of-reads.Asked,
   operator-of-reads.Learnt,
-  has-operator-reads.Asked,
-  has-operator-reads.Learnt,
+  gathered-below t,
+  gathered.Post,
+) (operated-at t) operated.Post operated-Inv-loop operated-μ-loop
+operated-operators-in-requires t c κs = operating.end-inside (c .before .before .before .before .before .before .pre .1 .0) refl refl
+
+operated-mul-value : (t : ℕ) → operated-lts.Need-mul-value (
+  operators-in-reads.Asked,
+  operators-in-reads.Learnt,
+  operator-of-reads.Asked,
+  operator-of-reads.Learnt,
   gathered-below t,
   gathered.Post,
 ) (operated-at t) operated.Post operated-Inv-loop operated-μ-loop
 operated-mul-value t c = search needs
 
 operated-shared-slice-read-value : (t : ℕ) → operated-lts.Need-shared-slice-read-value (
+  operators-in-reads.Asked,
+  operators-in-reads.Learnt,
   operator-of-reads.Asked,
   operator-of-reads.Learnt,
-  has-operator-reads.Asked,
-  has-operator-reads.Learnt,
   gathered-below t,
   gathered.Post,
 ) (operated-at t) operated.Post operated-Inv-loop operated-μ-loop
 operated-shared-slice-read-value t c = search needs
 
 operated-loop-holds : (t : ℕ) → operated-lts.Need-loop-holds (
+  operators-in-reads.Asked,
+  operators-in-reads.Learnt,
   operator-of-reads.Asked,
   operator-of-reads.Learnt,
-  has-operator-reads.Asked,
-  has-operator-reads.Learnt,
   gathered-below t,
   gathered.Post,
 ) (operated-at t) operated.Post operated-Inv-loop operated-μ-loop
-operated-loop-holds t c = ((omega arith, refl, refl, refl), λ h. operating.operating-starts h (c .before .before .before .before .before .before .before .args .left))
+operated-loop-holds t c = ((omega arith, refl, refl, refl), λ h. operating.operating-starts h (c .before .before .before .before .before .before .before .before .args .left))
 
 operated-operator-of-requires : (t : ℕ) → operated-lts.Need-operator-of-requires (
+  operators-in-reads.Asked,
+  operators-in-reads.Learnt,
   operator-of-reads.Asked,
   operator-of-reads.Learnt,
-  has-operator-reads.Asked,
-  has-operator-reads.Learnt,
   gathered-below t,
   gathered.Post,
 ) (operated-at t) operated.Post operated-Inv-loop operated-μ-loop
 operated-operator-of-requires t c κs = search needs
 
-operated-add-code : (t : ℕ) → operated-lts.Need-add-code (
+operated-cast-mark : (t : ℕ) → operated-lts.Need-cast-mark (
+  operators-in-reads.Asked,
+  operators-in-reads.Learnt,
   operator-of-reads.Asked,
   operator-of-reads.Learnt,
-  has-operator-reads.Asked,
-  has-operator-reads.Learnt,
+  gathered-below t,
+  gathered.Post,
+) (operated-at t) operated.Post operated-Inv-loop operated-μ-loop
+operated-cast-mark t c = search needs
+
+operated-mul-mark : (t : ℕ) → operated-lts.Need-mul-mark (
+  operators-in-reads.Asked,
+  operators-in-reads.Learnt,
+  operator-of-reads.Asked,
+  operator-of-reads.Learnt,
+  gathered-below t,
+  gathered.Post,
+) (operated-at t) operated.Post operated-Inv-loop operated-μ-loop
+operated-mul-mark t c = search needs
+
+operated-array-read-mark : (t : ℕ) → operated-lts.Need-array-read-mark (
+  operators-in-reads.Asked,
+  operators-in-reads.Learnt,
+  operator-of-reads.Asked,
+  operator-of-reads.Learnt,
+  gathered-below t,
+  gathered.Post,
+) (operated-at t) operated.Post operated-Inv-loop operated-μ-loop
+operated-array-read-mark t c = search needs
+
+operated-add-code : (t : ℕ) → operated-lts.Need-add-code (
+  operators-in-reads.Asked,
+  operators-in-reads.Learnt,
+  operator-of-reads.Asked,
+  operator-of-reads.Learnt,
   gathered-below t,
   gathered.Post,
 ) (operated-at t) operated.Post operated-Inv-loop operated-μ-loop
 operated-add-code t c = search needs
 
-operated-has-operator-requires : (t : ℕ) → operated-lts.Need-has-operator-requires (
-  operator-of-reads.Asked,
-  operator-of-reads.Learnt,
-  has-operator-reads.Asked,
-  has-operator-reads.Learnt,
-  gathered-below t,
-  gathered.Post,
-) (operated-at t) operated.Post operated-Inv-loop operated-μ-loop
-operated-has-operator-requires t c κs = operating.end-inside (c .before .before .before .before .before .before .before .before .before .before .pre .1 .0) refl refl
-
 operated-gathered-requires : (t : ℕ) → operated-lts.Need-gathered-requires (
+  operators-in-reads.Asked,
+  operators-in-reads.Learnt,
   operator-of-reads.Asked,
   operator-of-reads.Learnt,
-  has-operator-reads.Asked,
-  has-operator-reads.Learnt,
   gathered-below t,
   gathered.Post,
 ) (operated-at t) operated.Post operated-Inv-loop operated-μ-loop
 operated-gathered-requires t c κs =
-    let O = c .before .before .before .before .before .before .before .loop .inv .1 (c .before .before .before .before .before .before .before .before .before .before .before .before .before .before .before .pre .1 .0) in
-    (omega (arith, c .before .before .before .before .before .before .before .before .before .before .before .before .before .before .before .pre .0, falling.operating-falls (c .before .before .before .before .before .before .before .before .before .before .before .before .before .before .before .pre .1 .0) O), (operating.busy-now (c .before .before .before .before .before .before .before .before .before .before .before .before .before .before .before .pre .1 .0) O (c .before .before .before .before .before .before .loop-test .taken) _ (c .before .before .before .before .before .operator-of .ensures), (O .number, c .before .before .before .before .before .before .before .before .before .before .before .before .before .before .before .pre .1 .1)))
+    let O = c .before .before .before .before .before .before .loop .inv .1 (c .before .before .before .before .before .before .before .before .before .before .before .before .before .before .before .pre .1 .0) in
+    (omega (arith, c .before .before .before .before .before .before .before .before .before .before .before .before .before .before .before .pre .0, falling.operating-falls (c .before .before .before .before .before .before .before .before .before .before .before .before .before .before .before .pre .1 .0) O), (operating.busy-now (c .before .before .before .before .before .before .before .before .before .before .before .before .before .before .before .pre .1 .0) O (c .before .before .before .before .before .loop-test .taken) _ (c .before .before .before .before .operator-of .ensures), (O .number, c .before .before .before .before .before .before .before .before .before .before .before .before .before .before .before .pre .1 .1)))
 
 operated-enum-known-part : (t : ℕ) → operated-lts.Need-enum-known-part (
+  operators-in-reads.Asked,
+  operators-in-reads.Learnt,
   operator-of-reads.Asked,
   operator-of-reads.Learnt,
-  has-operator-reads.Asked,
-  has-operator-reads.Learnt,
   gathered-below t,
   gathered.Post,
 ) (operated-at t) operated.Post operated-Inv-loop operated-μ-loop
 operated-enum-known-part t c = search needs
 
 operated-loop-less : (t : ℕ) → operated-lts.Need-loop-less (
+  operators-in-reads.Asked,
+  operators-in-reads.Learnt,
   operator-of-reads.Asked,
   operator-of-reads.Learnt,
-  has-operator-reads.Asked,
-  has-operator-reads.Learnt,
   gathered-below t,
   gathered.Post,
 ) (operated-at t) operated.Post operated-Inv-loop operated-μ-loop
 operated-loop-less t c = search needs
 
 operated-loop-again : (t : ℕ) → operated-lts.Need-loop-again (
+  operators-in-reads.Asked,
+  operators-in-reads.Learnt,
   operator-of-reads.Asked,
   operator-of-reads.Learnt,
-  has-operator-reads.Asked,
-  has-operator-reads.Learnt,
   gathered-below t,
   gathered.Post,
 ) (operated-at t) operated.Post operated-Inv-loop operated-μ-loop
-operated-loop-again t c = ((omega (arith, c .before .before .before .before .before .before .before .before .before .before .before .before .before .before .loop-test .taken), c .before .before .before .before .before .before .before .gathered .kept .0 ∙ c .before .before .before .before .before .before .before .before .before .before .before .before .before .before .before .loop .inv .0 .1, c .before .before .before .before .before .before .before .gathered .kept .1 .0 ∙ c .before .before .before .before .before .before .before .before .before .before .before .before .before .before .before .loop .inv .0 .2, c .before .before .before .before .before .before .before .gathered .kept .1 .1 .0 ∙ c .before .before .before .before .before .before .before .before .before .before .before .before .before .before .before .loop .inv .0 .3), λ h. operating.operating-next h (c .before .before .before .before .before .before .before .before .before .before .before .before .before .before .before .loop .inv .1 h) (c .before .before .before .before .before .before .before .before .before .before .before .before .before .before .loop-test .taken) _ (c .before .before .before .before .before .before .before .before .before .before .before .before .before .operator-of .ensures) _ _ _ _ _ _ (rw (c .before .part .given .1) at (c .before .before .before .before .before .before .before .gathered .ensures (operating.busy-now h (c .before .before .before .before .before .before .before .before .before .before .before .before .before .before .before .loop .inv .1 h) (c .before .before .before .before .before .before .before .before .before .before .before .before .before .before .loop-test .taken) _ (c .before .before .before .before .before .before .before .before .before .before .before .before .before .operator-of .ensures)))))
+operated-loop-again t c = ((omega (arith, c .before .before .before .before .before .before .before .before .before .before .before .before .before .loop-test .taken), c .before .before .before .before .before .before .before .gathered .kept .0 ∙ c .before .before .before .before .before .before .before .before .before .before .before .before .before .before .loop .inv .0 .1, c .before .before .before .before .before .before .before .gathered .kept .1 .0 ∙ c .before .before .before .before .before .before .before .before .before .before .before .before .before .before .loop .inv .0 .2, c .before .before .before .before .before .before .before .gathered .kept .1 .1 .0 ∙ c .before .before .before .before .before .before .before .before .before .before .before .before .before .before .loop .inv .0 .3), λ h. operating.operating-next h (c .before .before .before .before .before .before .before .before .before .before .before .before .before .before .loop .inv .1 h) (c .before .before .before .before .before .before .before .before .before .before .before .before .before .loop-test .taken) _ (c .before .before .before .before .before .before .before .before .before .before .before .before .operator-of .ensures) _ _ _ _ _ _ (rw (c .before .part .given .1) at (c .before .before .before .before .before .before .before .gathered .ensures (operating.busy-now h (c .before .before .before .before .before .before .before .before .before .before .before .before .before .before .loop .inv .1 h) (c .before .before .before .before .before .before .before .before .before .before .before .before .before .loop-test .taken) _ (c .before .before .before .before .before .before .before .before .before .before .before .before .operator-of .ensures)))))
 
 operated-enum-known-part-2 : (t : ℕ) → operated-lts.Need-enum-known-part-2 (
+  operators-in-reads.Asked,
+  operators-in-reads.Learnt,
   operator-of-reads.Asked,
   operator-of-reads.Learnt,
-  has-operator-reads.Asked,
-  has-operator-reads.Learnt,
   gathered-below t,
   gathered.Post,
 ) (operated-at t) operated.Post operated-Inv-loop operated-μ-loop
 operated-enum-known-part-2 t c = search needs
 
 operated-same-length : (t : ℕ) → operated-lts.Need-same-length (
+  operators-in-reads.Asked,
+  operators-in-reads.Learnt,
   operator-of-reads.Asked,
   operator-of-reads.Learnt,
-  has-operator-reads.Asked,
-  has-operator-reads.Learnt,
   gathered-below t,
   gathered.Post,
 ) (operated-at t) operated.Post operated-Inv-loop operated-μ-loop
-operated-same-length t c = c .before .before .before .before .before .before .before .gathered .kept .0 ∙ c .before .before .before .before .before .before .before .before .before .before .before .before .before .before .before .loop .inv .0 .1
+operated-same-length t c = c .before .before .before .before .before .before .before .gathered .kept .0 ∙ c .before .before .before .before .before .before .before .before .before .before .before .before .before .before .loop .inv .0 .1
 
 operated-same-length-2 : (t : ℕ) → operated-lts.Need-same-length-2 (
+  operators-in-reads.Asked,
+  operators-in-reads.Learnt,
   operator-of-reads.Asked,
   operator-of-reads.Learnt,
-  has-operator-reads.Asked,
-  has-operator-reads.Learnt,
   gathered-below t,
   gathered.Post,
 ) (operated-at t) operated.Post operated-Inv-loop operated-μ-loop
-operated-same-length-2 t c = c .before .before .before .before .before .before .before .gathered .kept .1 .0 ∙ c .before .before .before .before .before .before .before .before .before .before .before .before .before .before .before .loop .inv .0 .2
+operated-same-length-2 t c = c .before .before .before .before .before .before .before .gathered .kept .1 .0 ∙ c .before .before .before .before .before .before .before .before .before .before .before .before .before .before .loop .inv .0 .2
 
 operated-same-length-3 : (t : ℕ) → operated-lts.Need-same-length-3 (
+  operators-in-reads.Asked,
+  operators-in-reads.Learnt,
   operator-of-reads.Asked,
   operator-of-reads.Learnt,
-  has-operator-reads.Asked,
-  has-operator-reads.Learnt,
   gathered-below t,
   gathered.Post,
 ) (operated-at t) operated.Post operated-Inv-loop operated-μ-loop
-operated-same-length-3 t c = c .before .before .before .before .before .before .before .gathered .kept .1 .1 .0 ∙ c .before .before .before .before .before .before .before .before .before .before .before .before .before .before .before .loop .inv .0 .3
+operated-same-length-3 t c = c .before .before .before .before .before .before .before .gathered .kept .1 .1 .0 ∙ c .before .before .before .before .before .before .before .before .before .before .before .before .before .before .loop .inv .0 .3
 
 operated-returns : (t : ℕ) → operated-lts.Need-returns (
+  operators-in-reads.Asked,
+  operators-in-reads.Learnt,
   operator-of-reads.Asked,
   operator-of-reads.Learnt,
-  has-operator-reads.Asked,
-  has-operator-reads.Learnt,
   gathered-below t,
   gathered.Post,
 ) (operated-at t) operated.Post operated-Inv-loop operated-μ-loop
-operated-returns t c = λ h. operating.operating-refused h (c .before .before .before .before .before .before .before .before .before .before .before .before .before .before .before .loop .inv .1 h) (c .before .before .before .before .before .before .before .before .before .before .before .before .before .before .loop-test .taken) _ (c .before .before .before .before .before .before .before .before .before .before .before .before .before .operator-of .ensures) _ _ _ _ (rw (c .before .part2 .given .1) at (c .before .before .before .before .before .before .before .gathered .ensures (operating.busy-now h (c .before .before .before .before .before .before .before .before .before .before .before .before .before .before .before .loop .inv .1 h) (c .before .before .before .before .before .before .before .before .before .before .before .before .before .before .loop-test .taken) _ (c .before .before .before .before .before .before .before .before .before .before .before .before .before .operator-of .ensures))))
+operated-returns t c = λ h. operating.operating-refused h (c .before .before .before .before .before .before .before .before .before .before .before .before .before .before .loop .inv .1 h) (c .before .before .before .before .before .before .before .before .before .before .before .before .before .loop-test .taken) _ (c .before .before .before .before .before .before .before .before .before .before .before .before .operator-of .ensures) _ _ _ _ (rw (c .before .part2 .given .1) at (c .before .before .before .before .before .before .before .gathered .ensures (operating.busy-now h (c .before .before .before .before .before .before .before .before .before .before .before .before .before .before .loop .inv .1 h) (c .before .before .before .before .before .before .before .before .before .before .before .before .before .loop-test .taken) _ (c .before .before .before .before .before .before .before .before .before .before .before .before .operator-of .ensures))))
 
 operated-loop-less-2 : (t : ℕ) → operated-lts.Need-loop-less-2 (
+  operators-in-reads.Asked,
+  operators-in-reads.Learnt,
   operator-of-reads.Asked,
   operator-of-reads.Learnt,
-  has-operator-reads.Asked,
-  has-operator-reads.Learnt,
   gathered-below t,
   gathered.Post,
 ) (operated-at t) operated.Post operated-Inv-loop operated-μ-loop
 operated-loop-less-2 t c = search needs
 
 operated-loop-again-2 : (t : ℕ) → operated-lts.Need-loop-again-2 (
+  operators-in-reads.Asked,
+  operators-in-reads.Learnt,
   operator-of-reads.Asked,
   operator-of-reads.Learnt,
-  has-operator-reads.Asked,
-  has-operator-reads.Learnt,
   gathered-below t,
   gathered.Post,
 ) (operated-at t) operated.Post operated-Inv-loop operated-μ-loop
-operated-loop-again-2 t c = ((omega (arith, c .before .before .before .loop-test .taken), c .before .before .before .before .loop .inv .0 .1, c .before .before .before .before .loop .inv .0 .2, c .before .before .before .before .loop .inv .0 .3), λ h. operating.operating-passed h (c .before .before .before .before .loop .inv .1 h) (c .before .before .before .loop-test .taken) _ (c .before .before .operator-of .ensures) (sym (operating.has-is h (c .before .before .operator-of .result) refl refl (c .before .has-operator .ensures)) ∙ c .if1 .left))
+operated-loop-again-2 t c = ((omega (arith, c .before .before .loop-test .taken), c .before .before .before .loop .inv .0 .1, c .before .before .before .loop .inv .0 .2, c .before .before .before .loop .inv .0 .3), λ h. operating.operating-passed h (c .before .before .before .loop .inv .1 h) (c .before .before .loop-test .taken) _ (c .before .operator-of .ensures) (operating.unmarked-none h (c .before .before .before .loop .inv .1 h) (c .before .before .loop-test .taken) _ (c .before .operator-of .ensures) (c .before .before .before .before .before .operators-in .result) refl refl (c .before .before .before .before .before .operators-in .ensures) (c .if1 .left)))
 
 operated-same-length-4 : (t : ℕ) → operated-lts.Need-same-length-4 (
+  operators-in-reads.Asked,
+  operators-in-reads.Learnt,
   operator-of-reads.Asked,
   operator-of-reads.Learnt,
-  has-operator-reads.Asked,
-  has-operator-reads.Learnt,
   gathered-below t,
   gathered.Post,
 ) (operated-at t) operated.Post operated-Inv-loop operated-μ-loop
 operated-same-length-4 t c = c .before .loop .inv .0 .1
 
 operated-same-length-5 : (t : ℕ) → operated-lts.Need-same-length-5 (
+  operators-in-reads.Asked,
+  operators-in-reads.Learnt,
   operator-of-reads.Asked,
   operator-of-reads.Learnt,
-  has-operator-reads.Asked,
-  has-operator-reads.Learnt,
   gathered-below t,
   gathered.Post,
 ) (operated-at t) operated.Post operated-Inv-loop operated-μ-loop
 operated-same-length-5 t c = c .before .loop .inv .0 .2
 
 operated-same-length-6 : (t : ℕ) → operated-lts.Need-same-length-6 (
+  operators-in-reads.Asked,
+  operators-in-reads.Learnt,
   operator-of-reads.Asked,
   operator-of-reads.Learnt,
-  has-operator-reads.Asked,
-  has-operator-reads.Learnt,
   gathered-below t,
   gathered.Post,
 ) (operated-at t) operated.Post operated-Inv-loop operated-μ-loop
 operated-same-length-6 t c = c .before .loop .inv .0 .3
 
 operated-returns-2 : (t : ℕ) → operated-lts.Need-returns-2 (
+  operators-in-reads.Asked,
+  operators-in-reads.Learnt,
   operator-of-reads.Asked,
   operator-of-reads.Learnt,
-  has-operator-reads.Asked,
-  has-operator-reads.Learnt,
   gathered-below t,
   gathered.Post,
 ) (operated-at t) operated.Post operated-Inv-loop operated-μ-loop
@@ -2934,10 +2964,10 @@ pub +calculate-value+calculated-value+evaluated+gathered+limited+operated+resist
     (limited-same-length-6 t)
     (limited-returns-3 t))
     (λ t. operated-lts.spec (
+      operators-in-reads.Asked,
+      operators-in-reads.Learnt,
       operator-of-reads.Asked,
       operator-of-reads.Learnt,
-      has-operator-reads.Asked,
-      has-operator-reads.Learnt,
       gathered-below t,
       gathered.Post,
     )
@@ -2954,12 +2984,15 @@ pub +calculate-value+calculated-value+evaluated+gathered+limited+operated+resist
     (operated-index-2-end t)
     (operated-cast-end t)
     (operated-add-end t)
+    (operated-operators-in-requires t)
     (operated-mul-value t)
     (operated-shared-slice-read-value t)
     (operated-loop-holds t)
     (operated-operator-of-requires t)
+    (operated-cast-mark t)
+    (operated-mul-mark t)
+    (operated-array-read-mark t)
     (operated-add-code t)
-    (operated-has-operator-requires t)
     (operated-gathered-requires t)
     (operated-enum-known-part t)
     (operated-loop-less t)
