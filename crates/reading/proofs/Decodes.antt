@@ -118,23 +118,6 @@ pub some-of : (op : EffectOperator) (es : List Effect) → some? (hasCode (opera
 some-of op [] = refl
 some-of op (e ∷ es) = rw (past-origin (e .origin) (tail e) 0, some-of op es)
 
--- ---- a scan for a code: what is left of the places first to e decides
-
-module _ (l : List (List ℕ)) (first e code i : ℕ) (inside : e ≤ length l) (left : some? (hasCode code) (span first (e - first) l) ≡ some? (hasCode code) (span i (e - i) l)) where
-  next : i < e → span i (e - i) l ≡ getD l i [] ∷ span (i + 1) (e - (i + 1)) l
-  next h = span-left i e l [] h (omega arith)
-
-  pub code-passed : i < e → (getD (getD l i []) 6 0 ≡ code → ⊥) → some? (hasCode code) (span first (e - first) l) ≡ some? (hasCode code) (span (i + 1) (e - (i + 1)) l)
-  code-passed h n = left ∙ some-on (hasCode code) (next h) (ne-eqb (getD (getD l i []) 6 0) code n)
-
-  module _ {c : ℕ} (is : code ≡ c) where
-    pub code-found : i < e → getD (getD l i []) 6 0 ≡ code → true ≡ some? (hasCode c) (span first (e - first) l)
-    code-found h f =
-        sym (left ∙ some-off (hasCode code) (next h) (eq-eqb (getD (getD l i []) 6 0) code f)) ∙ ap (λ (k : ℕ). some? (hasCode k) (span first (e - first) l)) is
-
-    pub code-missing : e ≤ i → false ≡ some? (hasCode c) (span first (e - first) l)
-    code-missing h = sym (left ∙ some-done (hasCode code) (span-end i e l h)) ∙ ap (λ (k : ℕ). some? (hasCode k) (span first (e - first) l)) is
-
 -- ---- marks at the codes of the places first to i: what is left of the places to e decides the others
 
 pub record Marks (l : List (List ℕ)) (first e i : ℕ) (m : List ℕ) : Type 0 where

@@ -4,7 +4,6 @@ use item::CategoryFound;
 use item::OperatorFound;
 use item::codes::category_at;
 use item::codes::operator_at;
-use item::codes::operator_code;
 use item::states::runs_at;
 use little_endian::index;
 use rules::Effect;
@@ -107,28 +106,6 @@ pub fn is_running(states: &[[u32; 2]; 1024], origin: Origin) -> bool
             value: _,
         } => true,
     }
-}
-
-// Whether an entry from first to end is of an operator.
-pub fn has_operator(
-    entries: &[[u32; 11]],
-    first: usize,
-    end: usize,
-    operator: EffectOperator,
-) -> bool
-    requires { ⌜ end ≤ length (now entries) ⌝ }
-    ensures { λ r. ⌜ r ≡ some? (hasCode (operatorCode operator)) (span first (end - first) (now (entries .entry))) ⌝ }
-{
-    let code = operator_code(operator);
-    let mut i = first;
-    while i < end {
-        let c = entries[i][6];
-        if c == code {
-            return true;
-        }
-        i += 1;
-    }
-    false
 }
 
 // A mark for each operator that an entry from first to end is of, at its code.
