@@ -15,7 +15,7 @@ use mir.Val.{SFits, toZ, ofZ}
 use mir.Facts.{toZ-ofZ}
 use borrow.Author.Tests.{eqb-true, eqb-false, eq-eqb, ne-eqb}
 use Rattle.laws.specs.Lists.{some?, span}
-use Rattle.laws.proofs.Scans.{some-step, some-on, some-off, some-done}
+use Rattle.laws.proofs.Scans.{some-step, some-done}
 use Rattle.laws.proofs.Spans.{span-left, span-end}
 use Rattle.rules.specs.Codes.{categoryAt, categoryCode, operatorAt, operatorCode, sameOperator}
 use Rattle.rules.specs.Item.{runsAt}
