@@ -52,8 +52,8 @@ def wide(modules, attributes=4):
 
 
 def untouched(objects, effects):
-    """So many items, and so many collected effects by a skill that nobody requires."""
-    return fit([[3, 2, 3, 1, 2, NOBODY, 0]] * effects, [], objects, [(i, 1.0) for i in range(1, 9)], range(1, 9))
+    """So many items, and so many collected effects on a group that nobody is of."""
+    return fit([[1, 1, 3, 1, 2, NOBODY, 0]] * effects, [], objects, [(i, 1.0) for i in range(1, 9)], range(1, 9))
 
 
 def entered(modifiers, objects=62):
