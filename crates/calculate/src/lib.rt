@@ -3,7 +3,7 @@ use answers::number_of;
 use answers::place_of;
 use clear::Counts;
 use clear::clear;
-use outcome::filled;
+use run::outcome::filled;
 use rules::Answer;
 use run::Ran;
 ghost use mathlib.Core.Path.{_≡_};
@@ -107,3 +107,4 @@ pub extern "C" fn dogma_calculate(
         sources: counts.sources as u64,
     }
 }
+pub mod answers;

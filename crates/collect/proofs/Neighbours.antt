@@ -12,8 +12,8 @@ use Rattle.info.specs.Sound.{Nth}
 use Rattle.states.proofs.Standing as standing
 use Rattle.info.proofs.Elements.{objects-length}
 use Rattle.rules.specs.Bytes.{countOf}
-use Rattle.standing.proofs.Sheets.{numbered}
-use Rattle.modifiers.specs.Stands.{Stands}
+use Rattle.info.proofs.Sheets.{numbered}
+use Rattle.collect.specs.Stands.{Stands}
 
 module _ (f : Fit) {n : ℕ} where
   pub next-there : {i : ℕ} {t : Bool} (x : Item) → Nth (f .objects) i x → i ≡ suc n → t ≡ isCharge x → t ≡ isCharge (object f (suc n))

@@ -6,9 +6,9 @@ use lib.Ieee.{Float}
 use lib.ListN.{length}
 use Rattle.rules.specs.Collect.{Move}
 use Rattle.rules.specs.Outcome as outcome
-use Rattle.moves.specs.declared.Rooms.{Rooms}
-use Rattle.moves.specs.Ran.{Stand, at, ran, ended}
-use Rattle.moves.proofs.Ends.{ran-ended}
+use Rattle.modifier.specs.declared.moves.Rooms.{Rooms}
+use Rattle.modifier.specs.Ran.{Stand, at, ran, ended}
+use Rattle.modifier.proofs.Ends.{ran-ended}
 
 abbrev roomsBy : ℕ → ℕ → Rooms
 roomsBy room plain = record { collected = room; plain = plain }

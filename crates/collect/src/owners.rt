@@ -1,14 +1,14 @@
 // An object with what of the fit its modifiers go by.
 use super::Hull;
-use categories::categories_of;
-use codes::Owner;
+use item::categories::categories_of;
+use modifier::codes::Owner;
 use info::header::count_of;
 use info::records::object;
 use item::kinds::is_charge;
 use item::kinds::is_item;
-use little_endian::index;
+use info::little_endian::index;
 use rules::Item;
-use standing::char_of;
+use info::standing::char_of;
 use states::is_structure_fit;
 ghost use mathlib.Core.Path.{_≡_};
 ghost use mathlib.Core.Bool.{cond};
@@ -18,8 +18,8 @@ ghost use Rattle.rules.specs.Sheet.{Book, bookOf, fitOf};
 ghost use Rattle.rules.specs.Item as items;
 ghost use Rattle.rules.specs.Item.{isItem, isCharge};
 ghost use Rattle.info.specs.Sound.{HeldFit, SoundFit};
-ghost use Rattle.codes.specs.Tests.{OwnerOf};
-ghost use Rattle.modifiers.specs.Stands.{Stands};
+ghost use Rattle.modifier.specs.Tests.{OwnerOf};
+ghost use Rattle.collect.specs.Stands.{Stands};
 ghost use Rattle.collect.specs.Parts.{HullOf};
 
 pub fn hull_of(book: &[u8], fit: &[u8], pairs: &[[u32; 2]; 10]) -> Hull

@@ -1,5 +1,5 @@
 // What one operator gathers of a row's entries, entry by entry (pass_3.rs).
-use buckets::Bucket;
+use operate::buckets::Bucket;
 use numbers::less;
 use numbers::simplified;
 use operate::Running;
@@ -29,7 +29,7 @@ ghost use Rattle.rules.specs.Columns.{yes1};
 ghost use Rattle.rules.specs.Operate.{Values, hasPenalty};
 ghost use Rattle.rules.specs.Value.{World, Mem, Gathered, ownSources, nothing, withStack};
 ghost use Rattle.rules.specs.Value as values;
-ghost use Rattle.buckets.specs.Held as bucket;
+ghost use Rattle.operate.specs.Held as bucket;
 ghost use Rattle.operate.specs.SoFar.{RunningOf, copiesFrom, withCopies};
 ghost use Rattle.sources.specs.Keeping.{RunOf, Begins, Keeping, moreOf};
 ghost use Rattle.gather.specs.Piles.{PileOf, PiledAs, whole, Eights, entered, enteredCount};

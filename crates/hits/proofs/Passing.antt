@@ -12,7 +12,7 @@ use Rattle.rules.specs.Sheet.{Book, Fit}
 use Rattle.rules.specs.Item.{object}
 use Rattle.hits.specs.declared.Aim.{Aim}
 use Rattle.hits.specs.declared.Test.{Test}
-use Rattle.reach.specs.Reach.{requiredBits, reachOf, Told}
+use Rattle.hits.specs.Reach.{requiredBits, reachOf, Told}
 use Rattle.hits.specs.Who.{asked, passesBy, passes, meets}
 
 module _ (column : ℕ) (x : Test) (r q : List ℕ) where

@@ -1,1 +1,5 @@
+pub mod Reach
 pub mod Who
+pub mod Marks
+pub mod Strikes
+pub mod Steps

@@ -1,8 +1,8 @@
 // Whom the collected effects touch (pass_2.rs, second half): the aims of an effect, and the test of an object.
 use info::records::object;
-use integers::bits;
-use little_endian::index;
-use standing::Spans;
+use numbers::integers::bits;
+use info::little_endian::index;
+use info::standing::Spans;
 ghost use mathlib.Core.Path.{_≡_};
 ghost use mathlib.Core.List.{[]};
 ghost use Prim.Native.Nat.{_<_};
@@ -19,7 +19,7 @@ ghost use Rattle.rules.specs.Dispatch.{meant};
 ghost use Rattle.rules.specs.Columns.{collectedNumbers};
 ghost use Rattle.rules.specs.declared.Pass2Effect.{Pass2Effect};
 ghost use Rattle.info.specs.Sound.{HeldFit, SoundFit};
-ghost use Rattle.standing.specs.Stands.{Stands, Pointing, Narrow};
+ghost use Rattle.info.specs.Stands.{Stands, Pointing, Narrow};
 ghost use Rattle.hits.specs.Who.{passesBy, Aims, atLocation, charItems, bySkill, byOwner, alone, nobody, First, Second};
 
 // What is asked of an object beside its column: nothing, a group, or a required skill, by their bits.
@@ -259,3 +259,7 @@ pub fn is_hit(
         }
     }
 }
+pub mod reach;
+pub mod wanted;
+pub mod counts;
+pub mod places;

@@ -1,7 +1,7 @@
 // The header: ten pairs (count, byte offset), three category numbers, depth and recording. Tables go by their numbers, 1 to 10.
-use little_endian::i32_at;
-use little_endian::index;
-use little_endian::u32_at;
+use super::little_endian::i32_at;
+use super::little_endian::index;
+use super::little_endian::u32_at;
 ghost use mathlib.Core.Path.{_≡_};
 ghost use Prim.Native.Nat.{_+_, _≤_, _<_, _^_};
 ghost use mathlib.Core.List.{[], _∷_};

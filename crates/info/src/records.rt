@@ -1,8 +1,8 @@
 // Records by value. `book` holds tables 1 to 5, `fit` tables 6 to 10.
 use super::header::offset_of;
-use little_endian::f64_at;
-use little_endian::i32_at;
-use little_endian::u32_at;
+use super::little_endian::f64_at;
+use super::little_endian::i32_at;
+use super::little_endian::u32_at;
 use rules::Ask;
 use rules::BaseAttribute;
 use rules::DbuffCollection;

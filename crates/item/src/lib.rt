@@ -22,3 +22,5 @@ pub enum StateFound {
     At(ItemState),
     Nothing,
 }
+pub mod locations;
+pub mod categories;

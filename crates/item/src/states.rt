@@ -3,7 +3,7 @@ use super::CategoryFound;
 use super::StateFound;
 use super::codes::category_at;
 use super::codes::category_code;
-use locations::is_rig;
+use super::locations::is_rig;
 use rules::EffectCategory;
 use rules::Item;
 use rules::ItemState;

@@ -15,9 +15,9 @@ ghost use Rattle.rules.specs.declared.Hundredths.the-variants.{Cut};
 ghost use Rattle.rules.specs.declared.Refusal.{Refusal};
 ghost use Rattle.rules.specs.declared.Answer.the-variants.{Refused};
 ghost use Rattle.listing.specs.Pieces.{longest, longestRefusal, headOf, Prints};
-use hundredths::in_hundredths;
-use integers::bits;
-use integers::signed;
+use numbers::hundredths::in_hundredths;
+use numbers::integers::bits;
+use numbers::integers::signed;
 use rules::Hundredths;
 
 // No line is longer.

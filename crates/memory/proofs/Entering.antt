@@ -23,7 +23,7 @@ use Rattle.rules.specs.declared.Effect.{Effect}
 use Rattle.rules.specs.declared.EffectOperator.{EffectOperator}
 use Rattle.rules.specs.declared.Source.{Source}
 use Rattle.item.proofs.Back.{operator-back}
-use Rattle.buckets.specs.Held.{copy}
+use Rattle.operate.specs.Held.{copy}
 use Rattle.sources.specs.Marks.{Waits, Fresh, empty}
 use Rattle.sources.proofs.Marking.{more-fresh, copy-fresh}
 use Rattle.sources.proofs.Noting.{note-off, note-full, note-on}

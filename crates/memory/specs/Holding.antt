@@ -22,7 +22,7 @@ use Rattle.rules.specs.declared.Effect.{Effect}
 use Rattle.rules.specs.declared.EffectOperator.{EffectOperator}
 use Rattle.info.specs.Sound.{SoundBook}
 use Rattle.reading.specs.Held.{RowsHeld, EntryHeld, Sourced}
-use Rattle.stretches.specs.Stretched.{Stretched, Limits}
+use Rattle.reading.specs.Stretched.{Stretched, Limits}
 use Rattle.sources.specs.declared.Run.{Run}
 use Rattle.sources.specs.Shown.{first32}
 use Rattle.sources.specs.Planned.{countsOf, plannedFor, plannedBy}

@@ -6,3 +6,4 @@ pub fn nothing() -> u32
 {
     0
 }
+pub mod apply;

@@ -13,7 +13,7 @@ use Rattle.rules.specs.declared.Step.{Step}
 use Rattle.rules.specs.declared.Step.the-variants.{Finite, NotFinite}
 use Rattle.rules.specs.declared.EffectOperator.{EffectOperator}
 use Rattle.rules.specs.declared.EffectOperator.the-variants.{PreAssign, PreMul, PreDiv, ModAdd, ModSub, PostMul, PostDiv, PostPercent, PostAssign}
-use Rattle.buckets.specs.Held.{copy}
+use Rattle.operate.specs.Held.{copy}
 use Rattle.operate.specs.declared.Running.{Running}
 
 -- the unpenalised values alone, applied

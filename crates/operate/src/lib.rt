@@ -18,7 +18,7 @@ ghost use Rattle.laws.specs.Floats.{finite};
 ghost use Rattle.rules.specs.Number as N;
 ghost use Rattle.rules.specs.Operate.{Copy, Values, hasPenalty, applied};
 ghost use Rattle.rules.specs.Value.{withStack};
-ghost use Rattle.buckets.specs.Held.{Gathered, bucket};
+ghost use Rattle.operate.specs.Held.{Gathered, bucket};
 ghost use lib.ListN.{length};
 ghost use Rattle.operate.specs.SoFar.{better, chosenOf, addedOne, multipliedOne, plainlyOne, stepOf, RunningOf, copiesFrom};
 
@@ -192,3 +192,4 @@ pub fn put_copies(
     }
     n
 }
+pub mod buckets;

@@ -1,9 +1,9 @@
 // Values: an attribute's value from its base and its entries, with the memory of those already valued (pass_3.rs).
 // `calculate_value` and `calculated_value` call each other; each calculation that starts leaves one row fewer that is not started.
-use apply::Got;
-use apply::Part;
-use apply::apply;
-use apply::held_to;
+use memory::apply::Got;
+use memory::apply::Part;
+use memory::apply::apply;
+use memory::apply::held_to;
 use gather::Growing;
 use gather::Stop;
 use gather::add_entry;
@@ -11,9 +11,9 @@ use gather::counted;
 use gather::empty;
 use gather::grown;
 use gather::stopped;
-use integers::signed;
+use numbers::integers::signed;
 use item::codes::operator_code;
-use look_ups::get_dogma_attribute;
+use info::look_ups::get_dogma_attribute;
 use numbers::product;
 use reading::entries::entry_at;
 use reading::entries::is_running;
@@ -27,8 +27,8 @@ use rules::Origin;
 use rules::Refusal;
 use rules::Step;
 use sources::Run;
-use stretches::find;
-use stretches::is_limited;
+use reading::stretches::find;
+use reading::stretches::is_limited;
 ghost use mathlib.Core.Path.{_≡_};
 ghost use mathlib.Core.Bool.{Bool, cond};
 ghost use mathlib.Core.List.{List, [], _∷_};
@@ -44,7 +44,7 @@ ghost use Rattle.rules.specs.Value as defined;
 ghost use Rattle.memory.specs.Steps.{rowAt, entryAt, strengthOf, evaluation};
 ghost use Rattle.memory.specs.Holding.{tables, highAt, Good, Ready, Busy, Piling, PileMeets};
 ghost use Rattle.gather.specs.Piles.{whole, Eights};
-ghost use Rattle.apply.specs.Answers.{Meets, PartMeets, heldBy};
+ghost use Rattle.memory.specs.Answers.{Meets, PartMeets, heldBy};
 
 // The value of an attribute of an object: its row's, or the default where it has none.
 pub fn calculated_value(

@@ -1,11 +1,11 @@
 // Entries by value, and what is asked of them.
-use integers::signed;
+use numbers::integers::signed;
 use item::CategoryFound;
 use item::OperatorFound;
 use item::codes::category_at;
 use item::codes::operator_at;
 use item::states::runs_at;
-use little_endian::index;
+use info::little_endian::index;
 use rules::Effect;
 use rules::EffectCategory;
 use rules::EffectOperator;

@@ -14,13 +14,13 @@ use Rattle.rules.specs.declared.Refusal.{Refusal}
 use Rattle.info.specs.Sound.{SoundFit}
 use Rattle.info.proofs.Elements.{objects-length}
 use Rattle.states.specs.Raised.{rowsOf}
-use Rattle.lists.specs.Listing.{listsIn, RoomsOf, Lent, CountsOf, AllLaid, ListedAs, RowsWithin}
-use Rattle.lists.specs.declared.Counts as lists
-use Rattle.lists.specs.declared.Rooms as given
-use Rattle.lists.specs.declared.Listed.{Listed}
-use Rattle.lists.specs.declared.Listed.the-variants as listed
-use Rattle.prepared.proofs.Taken.{few-objects}
-use Rattle.walk.specs.declared.Valued.{Valued}
+use Rattle.run.specs.Listing.{listsIn, RoomsOf, Lent, CountsOf, AllLaid, ListedAs, RowsWithin}
+use Rattle.run.specs.declared.lists.Counts as lists
+use Rattle.run.specs.declared.lists.Rooms as given
+use Rattle.run.specs.declared.lists.Listed.{Listed}
+use Rattle.run.specs.declared.lists.Listed.the-variants as listed
+use Rattle.values.proofs.Taken.{few-objects}
+use Rattle.values.specs.declared.walk.Valued.{Valued}
 use Rattle.values.specs.Setting as values
 use Rattle.values.specs.Setting.{SetAs}
 use Rattle.run.specs.Filled.{Columns, lentOf, RanAs, ranBy}

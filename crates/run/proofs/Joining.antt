@@ -14,12 +14,12 @@ use Rattle.rules.specs.Value.{Mem}
 use Rattle.rules.specs.Outcome.{Done, Rooms, worldOf, startsOf, blank, valued, run, collectedIn, rowsIn}
 use Rattle.rules.specs.declared.Refusal.{Refusal}
 use Rattle.states.specs.Raised.{rowsOf}
-use Rattle.lists.specs.Listing.{listsIn, valuedIn, CountsOf, AllLaid}
-use Rattle.lists.specs.declared.Counts as lists
-use Rattle.lists.proofs.Steps.{run-lists}
-use Rattle.whole.proofs.Starts.{valued-grows}
-use Rattle.walk.specs.declared.Valued.{Valued}
-use Rattle.walk.specs.declared.Valued.the-variants as got
+use Rattle.run.specs.Listing.{listsIn, valuedIn, CountsOf, AllLaid}
+use Rattle.run.specs.declared.lists.Counts as lists
+use Rattle.run.proofs.Steps.{run-lists}
+use Rattle.values.proofs.Starts.{valued-grows}
+use Rattle.values.specs.declared.walk.Valued.{Valued}
+use Rattle.values.specs.declared.walk.Valued.the-variants as got
 use Rattle.values.specs.Setting.{SetAs, Set}
 use Rattle.run.specs.Filled.{Columns, Filled, RanAs, ranBy}
 use Rattle.run.specs.declared.Ran.the-variants as ran

@@ -12,9 +12,9 @@ use Rattle.rules.specs.Answer.{Res, ok, refused}
 use Rattle.rules.specs.Columns.{collectedNumbers, rowsNumbers, entryNumbers, originValue, plainNumbers, sourceNumbers, sourceFloats}
 use Rattle.rules.specs.Outcome.{Lent, Done}
 use Rattle.clear.specs.declared.Counts.{Counts}
-use Rattle.lists.specs.declared.Counts as lists
-use Rattle.walk.specs.declared.Valued.{Valued}
-use Rattle.walk.specs.declared.Valued.the-variants as valued
+use Rattle.run.specs.declared.lists.Counts as lists
+use Rattle.values.specs.declared.walk.Valued.{Valued}
+use Rattle.values.specs.declared.walk.Valued.the-variants as valued
 use Rattle.run.specs.declared.Ran.{Ran}
 use Rattle.run.specs.declared.Ran.the-variants as ran
 

@@ -9,7 +9,7 @@ use rules::Refusal;
 use sources::Run;
 use states::correct_states;
 use values::set_values;
-use walk::Valued;
+use values::walk::Valued;
 ghost use mathlib.Core.Path.{_≡_};
 ghost use Prim.Native.Nat.{min};
 ghost use Rattle.rules.specs.Outcome as outcome;
@@ -125,3 +125,5 @@ pub fn fill(
         Listed::Refused(x) => Ran::Refused(x),
     }
 }
+pub mod lists;
+pub mod outcome;

@@ -2,8 +2,8 @@
 // Standard input has the steps that make them, from cases/make_damaged.py, which says how.
 use libc::STDIN_FILENO;
 use libc::STDOUT_FILENO;
-use little_endian::index;
-use little_endian::u32_at;
+use info::little_endian::index;
+use info::little_endian::u32_at;
 use shape::Shaped;
 use shape::shape;
 use std::num::wrapping_add_u32;

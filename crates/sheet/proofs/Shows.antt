@@ -32,8 +32,8 @@ use Rattle.rules.specs.declared.Source.{Source}
 use Rattle.shape.proofs.Shapes.{sound-book, sound-fit}
 use Rattle.shape.specs.Shaped.{shapedOf}
 use Rattle.reading.specs.Held.{noRow}
-use Rattle.prepared.proofs.Sheets.{sound-rows}
-use Rattle.whole.proofs.Starts.{valued-grows}
+use Rattle.values.proofs.Sheets.{sound-rows}
+use Rattle.values.proofs.Starts.{valued-grows}
 use Rattle.promises.specs.Result.{Result, Meets}
 use Rattle.promises.proofs.NoMemoryGoes.{passes, got}
 use Rattle.calculate.proofs.Clearing.{numbers-length}

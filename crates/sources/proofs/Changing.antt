@@ -19,10 +19,10 @@ use Rattle.rules.specs.Number.{weight}
 use Rattle.rules.specs.Operate.{Copy, sorted}
 use Rattle.rules.specs.Value.{World, Mem, ownSources, noSource, withPenalty, withOwn, marked}
 use Rattle.rules.specs.declared.Source.{Source}
-use Rattle.buckets.specs.declared.Bucket.{Bucket}
-use Rattle.buckets.specs.Held.{pairs, held, copy, Gathered}
-use Rattle.buckets.proofs.Inserts.{pairs-length, held-kept}
-use Rattle.buckets.proofs.Weighings.{pairs-at}
+use Rattle.operate.specs.declared.buckets.Bucket.{Bucket}
+use Rattle.operate.specs.Held.{pairs, held, copy, Gathered}
+use Rattle.operate.proofs.Inserts.{pairs-length, held-kept}
+use Rattle.operate.proofs.Weighings.{pairs-at}
 use Rattle.sources.specs.declared.Run.{Run}
 use Rattle.sources.specs.Shown.{filled, shown, placed, firstOf, first32}
 use Rattle.sources.specs.Keeping.{RunOf, Begins, Keeping}

@@ -6,3 +6,7 @@ pub mod Written
 pub mod Marking
 pub mod Changing
 pub mod Planning
+pub mod Counting
+pub mod Numbers
+pub mod Setting
+pub mod Agreeing

@@ -12,7 +12,7 @@ use Rattle.rules.specs.Number.{weight}
 use Rattle.rules.specs.Operate.{Copy, Values, place, sorted}
 use Rattle.rules.specs.Value.{noSource, withPenalty, withCopy, marked}
 use Rattle.rules.specs.declared.Source.{Source}
-use Rattle.buckets.specs.Held.{copy}
+use Rattle.operate.specs.Held.{copy}
 use Rattle.numbers.proofs.Weights.{past}
 use Rattle.sources.specs.Marks.{Waits, Away, nowhere, away, Fresh, empty, fresh}
 

@@ -16,3 +16,4 @@ pub enum Noted {
 pub mod marks;
 pub mod notes;
 pub mod rows;
+pub mod plan;

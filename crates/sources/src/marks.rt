@@ -1,7 +1,7 @@
 // Penalties of source rows: the weight of a copy's position, set when its operator is applied.
 use super::Run;
-use buckets::Bucket;
-use buckets::kept;
+use operate::buckets::Bucket;
+use operate::buckets::kept;
 use numbers::weight;
 ghost use mathlib.Core.Path.{_≡_};
 ghost use mathlib.Core.Bool.{true, false};
@@ -11,7 +11,7 @@ ghost use lib.Ieee.{Float};
 ghost use lib.ListN.{length};
 ghost use Rattle.rules.specs.Operate.{Copy, sorted};
 ghost use Rattle.rules.specs.Value.{World, Mem, ownSources, withOwn, marked};
-ghost use Rattle.buckets.specs.Held.{Gathered};
+ghost use Rattle.operate.specs.Held.{Gathered};
 ghost use Rattle.sources.specs.Keeping.{RunOf, Begins, Keeping};
 ghost use Rattle.sources.specs.Marks.{Fresh, penaltyAt};
 

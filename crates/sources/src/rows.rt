@@ -1,8 +1,8 @@
 // A source row by value, and its numbers.
 use super::Run;
-use integers::bits;
-use integers::flag;
-use integers::optional_numbers;
+use numbers::integers::bits;
+use numbers::integers::flag;
+use numbers::integers::optional_numbers;
 use item::codes::operator_code;
 use rules::Effect;
 use rules::OptionalId;

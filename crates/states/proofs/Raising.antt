@@ -17,10 +17,10 @@ use Rattle.rules.specs.Item.{mutated, effectsOf}
 use Rattle.rules.specs.declared.Item.{Item}
 use Rattle.rules.specs.declared.TypeDogmaEffect.{TypeDogmaEffect}
 use Rattle.rules.specs.declared.DogmaEffect.{DogmaEffect}
-use Rattle.look_ups.specs.LookUps.{effectFound, Stretch}
+use Rattle.info.specs.LookUps.{effectFound, Stretch}
 use lib.IntN.{ℤ}
-use Rattle.look_ups.specs.declared.FoundEffect.{FoundEffect}
-use Rattle.look_ups.specs.declared.FoundEffect.the-variants as effect
+use Rattle.info.specs.declared.look_ups.FoundEffect.{FoundEffect}
+use Rattle.info.specs.declared.look_ups.FoundEffect.the-variants as effect
 use mir.Syntax.{w32}
 use mir.Val.{SFits, toZ, ofZ}
 use mir.ValLaws.{toZ-ofZ}

@@ -1,5 +1,5 @@
 // States and max states after collection (Item::collect_effects, PassTwo::pass).
-use categories::categories_of;
+use item::categories::categories_of;
 use info::header::count_of;
 use info::records::object;
 use info::records::type_effect;
@@ -8,16 +8,16 @@ use item::kinds::is_item;
 use item::kinds::is_projected;
 use item::kinds::mutated;
 use item::states::reach_of;
-use little_endian::index;
-use locations::Categories;
-use locations::is_on_char;
-use locations::is_passed;
-use locations::is_subsystem;
-use look_ups::FoundBase;
-use look_ups::FoundEffect;
-use look_ups::get_base;
-use look_ups::get_dogma_effect;
-use look_ups::get_dogma_effects;
+use info::little_endian::index;
+use item::locations::Categories;
+use item::locations::is_on_char;
+use item::locations::is_passed;
+use item::locations::is_subsystem;
+use info::look_ups::FoundBase;
+use info::look_ups::FoundEffect;
+use info::look_ups::get_base;
+use info::look_ups::get_dogma_effect;
+use info::look_ups::get_dogma_effects;
 use rules::ATTRIBUTE_CAPACITOR_NEED_ID;
 use rules::CATEGORY_STRUCTURE;
 use rules::Item;
@@ -31,7 +31,7 @@ ghost use Rattle.rules.specs.Sheet.{Book, Fit, bookOf, fitOf};
 ghost use Rattle.rules.specs.Item.{isItem, isCharge, itemOf, passed, structureFit};
 ghost use Rattle.rules.specs.States.{collectedStates, statesOf};
 ghost use Rattle.info.specs.Sound.{HeldBook, HeldFit, SoundBook, SoundFit};
-ghost use Rattle.locations.specs.Categories.{CategoriesOf};
+ghost use Rattle.item.specs.Categories.{CategoriesOf};
 ghost use Rattle.states.specs.Raised.{among, both, reachOn, raisedBy, reachedOf, ableOf, ObjectOf, rowsOf};
 
 // The higher and the lower of two states.

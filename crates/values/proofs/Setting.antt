@@ -21,30 +21,30 @@ use Rattle.rules.specs.Sheet.{Book, Fit, bookOf, fitOf}
 use Rattle.rules.specs.Value.{World, Mem}
 use Rattle.info.specs.Sound.{SoundBook, SoundFit}
 use Rattle.rules.proofs.Verdicts.{objects-good}
-use Rattle.standing.proofs.Sheets.{numbered}
+use Rattle.info.proofs.Sheets.{numbered}
 use Rattle.reading.specs.Held.{RowsHeld}
-use Rattle.stretches.specs.Stretched.{Stretched, Limits}
-use Rattle.turns.specs.declared.Turns.{Turns}
-use Rattle.turns.specs.Order.{owned, rowsBelow, projectedEnd}
-use Rattle.turns.proofs.Owners.{rows-owned}
-use Rattle.turns.proofs.Walks.{objects-climb, turns-are}
+use Rattle.reading.specs.Stretched.{Stretched, Limits}
+use Rattle.reading.specs.declared.turns.Turns.{Turns}
+use Rattle.reading.specs.Order.{owned, rowsBelow, projectedEnd}
+use Rattle.reading.proofs.Owners.{rows-owned}
+use Rattle.reading.proofs.Walks.{objects-climb, turns-are}
 use Rattle.sources.specs.declared.Run.{Run}
 use Rattle.sources.specs.Keeping.{RunOf}
 use Rattle.sources.specs.Planned.{countsOf}
-use Rattle.plan.specs.Rows.{countsBy, plannedNumbers, Dispatched, Planning}
-use Rattle.plan.proofs.Agreeing.{planned-front}
-use Rattle.plan.proofs.Numbers.{planned-long, planned-held, dispatched-long}
+use Rattle.sources.specs.Rows.{countsBy, plannedNumbers, Dispatched, Planning}
+use Rattle.sources.proofs.Agreeing.{planned-front}
+use Rattle.sources.proofs.Numbers.{planned-long, planned-held, dispatched-long}
 use Rattle.memory.specs.Holding.{tables, Holds, Told}
-use Rattle.whole.specs.Complete.{AllAsked, Ended}
-use Rattle.whole.proofs.Asked.{walk-asks}
-use Rattle.whole.proofs.Ends.{all-ended}
-use Rattle.prepared.proofs.Blank.{held-at-first}
-use Rattle.prepared.proofs.Planning.{dispatched, planned-off, planned-on}
-use Rattle.prepared.proofs.Sheets.{sound-rows}
-use Rattle.prepared.proofs.Told.{told}
-use Rattle.walk.specs.declared.Valued.{Valued}
-use Rattle.walk.specs.declared.Valued.the-variants as answer
-use Rattle.walk.specs.Starting.{Walkable, ValuedAs}
+use Rattle.values.specs.Complete.{AllAsked, Ended}
+use Rattle.values.proofs.Asked.{walk-asks}
+use Rattle.values.proofs.Ends.{all-ended}
+use Rattle.values.proofs.PreparedBlankLaws.{held-at-first}
+use Rattle.values.proofs.Planning.{dispatched, planned-off, planned-on}
+use Rattle.values.proofs.Sheets.{sound-rows}
+use Rattle.values.proofs.Told.{told}
+use Rattle.values.specs.declared.walk.Valued.{Valued}
+use Rattle.values.specs.declared.walk.Valued.the-variants as answer
+use Rattle.values.specs.Starting.{Walkable, ValuedAs}
 use Rattle.values.specs.Setting.{plannedRows, Listed, Set, SetAs}
 
 -- where nothing is recorded the rows stay, and where it is they are planned

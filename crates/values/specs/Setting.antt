@@ -16,12 +16,12 @@ use Rattle.rules.specs.Outcome.{rowsIn}
 use Rattle.rules.specs.Sheet.{Book, Fit}
 use Rattle.rules.specs.Value.{Mem}
 use Rattle.states.specs.Raised.{rowsOf}
-use Rattle.object_lists.specs.Parts.{ListsLaid}
+use Rattle.rows.specs.Parts.{ListsLaid}
 use Rattle.sources.specs.declared.Run.{Run}
-use Rattle.plan.specs.Rows.{countsBy, plannedNumbers}
-use Rattle.whole.specs.Complete.{allSources}
-use Rattle.walk.specs.declared.Valued.{Valued}
-use Rattle.walk.specs.declared.Valued.the-variants as valued
+use Rattle.sources.specs.Rows.{countsBy, plannedNumbers}
+use Rattle.values.specs.Complete.{allSources}
+use Rattle.values.specs.declared.walk.Valued.{Valued}
+use Rattle.values.specs.declared.walk.Valued.the-variants as valued
 
 -- the column r after planning, by whether source rows are recorded
 abbrev pub plannedRows : Bool → ℕ → List Row → List (List ℕ) → List (List ℕ) → List (List ℕ)

@@ -1,9 +1,9 @@
 // The values and the source rows of a sound sheet, once lists 1 to 4 are made (pass_3.rs).
 use blank::unstarted;
-use plan::set_sources;
+use sources::plan::set_sources;
 use sources::Run;
-use stretches::set_limits;
-use stretches::set_stretches;
+use reading::stretches::set_limits;
+use reading::stretches::set_stretches;
 use walk::Valued;
 use walk::calculate_values;
 ghost use mathlib.Core.Path.{_≡_};
@@ -14,7 +14,7 @@ ghost use Rattle.rules.specs.Sheet.{bookOf, fitOf};
 ghost use Rattle.rules.specs.Dispatch.{Row};
 ghost use Rattle.rules.specs.Outcome.{blank, rowsIn, startsOf, valued, worldOf};
 ghost use Rattle.info.specs.Sound.{SoundBook, SoundFit};
-ghost use Rattle.plan.specs.Rows.{Dispatched, Planning};
+ghost use Rattle.sources.specs.Rows.{Dispatched, Planning};
 ghost use Rattle.values.specs.Setting.{plannedRows, Listed, SetAs};
 
 // Where source rows are recorded, first and count in list 5 of the first n rows.
@@ -78,3 +78,5 @@ pub fn set_values(
         fit,
     )
 }
+pub mod blank;
+pub mod walk;

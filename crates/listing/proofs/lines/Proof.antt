@@ -5,7 +5,7 @@ use Rattle.listing.proofs.lines.Tie as tie
 use Rattle.listing.proofs.lines.Reads as reads
 use Rattle.listing.proofs.lines.Lts as lts
 use Rattle.listing.proofs.line.Reads as line-reads
-use Rattle.integers.proofs.signed.Reads as signed-reads
+use Rattle.numbers.proofs.integers.signed.Reads as signed-reads
 use borrow.Author.Needs.{needs}
 use native.Mathlib.Omega.{arith}
 use Prim.Native.Nat.{_-_}

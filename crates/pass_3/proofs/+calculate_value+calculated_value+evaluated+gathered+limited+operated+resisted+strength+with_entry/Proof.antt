@@ -30,23 +30,23 @@ use Rattle.pass_3.proofs.+calculate_value+calculated_value+evaluated+ga
 use Rattle.pass_3.proofs.with_entry.Reads as with-entry
 use Rattle.pass_3.proofs.with_entry.Kinds as with-entry-kinds
 use Rattle.pass_3.proofs.+calculate_value+calculated_value+evaluated+gathered+limited+operated+resisted+strength+with_entry.Lts-with_entry as with-entry-lts
-use Rattle.apply.proofs.apply.Reads as apply-reads
-use Rattle.apply.proofs.held_to.Reads as held-to-reads
+use Rattle.memory.proofs.apply.apply.Reads as apply-reads
+use Rattle.memory.proofs.apply.held_to.Reads as held-to-reads
 use Rattle.gather.proofs.add_entry.Reads as add-entry-reads
 use Rattle.gather.proofs.counted.Reads as counted-reads
 use Rattle.gather.proofs.empty.Reads as empty-reads
 use Rattle.gather.proofs.grown.Reads as grown-reads
 use Rattle.gather.proofs.stopped.Reads as stopped-reads
-use Rattle.integers.proofs.signed.Reads as signed-reads
+use Rattle.numbers.proofs.integers.signed.Reads as signed-reads
 use Rattle.item.proofs.codes.operator_code.Reads as operator-code-reads
-use Rattle.look_ups.proofs.get_dogma_attribute.Reads as get-dogma-attribute-reads
+use Rattle.info.proofs.look_ups.get_dogma_attribute.Reads as get-dogma-attribute-reads
 use Rattle.numbers.proofs.product.Reads as product-reads
 use Rattle.reading.proofs.entries.entry_at.Reads as entry-at-reads
 use Rattle.reading.proofs.entries.is_running.Reads as is-running-reads
 use Rattle.reading.proofs.entries.operator_of.Reads as operator-of-reads
 use Rattle.reading.proofs.entries.operators_in.Reads as operators-in-reads
-use Rattle.stretches.proofs.find.Reads as find-reads
-use Rattle.stretches.proofs.is_limited.Reads as is-limited-reads
+use Rattle.reading.proofs.stretches.find.Reads as find-reads
+use Rattle.reading.proofs.stretches.is_limited.Reads as is-limited-reads
 use Rattle.pass_3.proofs.+calculate_value+calculated_value+evaluated+gathered+limited+operated+resisted+strength+with_entry.{statement}
 use Rattle.pass_3.proofs.+calculate_value+calculated_value+evaluated+gathered+limited+operated+resisted+strength+with_entry.Tie.{close}
 use borrow.Author.Needs.{needs}
@@ -65,25 +65,25 @@ use Rattle.memory.specs.Steps.{rowAt}
 use Rattle.memory.specs.Holding.{tables, Busy}
 use mir.Facts.{toZ-ofZ}
 use Rattle.rules.specs.declared.DogmaAttribute.{DogmaAttribute}
-use Rattle.apply.proofs.Holdings.{value-long, ready-on, sources-long, floats-long}
+use Rattle.memory.proofs.Holdings.{value-long, ready-on, sources-long, floats-long}
 use borrow.Author.Needs.{sfits-of, scaled-fits}
 use mathlib.Core.Bool.{Bool, true, false, not, _||_}
 use mir.Syntax.{w32}
 use mir.Val.{toZ, ofZ}
 use lib.IntN.{ℤ, pos}
 use Rattle.laws.proofs.Bools.{not-not, or-false-left, or-false-right}
-use Rattle.apply.proofs.Holdings.{goes-on-from, number-of}
-use Rattle.apply.proofs.Fitting.{fits-below, row-inside, first-and-count, first-fits, count-fits, end-fits}
-use Rattle.apply.proofs.Evaluating as evaluating
-use Rattle.apply.proofs.Starts as starting
-use Rattle.apply.proofs.Finding as finding
-use Rattle.apply.proofs.Limiting as limiting
-use Rattle.apply.proofs.Taking as taking
-use Rattle.apply.proofs.Gathering as gathering
-use Rattle.apply.proofs.Operating as operating
-use Rattle.apply.proofs.Falling as falling
-use Rattle.apply.proofs.Gathering.{Gathering}
-use Rattle.apply.proofs.Operating.{Operating}
+use Rattle.memory.proofs.Holdings.{goes-on-from, number-of}
+use Rattle.memory.proofs.Fitting.{fits-below, row-inside, first-and-count, first-fits, count-fits, end-fits}
+use Rattle.memory.proofs.Evaluating as evaluating
+use Rattle.memory.proofs.Starts as starting
+use Rattle.memory.proofs.Finding as finding
+use Rattle.memory.proofs.Limiting as limiting
+use Rattle.memory.proofs.Taking as taking
+use Rattle.memory.proofs.Gathering as gathering
+use Rattle.memory.proofs.Operating as operating
+use Rattle.memory.proofs.Falling as falling
+use Rattle.memory.proofs.Gathering.{Gathering}
+use Rattle.memory.proofs.Operating.{Operating}
 use Rattle.gather.specs.Piles.{whole, Eights}
 
 abbrev μ-calculate-value : Measures 12 calculate-value-kinds.ps ℕ

@@ -5,8 +5,8 @@ use Rattle.collect.proofs.objects.collect.Statement.{statement}
 use Rattle.collect.proofs.objects.collect.Tie as tie
 use mathlib.Core.Path.{sym, _∙_}
 use Rattle.rules.specs.Sheet.{bookOf, fitOf}
-use Rattle.moves.proofs.Runs.{answered, was-refused, ran-same}
-use Rattle.effects.proofs.Turns.{in-turn, stopped-first, all-lent-kept}
+use Rattle.modifier.proofs.Runs.{answered, was-refused, ran-same}
+use Rattle.collect.proofs.Turns.{in-turn, stopped-first, all-lent-kept}
 use Rattle.collect.proofs.Phases.{in-phases}
 use Rattle.collect.proofs.Whole.{whole}
 

@@ -10,7 +10,7 @@ use Rattle.laws.proofs.Bools.{not-not}
 use Rattle.rules.specs.Sheet.{bookOf, fitOf}
 use Rattle.rules.specs.Collect.{ownMoves, projectedMoves}
 use Rattle.info.proofs.Elements.{objects-length}
-use Rattle.moves.proofs.Runs.{ran-none, ran-same}
+use Rattle.modifier.proofs.Runs.{ran-none, ran-same}
 use Rattle.collect.proofs.Phases.{out-of, over, projected, owned}
 
 pub collect-object-spec : {M : Type 1} → statement M

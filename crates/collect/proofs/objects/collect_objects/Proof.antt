@@ -9,11 +9,11 @@ use mathlib.Core.Path.{_≡_, refl, sym, _∙_}
 use lib.ListN.{length}
 use Rattle.rules.specs.Sheet.{bookOf, fitOf}
 use Rattle.info.proofs.Elements.{objects-length}
-use Rattle.moves.specs.Ran.{at}
-use Rattle.moves.proofs.Runs.{answered, was-refused, ran-same}
-use Rattle.moves.proofs.Loops.{Left, begin, next, refused-on, at-end, all-of}
+use Rattle.modifier.specs.Ran.{at}
+use Rattle.modifier.proofs.Runs.{answered, was-refused, ran-same}
+use Rattle.modifier.proofs.Loops.{Left, begin, next, refused-on, at-end, all-of}
 use Rattle.collect.specs.Parts.{objectMoves}
-use Rattle.effects.proofs.Turns.{all-lent-kept}
+use Rattle.collect.proofs.Turns.{all-lent-kept}
 use Rattle.collect.proofs.Neighbours.{stands-at}
 use Rattle.collect.proofs.Phases.{phase-objects}
 

@@ -4,8 +4,8 @@ use borrow.Author.Needs.{needs}
 use Rattle.collect.proofs.objects.collect_rest.Statement.{statement}
 use Rattle.collect.proofs.objects.collect_rest.Tie as tie
 use mathlib.Core.Path.{refl, sym, _∙_}
-use Rattle.moves.proofs.Runs.{answered, was-refused}
-use Rattle.effects.proofs.Turns.{in-turn, stopped-first, all-lent-kept}
+use Rattle.modifier.proofs.Runs.{answered, was-refused}
+use Rattle.collect.proofs.Turns.{in-turn, stopped-first, all-lent-kept}
 
 pub collect-rest-spec : {M : Type 1} → statement M
 collect-rest-spec =

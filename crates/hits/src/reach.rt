@@ -1,0 +1,147 @@
+// What of the objects decides who is touched: two tables, a row for each object, read once.
+use item::categories::categories_of;
+use info::header::count_of;
+use info::records::base_attribute;
+use info::records::object;
+use numbers::integers::bits;
+use numbers::integers::cut;
+use numbers::integers::flag;
+use info::little_endian::index;
+use item::locations::Categories;
+use item::locations::is_in_ship;
+use item::locations::is_on_char;
+use item::locations::is_owner_modifiable;
+use rules::CHAR;
+use rules::CHARGE;
+use rules::ITEM;
+use rules::Item;
+use rules::SHIP;
+use rules::SKILL;
+ghost use mathlib.Core.Path.{_≡_};
+ghost use Prim.Native.Nat.{_<_};
+ghost use lib.ListN.{length};
+ghost use Rattle.rules.specs.Bytes.{countOf};
+ghost use Rattle.rules.specs.Sheet.{Book, Fit, bookOf, fitOf};
+ghost use Rattle.rules.specs.Item as items;
+ghost use Rattle.rules.specs.Dispatch.{carrier};
+ghost use Rattle.info.specs.Sound.{HeldBook, SoundFit};
+ghost use Rattle.item.specs.Categories.{CategoriesOf};
+ghost use Rattle.hits.specs.Reach.{slotOf, requiredBits, reachOf, Told};
+
+// The item that an item or a charge goes by: a charge's stands before it.
+fn carrier_of(fit: &[u8], pairs: &[[u32; 2]; 10], i: usize) -> Item
+    requires { ⌜ SoundFit (now fit) (now pairs) ⌝ }
+    requires { ⌜ i < countOf (now pairs) 6 ⌝ }
+    ensures { λ r. ⌜ r ≡ carrier (fitOf (now (fit .entry)) (now (pairs .entry))) (items.object (fitOf (now (fit .entry)) (now (pairs .entry))) i) ⌝ }
+{
+    let o = object(fit, pairs, i);
+    if o.kind == CHARGE {
+        return object(fit, pairs, i - 1);
+    }
+    o
+}
+
+// The columns of an object, which goes by c.
+fn columns(categories: Categories, o: Item, c: Item) -> [u32; 8]
+    ensures { λ r. ⌜ ((k : Book) (f : Fit) → CategoriesOf k categories → c ≡ carrier f o → r ≡ reachOf k f o) ⌝ }
+{
+    let fitted = (o.kind == ITEM) | (o.kind == CHARGE);
+    let in_ship = fitted & is_in_ship(categories, c);
+    let on_char = fitted & is_on_char(c);
+    let char_item = (o.kind == ITEM) & is_on_char(o);
+    let owned = (o.kind == CHARGE) | (o.kind == ITEM) & is_owner_modifiable(o);
+    [
+        flag((o.kind == SHIP) | in_ship),
+        flag((o.kind == CHAR) | (o.kind == SKILL)),
+        flag(char_item),
+        flag(in_ship),
+        flag(on_char),
+        flag(owned),
+        1,
+        bits(o.group_id),
+    ]
+}
+
+pub fn reach_of(book: &[u8], fit: &[u8], pairs: &[[u32; 2]; 10], i: usize) -> [u32; 8]
+    requires { ⌜ HeldBook (now book) (now pairs) ⌝ }
+    requires { ⌜ SoundFit (now fit) (now pairs) ⌝ }
+    requires { ⌜ i < countOf (now pairs) 6 ⌝ }
+    ensures { λ r. ⌜ r ≡ reachOf (bookOf (now (book .entry)) (now (pairs .entry))) (fitOf (now (fit .entry)) (now (pairs .entry))) (items.object (fitOf (now (fit .entry)) (now (pairs .entry))) i) ⌝ }
+{
+    let categories = categories_of(book);
+    let o = object(fit, pairs, i);
+    let c = carrier_of(fit, pairs, i);
+    columns(categories, o, c)
+}
+
+// No skill: above every 32 bits.
+const NO_SKILL: u64 = 4294967296;
+
+// The place in a row of the skill that an attribute names: past it for any other attribute.
+fn slot_of(id: i32) -> usize
+    ensures { λ r. ⌜ r ≡ slotOf id ⌝ }
+{
+    match id {
+        182 => 0,
+        183 => 1,
+        184 => 2,
+        1285 => 3,
+        1289 => 4,
+        1290 => 5,
+        _ => 6,
+    }
+}
+
+// The skills that object i requires, fixed from base values.
+pub fn required_skills(fit: &[u8], pairs: &[[u32; 2]; 10], i: usize) -> [u64; 6]
+    requires { ⌜ SoundFit (now fit) (now pairs) ⌝ }
+    requires { ⌜ i < countOf (now pairs) 6 ⌝ }
+    ensures { λ r. ⌜ r ≡ requiredBits (fitOf (now (fit .entry)) (now (pairs .entry))) (items.object (fitOf (now (fit .entry)) (now (pairs .entry))) i) ⌝ }
+{
+    let o = object(fit, pairs, i);
+    let first = index(o.first_attribute);
+    let n = index(o.attributes);
+    let mut row = [NO_SKILL; 6];
+    let mut k = 0;
+    while k < n {
+        let b = base_attribute(fit, pairs, first + k);
+        let slot = slot_of(b.attribute_id);
+        k += 1;
+        if slot < 6 {
+            let skill = bits(cut(b.value));
+            row[slot] = skill as u64;
+        }
+    }
+    row
+}
+
+// The required skills of all objects, into a table that is lent.
+pub fn skill_table(rows: &mut [[u64; 6]; 1024], fit: &[u8], pairs: &[[u32; 2]; 10])
+    requires { ⌜ SoundFit (now fit) (now pairs) ⌝ }
+    requires { ⌜ length (now rows) ≡ 1024 ⌝ }
+    ensures { λ _. ⌜ Told (requiredBits (fitOf (now (fit .entry)) (now (pairs .entry)))) (fitOf (now (fit .entry)) (now (pairs .entry))) (now (rows .exit)) ⌝ }
+{
+    let objects = count_of(pairs, 6);
+    let mut i = 0;
+    while i < objects {
+        let row = required_skills(fit, pairs, i);
+        rows[i] = row;
+        i += 1;
+    }
+}
+
+// The columns of all objects, into a table that is lent.
+pub fn reach_table(rows: &mut [[u32; 8]; 1024], book: &[u8], fit: &[u8], pairs: &[[u32; 2]; 10])
+    requires { ⌜ HeldBook (now book) (now pairs) ⌝ }
+    requires { ⌜ SoundFit (now fit) (now pairs) ⌝ }
+    requires { ⌜ length (now rows) ≡ 1024 ⌝ }
+    ensures { λ _. ⌜ Told (reachOf (bookOf (now (book .entry)) (now (pairs .entry))) (fitOf (now (fit .entry)) (now (pairs .entry)))) (fitOf (now (fit .entry)) (now (pairs .entry))) (now (rows .exit)) ⌝ }
+{
+    let objects = count_of(pairs, 6);
+    let mut i = 0;
+    while i < objects {
+        let row = reach_of(book, fit, pairs, i);
+        rows[i] = row;
+        i += 1;
+    }
+}

@@ -1,0 +1,66 @@
+// Where the objects of a sound sheet stand.
+use super::header::count_of;
+use super::records::object;
+use rules::CHAR;
+use rules::SKILL;
+ghost use mathlib.Core.Path.{_≡_};
+ghost use Prim.Native.Nat.{_≤_};
+ghost use Rattle.rules.specs.Bytes.{countOf};
+ghost use Rattle.rules.specs.Sheet.{fitOf};
+ghost use Rattle.rules.specs.Item.{charOf};
+ghost use Rattle.info.specs.Sound.{HeldFit, SoundFit};
+ghost use Rattle.info.specs.Stands.{FirstSkill, Stands};
+
+// Where objects stand: the char, the items and charges from first to end, all objects.
+pub struct Spans {
+    pub character: u32,
+    pub first: usize,
+    pub end: usize,
+    pub objects: usize,
+}
+
+// The char's number: it stands right after the ship or its mode.
+pub fn char_of(fit: &[u8], pairs: &[[u32; 2]; 10]) -> u32
+    requires { ⌜ SoundFit (now fit) (now pairs) ⌝ }
+    ensures { λ r. ⌜ r ≡ charOf (fitOf (now (fit .entry)) (now (pairs .entry))) ⌝ }
+{
+    let next = object(fit, pairs, 1);
+    if next.kind == CHAR {
+        return 1;
+    }
+    2
+}
+
+// The first skill from one object on: skills stand last.
+fn first_skill(fit: &[u8], pairs: &[[u32; 2]; 10], from: usize) -> usize
+    requires { ⌜ HeldFit (now fit) (now pairs) ⌝ }
+    requires { ⌜ from ≤ countOf (now pairs) 6 ⌝ }
+    ensures { λ r. ⌜ FirstSkill (fitOf (now (fit .entry)) (now (pairs .entry))) from r ⌝ }
+{
+    let objects = count_of(pairs, 6);
+    let mut i = from;
+    while i < objects {
+        let o = object(fit, pairs, i);
+        if o.kind == SKILL {
+            return i;
+        }
+        i += 1;
+    }
+    i
+}
+
+pub fn spans_of(fit: &[u8], pairs: &[[u32; 2]; 10]) -> Spans
+    requires { ⌜ SoundFit (now fit) (now pairs) ⌝ }
+    ensures { λ r. ⌜ Stands (fitOf (now (fit .entry)) (now (pairs .entry))) r ⌝ }
+{
+    let character = char_of(fit, pairs);
+    let first = character as usize + 1;
+    let end = first_skill(fit, pairs, first);
+    let objects = count_of(pairs, 6);
+    Spans {
+        character,
+        first,
+        end,
+        objects,
+    }
+}

@@ -1,0 +1,51 @@
+-- What the answers of the calculation say. Definitions only.
+use Prim.Native.Nat.{ℕ}
+use mathlib.Core.Path.{_≡_}
+use mathlib.Core.Bool.{Bool, true, false}
+use mathlib.Core.List.{List}
+use lib.Dec.{T}
+use lib.Ieee.{Float}
+use lib.ListN.{length}
+use Rattle.laws.specs.Floats.{finite}
+use Rattle.rules.specs.Answer.{Res, ok, refused, _>>=_}
+use Rattle.rules.specs.Dispatch.{Row}
+use Rattle.rules.specs.Number.{numberAt}
+use Rattle.rules.specs.Operate.{applied}
+use Rattle.rules.specs.Value.{World, Read, Gathered, ownSources, markedBy, atLeast, atMost}
+use Rattle.rules.specs.declared.EffectOperator.{EffectOperator}
+use Rattle.sources.specs.Keeping.{Keeping}
+use Rattle.memory.specs.Holding.{Holds}
+use Rattle.memory.specs.declared.apply.Got.{Got}
+use Rattle.memory.specs.declared.apply.Got.the-variants as got
+use Rattle.memory.specs.declared.apply.Part.{Part}
+use Rattle.memory.specs.declared.apply.Part.the-variants as part
+
+-- what is gathered is applied to the value found
+unfoldable pub applying : Row → Bool → EffectOperator → Float → ℕ → Gathered → Res Read
+applying row high op found i g = numberAt (row .object) (applied high op found (g .values)) >>= λ v. ok (record { value = v; mem = markedBy i g })
+
+-- a limit is the least or the most
+abbrev pub heldBy : Bool → Float → Float → Float
+heldBy true = atLeast
+heldBy false = atMost
+
+-- the value of one operator, with list 5 as it is then
+abbrev pub AppliedAs : List ℕ → ℕ → List (List ℕ) → List (List Float) → ℕ → Res Read → Part → List (List ℕ) → List (List Float) → Type 0
+AppliedAs counts room s₀ f₀ i (ok q) (part.At x own used) s f = (x ≡ q .value) × T (finite x) × Keeping counts room s₀ f₀ i (q .mem) s f own used
+AppliedAs counts room s₀ f₀ i (ok q) (part.Refused z) s f = ⊥
+AppliedAs counts room s₀ f₀ i (refused y) (part.At x own used) s f = ⊥
+AppliedAs counts room s₀ f₀ i (refused y) (part.Refused z) s f = z ≡ y
+
+-- the value of an attribute, with the columns as they are then
+abbrev pub Meets : World → List (List ℕ) → List (List Float) → Res Read → Got → List Float → List (List ℕ) → List (List Float) → Type 0
+Meets w s₀ f₀ (ok q) (got.Value x used) v s f = (x ≡ q .value) × T (finite x) × Holds w s₀ f₀ (q .mem) v s f used
+Meets w s₀ f₀ (ok q) (got.Refused z) v s f = ⊥
+Meets w s₀ f₀ (refused y) (got.Value x used) v s f = ⊥
+Meets w s₀ f₀ (refused y) (got.Refused z) v s f = z ≡ y
+
+-- the same after one operator of row i, with its own source rows
+abbrev pub PartMeets : World → List (List ℕ) → List (List Float) → ℕ → Res Read → Part → List Float → List (List ℕ) → List (List Float) → Type 0
+PartMeets w s₀ f₀ i (ok q) (part.At x own used) v s f = (x ≡ q .value) × T (finite x) × (own ≡ length (ownSources i (q .mem))) × Holds w s₀ f₀ (q .mem) v s f used
+PartMeets w s₀ f₀ i (ok q) (part.Refused z) v s f = ⊥
+PartMeets w s₀ f₀ i (refused y) (part.At x own used) v s f = ⊥
+PartMeets w s₀ f₀ i (refused y) (part.Refused z) v s f = z ≡ y

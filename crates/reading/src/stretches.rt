@@ -1,0 +1,148 @@
+// A row found in its object's stretch of list 2, whether an attribute may have a limit, and the two tables that tell.
+use info::header::count_of;
+use info::records::attribute;
+use numbers::integers::bits;
+use numbers::integers::signed;
+use laws::Window;
+use laws::step;
+use info::little_endian::index;
+use super::rows::Found;
+ghost use mathlib.Core.Path.{_≡_};
+ghost use mathlib.Core.Bool.{false};
+ghost use mathlib.Core.List.{List};
+ghost use Prim.Native.Nat.{_+_, _≤_, _<_, _^_};
+ghost use lib.IntN.{pos};
+ghost use lib.ListN.{length};
+ghost use Rattle.rules.specs.Dispatch.{Row};
+ghost use Rattle.rules.specs.Info.{getDogmaAttribute};
+ghost use Rattle.rules.specs.Sheet.{Book, bookOf};
+ghost use Rattle.info.specs.Sound.{HeldBook};
+ghost use Rattle.rules.specs.Value.{findRow};
+ghost use Rattle.reading.specs.Held.{RowsHeld, placed, indexOf};
+ghost use Rattle.reading.specs.Stretched.{Stretched, Narrowed, Past, Limits};
+
+// Where the first row from one to another whose attribute is not before the one sought lies: of eight or more a quarter and what is over is left.
+fn narrowed(rows: &[[u32; 6]], first: usize, end: usize, id: i32) -> Window
+    requires { ⌜ first ≤ end ⌝ }
+    requires { ⌜ end ≤ length (now rows) ⌝ }
+    ensures { λ r. ⌜ r .low + r .left ≤ end ⌝ }
+    ensures { λ r. ⌜ Narrowed (now (rows .entry)) id first end (r .low) (r .low + r .left) ⌝ }
+{
+    let mut low = first;
+    let mut left = end - first;
+    while 7 < left {
+        let q = left / 4;
+        let a = signed(rows[low + q - 1][1]);
+        let m = signed(rows[low + 2 * q - 1][1]);
+        let z = signed(rows[low + 3 * q - 1][1]);
+        low = low + step(q, a < id) + step(q, m < id) + step(q, z < id);
+        left -= 3 * q;
+    }
+    Window {
+        low: low,
+        left: left,
+    }
+}
+
+// The first row from one to another whose attribute is not before the one sought: in its window those before it are counted.
+fn lower(rows: &[[u32; 6]], first: usize, end: usize, id: i32) -> usize
+    requires { ⌜ end ≤ length (now rows) ⌝ }
+    ensures { λ r. ⌜ Narrowed (now (rows .entry)) id first end r r ⌝ }
+{
+    if end <= first {
+        return first;
+    }
+    let window = narrowed(rows, first, end, id);
+    let mut k = window.low;
+    let last = k + window.left;
+    let mut found = k;
+    while k < last {
+        let own = signed(rows[k][1]);
+        found = found + step(1, own < id);
+        k += 1;
+    }
+    found
+}
+
+// The row of an attribute of an object.
+pub fn find(rows: &[[u32; 6]], stretches: &[[u32; 2]; 1024], object: u32, id: i32) -> Found
+    requires { ⌜ object < 1024 ⌝ }
+    ensures { λ r. ⌜ ((rs : List Row) → RowsHeld rs (now (rows .entry)) → Stretched rs (now (stretches .entry)) → placed r ≡ indexOf (findRow object id 0 rs)) ⌝ }
+{
+    let stretch = stretches[index(object)];
+    let end = index(stretch[1]);
+    if end > rows.len() {
+        return Found::Nothing;
+    }
+    let at = lower(rows, index(stretch[0]), end, id);
+    if at < end {
+        let own = signed(rows[at][1]);
+        if own == id {
+            return Found::At(at);
+        }
+        return Found::Nothing;
+    }
+    Found::Nothing
+}
+
+// The first row from one on that is of a later object.
+fn past(rows: &[[u32; 6]], first: usize, object: u32) -> usize
+    requires { ⌜ first ≤ length (now rows) ⌝ }
+    ensures { λ r. ⌜ Past (now (rows .entry)) object first r ⌝ }
+{
+    let mut i = first;
+    while i < rows.len() {
+        let own = rows[i][0];
+        if own > object {
+            return i;
+        }
+        i += 1;
+    }
+    i
+}
+
+// The stretches of all objects, in one pass over the rows.
+pub fn set_stretches(rows: &[[u32; 6]]) -> [[u32; 2]; 1024]
+    requires { ⌜ length (now rows) < 2 ^ 32 ⌝ }
+    ensures { λ r. ⌜ ((rs : List Row) → RowsHeld rs (now (rows .entry)) → Stretched rs r) ⌝ }
+{
+    let none = [0u32; 2];
+    let mut stretches = [none; 1024];
+    let mut first: usize = 0;
+    let mut object: u32 = 0;
+    while object < 1024 {
+        let end = past(rows, first, object);
+        let at = index(object);
+        stretches[at] = [first as u32, end as u32];
+        first = end;
+        object += 1;
+    }
+    stretches
+}
+
+// Whether an attribute may have a limit.
+pub fn is_limited(limits: &[u32; 1024], id: i32) -> bool
+    ensures { λ r. ⌜ ((k : Book) → Limits k (now (limits .entry)) → r ≡ false → (getDogmaAttribute k id .«min_attribute_id» ≡ pos 0) × (getDogmaAttribute k id .«max_attribute_id» ≡ pos 0)) ⌝ }
+{
+    let mark = limits[index(bits(id) % 1024)];
+    mark != 0
+}
+
+// Marks of the attributes that may have a limit, by their ids modulo 1,024.
+pub fn set_limits(book: &[u8], pairs: &[[u32; 2]; 10]) -> [u32; 1024]
+    requires { ⌜ HeldBook (now book) (now pairs) ⌝ }
+    ensures { λ r. ⌜ Limits (bookOf (now (book .entry)) (now (pairs .entry))) r ⌝ }
+{
+    let attributes = count_of(pairs, 1);
+    let mut marks = [0u32; 1024];
+    let mut i = 0;
+    while i < attributes {
+        let a = attribute(book, pairs, i);
+        let at = index(bits(a.id) % 1024);
+        i += 1;
+        if (a.min_attribute_id != 0) | (a.max_attribute_id != 0) {
+            marks[at] = 1;
+        }
+    }
+    marks
+}

@@ -1,0 +1,87 @@
+// In which order the walk goes over the rows of list 2: ship, projected, mode, char, items and charges, skills, ids ascending (pass_3.rs).
+use info::header::count_of;
+use info::records::object;
+use rules::PROJECTED;
+use info::standing::char_of;
+ghost use mathlib.Core.Path.{_≡_};
+ghost use mathlib.Core.Bool.{true};
+ghost use mathlib.Core.List.{List};
+ghost use Prim.Native.Nat.{ℕ, _≤_, _<_};
+ghost use lib.ListN.{length};
+ghost use Rattle.rules.specs.Sheet.{fitOf};
+ghost use Rattle.rules.specs.Item.{charOf};
+ghost use Rattle.rules.specs.Dispatch.{Row};
+ghost use Rattle.info.specs.Sound.{SoundFit};
+ghost use Rattle.reading.specs.Held.{RowsHeld};
+ghost use Rattle.reading.specs.Order.{rowsBelow, projectedEnd, walkedAt, Ordered, owned, TurnsOf};
+
+// How many rows there are up to the ship's last, the char's last and the last projected one's.
+pub struct Turns {
+    pub ship: usize,
+    pub character: usize,
+    pub projected: usize,
+}
+
+// How many rows are of objects below one: rows ascend by object.
+fn rows_below(rows: &[[u32; 6]], object: u32) -> usize
+    ensures { λ r. ⌜ ((rs : List Row) → RowsHeld rs (now (rows .entry)) → r ≡ rowsBelow object rs) ⌝ }
+{
+    let mut low: usize = 0;
+    let mut high = rows.len();
+    while low < high {
+        let middle = low + (high - low) / 2;
+        let o = rows[middle][0];
+        if o < object {
+            low = middle + 1;
+        } else {
+            high = middle;
+        }
+    }
+    low
+}
+
+// The number just past the last projected one: they stand right after the char.
+fn projected_end(fit: &[u8], pairs: &[[u32; 2]; 10], character: u32) -> u32
+    requires { ⌜ SoundFit (now fit) (now pairs) ⌝ }
+    requires { ⌜ character ≡ charOf (fitOf (now fit) (now pairs)) ⌝ }
+    ensures { λ r. ⌜ r ≡ projectedEnd (fitOf (now (fit .entry)) (now (pairs .entry))) ⌝ }
+{
+    let objects = count_of(pairs, 6);
+    let mut i = character as usize + 1;
+    while i < objects {
+        let o = object(fit, pairs, i);
+        if o.kind != PROJECTED {
+            return i as u32;
+        }
+        i += 1;
+    }
+    i as u32
+}
+
+pub fn turns_of(rows: &[[u32; 6]], fit: &[u8], pairs: &[[u32; 2]; 10]) -> Turns
+    requires { ⌜ SoundFit (now fit) (now pairs) ⌝ }
+    ensures { λ r. ⌜ ((rs : List Row) → RowsHeld rs (now (rows .entry)) → owned (length (fitOf (now (fit .entry)) (now (pairs .entry)) .objects)) rs ≡ true → TurnsOf (fitOf (now (fit .entry)) (now (pairs .entry))) rs r) ⌝ }
+{
+    let character = char_of(fit, pairs);
+    let end = projected_end(fit, pairs, character);
+    Turns {
+        ship: rows_below(rows, 1),
+        character: rows_below(rows, character + 1),
+        projected: rows_below(rows, end),
+    }
+}
+
+// The row that turn k is at: the ship's, the projected ones', those of mode and char, then the rest.
+pub fn walked(t: Turns, k: usize) -> usize
+    requires { ⌜ Ordered t ⌝ }
+    ensures { λ r. ⌜ (r ≡ walkedAt t k) × ((n : ℕ) → t .projected ≤ n → k < n → r < n) ⌝ }
+{
+    if (k < t.ship) | (t.projected <= k) {
+        return k;
+    }
+    let projected = t.projected - t.character;
+    if k < t.ship + projected {
+        return k - t.ship + t.character;
+    }
+    k - projected
+}
