@@ -3,13 +3,20 @@ use answers::number_of;
 use answers::place_of;
 use clear::Counts;
 use clear::clear;
-use run::outcome::filled;
+use columns::AttributeRow;
+use columns::CollectedRow;
+use columns::EntryRow;
+use columns::PlainRow;
+use columns::SourceFloats;
+use columns::SourceRow;
+use columns::States;
 use rules::Answer;
 use run::Ran;
+use run::outcome::filled;
 ghost use mathlib.Core.Path.{_≡_};
 ghost use Rattle.promises.specs.Result.{Meets};
-ghost use Rattle.run.specs.Filled.{columns, lentOf};
-ghost use Rattle.calculate.specs.Given.{countsGiven, answerGiven, resultOf};
+ghost use Rattle.run.specs.Filled.{lentOf};
+ghost use Rattle.calculate.specs.Given.{countsGiven, answerGiven, columns, resultOf};
 
 // What comes back of a call: 01's number and place, and how many rows each list has.
 #[repr(C)]
@@ -49,23 +56,25 @@ fn answer_of(ran: Ran) -> Answer
     }
 }
 
-// Every list, every state and the answer, whatever the bytes are.
+// Every list, every state and the answer, whatever the bytes and whatever the lists: nothing is required.
 #[no_mangle]
 pub extern "C" fn dogma_calculate(
-    states: &mut [[u32; 2]; 1024],
-    collected: &mut [[u32; 14]],
+    states: &mut States,
+    collected: &mut [CollectedRow],
     collected_values: &mut [f64],
-    rows: &mut [[u32; 6]],
+    rows: &mut [AttributeRow],
     bases: &mut [f64],
     values: &mut [f64],
-    entries: &mut [[u32; 11]],
+    entries: &mut [EntryRow],
     entry_values: &mut [f64],
-    plain: &mut [[u32; 2]],
-    sources: &mut [[u32; 10]],
-    source_values: &mut [[f64; 2]],
+    plain: &mut [PlainRow],
+    sources: &mut [SourceRow],
+    source_values: &mut [SourceFloats],
     sheet: &[u8],
 ) -> Outcome
-    ensures { λ r. ⌜ Meets (now (sheet .entry)) (lentOf (columns (now (collected .entry)) (now («collected_values» .entry)) (now (rows .entry)) (now (bases .entry)) (now (values .entry)) (now (entries .entry)) (now («entry_values» .entry)) (now (plain .entry)) (now (sources .entry)) (now («source_values» .entry)))) (resultOf r (now (states .exit)) (columns (now (collected .exit)) (now («collected_values» .exit)) (now (rows .exit)) (now (bases .exit)) (now (values .exit)) (now (entries .exit)) (now («entry_values» .exit)) (now (plain .exit)) (now (sources .exit)) (now («source_values» .exit)))) ⌝ }
+    ensures the_definitions_answer { λ r.
+        let lists = columns collected «collected_values» rows bases values entries «entry_values» plain sources «source_values» in
+        ⌜ Meets (now (sheet .entry)) (lentOf (lists .entry)) (resultOf r (now (states .exit)) (lists .exit)) ⌝ }
 {
     let ran = filled(
         states,
@@ -107,4 +116,5 @@ pub extern "C" fn dogma_calculate(
         sources: counts.sources as u64,
     }
 }
+
 pub mod answers;

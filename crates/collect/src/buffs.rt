@@ -1,12 +1,12 @@
 // Projected buffs.
 use super::collecting::collect_modifiers;
+use info::header::count_of;
+use info::look_ups::FoundCollection;
+use info::look_ups::get_dbuff_collection;
+use info::records::projected_buff;
 use modifier::causes::Cause;
 use modifier::codes::OperationTest;
 use modifier::codes::get_effect_operator;
-use info::header::count_of;
-use info::records::projected_buff;
-use info::look_ups::FoundCollection;
-use info::look_ups::get_dbuff_collection;
 use modifier::moves::Counted;
 use modifier::moves::Rooms;
 use rules::DbuffCollection;

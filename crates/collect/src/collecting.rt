@@ -1,8 +1,8 @@
 // The modifiers of an effect or a buff, in order.
+use info::little_endian::index;
+use info::records::modifier;
 use modifier::causes::Cause;
 use modifier::causes::move_of;
-use info::records::modifier;
-use info::little_endian::index;
 use modifier::moves::Counted;
 use modifier::moves::Rooms;
 use modifier::moves::put;

@@ -16,10 +16,10 @@ pub enum Phase {
     Skills,
 }
 
-pub mod objects;
-pub mod owners;
 pub mod buffs;
 pub mod collecting;
+pub mod effects;
+pub mod objects;
+pub mod owners;
 pub mod projected;
 pub mod uses;
-pub mod effects;

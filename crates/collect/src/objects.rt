@@ -1,17 +1,17 @@
 // The objects in phases, the buffs between them, and collection as a whole.
 use super::Hull;
 use super::Phase;
+use super::buffs::collect_buffs;
+use super::effects::collect_effects;
 use super::owners::hull_of;
 use super::owners::owner_of;
-use super::effects::collect_effects;
+use super::projected::collect_projected;
 use info::header::count_of;
 use info::records::object;
 use item::kinds::is_charge;
 use item::kinds::is_item;
 use item::kinds::is_projected;
 use item::kinds::is_skill;
-use super::buffs::collect_buffs;
-use super::projected::collect_projected;
 use modifier::moves::Counted;
 use modifier::moves::Rooms;
 use rules::CHAR;

@@ -1,14 +1,14 @@
 // An object with what of the fit its modifiers go by.
 use super::Hull;
-use item::categories::categories_of;
-use modifier::codes::Owner;
 use info::header::count_of;
+use info::little_endian::index;
 use info::records::object;
+use info::standing::char_of;
+use item::categories::categories_of;
 use item::kinds::is_charge;
 use item::kinds::is_item;
-use info::little_endian::index;
+use modifier::codes::Owner;
 use rules::Item;
-use info::standing::char_of;
 use states::is_structure_fit;
 ghost use mathlib.Core.Path.{_≡_};
 ghost use mathlib.Core.Bool.{cond};

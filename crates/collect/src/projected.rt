@@ -1,16 +1,16 @@
 // Projected objects.
 use super::collecting::collect_modifiers;
-use modifier::causes::Cause;
-use modifier::codes::Owner;
-use numbers::integers::cut;
-use item::CategoryFound;
-use item::codes::category_at;
 use info::look_ups::FoundBase;
 use info::look_ups::FoundEffect;
 use info::look_ups::get_base;
 use info::look_ups::get_dogma_effect;
+use item::CategoryFound;
+use item::codes::category_at;
+use modifier::causes::Cause;
+use modifier::codes::Owner;
 use modifier::moves::Counted;
 use modifier::moves::Rooms;
+use numbers::integers::cut;
 use rules::ATTRIBUTE_REMOTE_RESISTANCE_ID;
 use rules::DogmaEffect;
 use rules::Item;

@@ -1,9 +1,9 @@
 // Which of an object's effects are in use (pass_2.rs: abilities and side effects).
+use info::little_endian::index;
 use info::records::id_at;
 use item::kinds::abilities_given;
-use item::states::is_passive;
-use info::little_endian::index;
 use item::locations::is_fighter;
+use item::states::is_passive;
 use rules::DogmaEffect;
 use rules::EffectCategory;
 use rules::Item;

@@ -1,8 +1,8 @@
 // Dispatch (pass_2.rs, second half): the rows and entries of all objects, or the list that is full first.
-use rows::object_lists::all_lists;
-use room::full_at;
-use rows::rows::Laid;
 use hits::places::set_hits;
+use room::full_at;
+use rows::object_lists::all_lists;
+use rows::rows::Laid;
 ghost use mathlib.Core.Path.{_≡_};
 ghost use mathlib.Core.List.{List};
 ghost use Prim.Native.Nat.{_≤_, _<_, _^_};

@@ -1,7 +1,7 @@
 // Room: how many rows stand before any collection, and the list that the hit past the room of entries finds full.
 use info::header::count_of;
-use info::records::object;
 use info::little_endian::index;
+use info::records::object;
 ghost use mathlib.Core.Path.{_≡_};
 ghost use mathlib.Core.Bool.{not, _&&_, cond};
 ghost use Prim.Native.Nat.{ℕ, _≤_};

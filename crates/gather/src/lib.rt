@@ -1,8 +1,8 @@
 // What one operator gathers of a row's entries, entry by entry (pass_3.rs).
-use operate::buckets::Bucket;
 use numbers::less;
 use numbers::simplified;
 use operate::Running;
+use operate::buckets::Bucket;
 use operate::more;
 use operate::put_copies;
 use operate::start;

@@ -1,8 +1,8 @@
 // Whom the collected effects touch (pass_2.rs, second half): the aims of an effect, and the test of an object.
-use info::records::object;
-use numbers::integers::bits;
 use info::little_endian::index;
+use info::records::object;
 use info::standing::Spans;
+use numbers::integers::bits;
 ghost use mathlib.Core.Path.{_≡_};
 ghost use mathlib.Core.List.{[]};
 ghost use Prim.Native.Nat.{_<_};
@@ -259,7 +259,8 @@ pub fn is_hit(
         }
     }
 }
-pub mod reach;
-pub mod wanted;
+
 pub mod counts;
 pub mod places;
+pub mod reach;
+pub mod wanted;

@@ -1,16 +1,16 @@
 // What of the objects decides who is touched: two tables, a row for each object, read once.
-use item::categories::categories_of;
 use info::header::count_of;
+use info::little_endian::index;
 use info::records::base_attribute;
 use info::records::object;
-use numbers::integers::bits;
-use numbers::integers::cut;
-use numbers::integers::flag;
-use info::little_endian::index;
+use item::categories::categories_of;
 use item::locations::Categories;
 use item::locations::is_in_ship;
 use item::locations::is_on_char;
 use item::locations::is_owner_modifiable;
+use numbers::integers::bits;
+use numbers::integers::cut;
+use numbers::integers::flag;
 use rules::CHAR;
 use rules::CHARGE;
 use rules::ITEM;

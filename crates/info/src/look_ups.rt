@@ -1,14 +1,14 @@
 // Look-ups (info.rs) by binary search: ids ascend, types do not descend.
 use super::header::count_of;
 use super::header::offset_of;
+use super::little_endian::i32_at;
+use super::little_endian::index;
 use super::records::attribute;
 use super::records::base_attribute;
 use super::records::buff_collection;
 use super::records::effect;
 use laws::Window;
 use laws::step;
-use super::little_endian::i32_at;
-use super::little_endian::index;
 use rules::BaseAttribute;
 use rules::DbuffCollection;
 use rules::DogmaAttribute;

@@ -1,8 +1,8 @@
 // The category numbers of the header.
+use super::locations::Categories;
 use info::header::category_module;
 use info::header::category_structure_module;
 use info::header::category_subsystem;
-use super::locations::Categories;
 ghost use mathlib.Core.List.{List};
 ghost use Prim.Native.Nat.{ℕ, _≤_};
 ghost use lib.ListN.{length};

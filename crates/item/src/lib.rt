@@ -22,5 +22,6 @@ pub enum StateFound {
     At(ItemState),
     Nothing,
 }
-pub mod locations;
+
 pub mod categories;
+pub mod locations;

@@ -6,4 +6,5 @@ pub fn nothing() -> u32
 {
     0
 }
+
 pub mod apply;

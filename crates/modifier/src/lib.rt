@@ -1,4 +1,4 @@
 // modifier: codes, causes, moves.
-pub mod codes;
 pub mod causes;
+pub mod codes;
 pub mod moves;

@@ -1,9 +1,9 @@
 // The rows of lists 1 and 4, as what a modifier gives is added to them (pass_2.rs, the inside of collection).
 use super::causes::Moved;
-use numbers::integers::bits;
-use numbers::integers::optional_numbers;
 use item::codes::category_code;
 use item::codes::operator_code;
+use numbers::integers::bits;
+use numbers::integers::optional_numbers;
 use rules::Modifier;
 use rules::OptionalId;
 use rules::Origin;

@@ -192,4 +192,5 @@ pub fn put_copies(
     }
     n
 }
+
 pub mod buckets;

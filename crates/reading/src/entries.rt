@@ -1,11 +1,11 @@
 // Entries by value, and what is asked of them.
-use numbers::integers::signed;
+use info::little_endian::index;
 use item::CategoryFound;
 use item::OperatorFound;
 use item::codes::category_at;
 use item::codes::operator_at;
 use item::states::runs_at;
-use info::little_endian::index;
+use numbers::integers::signed;
 use rules::Effect;
 use rules::EffectCategory;
 use rules::EffectOperator;

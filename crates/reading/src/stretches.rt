@@ -1,12 +1,12 @@
 // A row found in its object's stretch of list 2, whether an attribute may have a limit, and the two tables that tell.
+use super::rows::Found;
 use info::header::count_of;
+use info::little_endian::index;
 use info::records::attribute;
-use numbers::integers::bits;
-use numbers::integers::signed;
 use laws::Window;
 use laws::step;
-use info::little_endian::index;
-use super::rows::Found;
+use numbers::integers::bits;
+use numbers::integers::signed;
 ghost use mathlib.Core.Path.{_≡_};
 ghost use mathlib.Core.Bool.{false};
 ghost use mathlib.Core.List.{List};

@@ -1,8 +1,8 @@
 // In which order the walk goes over the rows of list 2: ship, projected, mode, char, items and charges, skills, ids ascending (pass_3.rs).
 use info::header::count_of;
 use info::records::object;
-use rules::PROJECTED;
 use info::standing::char_of;
+use rules::PROJECTED;
 ghost use mathlib.Core.Path.{_≡_};
 ghost use mathlib.Core.Bool.{true};
 ghost use mathlib.Core.List.{List};

@@ -2,10 +2,10 @@
 // Standard input is cases/kept.bin; cases/make_kept.py says how it is read.
 use calculate::Outcome;
 use calculate::dogma_calculate;
-use libc::STDIN_FILENO;
-use libc::STDOUT_FILENO;
 use info::little_endian::index;
 use info::little_endian::u32_at;
+use libc::STDIN_FILENO;
+use libc::STDOUT_FILENO;
 use std::num::wrapping_add_u64;
 use std::num::wrapping_add_usize;
 ghost use Prim.Native.Nat.{_<_, _≤_};

@@ -3,3 +3,4 @@ pub mod Entries
 pub mod Effects
 pub mod Laying
 pub mod Parts
+pub mod At

@@ -125,5 +125,6 @@ pub fn fill(
         Listed::Refused(x) => Ran::Refused(x),
     }
 }
+
 pub mod lists;
 pub mod outcome;

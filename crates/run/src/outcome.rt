@@ -1,8 +1,8 @@
 // Any bytes: SHAPE, then a run (calculate.rs).
-use info::header::pairs_of;
-use rules::Refusal;
 use super::Ran;
 use super::fill;
+use info::header::pairs_of;
+use rules::Refusal;
 use shape::Shaped;
 use shape::shape;
 ghost use Rattle.rules.specs.Outcome as outcome;

@@ -1,11 +1,11 @@
 // 1 SHAPE, tables 6 to 10: whether each table of the fit is good.
 use super::book_tables::inside;
 use info::header::count_of;
+use info::little_endian::index;
 use info::records::ask;
 use info::records::base_attribute;
 use info::records::object;
 use info::records::projected_buff;
-use info::little_endian::index;
 use numbers::is_finite;
 use rules::BOOSTER;
 use rules::BaseAttribute;

@@ -139,5 +139,6 @@ pub fn shape(b: &[u8]) -> Shaped
         Shaped::Sound => fit_shape(b, &pairs),
     }
 }
+
 pub mod book_tables;
 pub mod fit_tables;

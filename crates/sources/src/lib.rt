@@ -15,5 +15,5 @@ pub enum Noted {
 
 pub mod marks;
 pub mod notes;
-pub mod rows;
 pub mod plan;
+pub mod rows;

@@ -1,8 +1,8 @@
 // Penalties of source rows: the weight of a copy's position, set when its operator is applied.
 use super::Run;
+use numbers::weight;
 use operate::buckets::Bucket;
 use operate::buckets::kept;
-use numbers::weight;
 ghost use mathlib.Core.Path.{_≡_};
 ghost use mathlib.Core.Bool.{true, false};
 ghost use mathlib.Core.List.{List, []};

@@ -1,9 +1,9 @@
 // A source row by value, and its numbers.
 use super::Run;
+use item::codes::operator_code;
 use numbers::integers::bits;
 use numbers::integers::flag;
 use numbers::integers::optional_numbers;
-use item::codes::operator_code;
 use rules::Effect;
 use rules::OptionalId;
 use rules::Origin;

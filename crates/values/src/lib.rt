@@ -1,9 +1,9 @@
 // The values and the source rows of a sound sheet, once lists 1 to 4 are made (pass_3.rs).
 use blank::unstarted;
-use sources::plan::set_sources;
-use sources::Run;
 use reading::stretches::set_limits;
 use reading::stretches::set_stretches;
+use sources::Run;
+use sources::plan::set_sources;
 use walk::Valued;
 use walk::calculate_values;
 ghost use mathlib.Core.Path.{_≡_};
@@ -78,5 +78,6 @@ pub fn set_values(
         fit,
     )
 }
+
 pub mod blank;
 pub mod walk;

@@ -1,16 +1,16 @@
 // Every value: the asks in their order, then the walk over all rows. Each starts at depth 1 (pass_3.rs).
-use memory::apply::Got;
 use info::header::count_of;
 use info::header::depth_of;
 use info::records::ask;
+use memory::apply::Got;
 use numbers::integers::signed;
 use pass_3::calculate_value;
 use pass_3::calculated_value;
-use rules::Refusal;
-use sources::Run;
 use reading::stretches::is_limited;
 use reading::turns::turns_of;
 use reading::turns::walked;
+use rules::Refusal;
+use sources::Run;
 ghost use mathlib.Core.Path.{_≡_};
 ghost use mathlib.Core.Bool.{true};
 ghost use mathlib.Core.List.{map};
