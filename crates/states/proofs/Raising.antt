@@ -9,7 +9,7 @@ use Rattle.laws.specs.Lists.{put, keep, every?, some?, span}
 use Rattle.laws.proofs.Keep.{keep-all}
 use Rattle.laws.proofs.Maps.{map-append}
 use Rattle.laws.proofs.Spans.{span-left, span-end}
-use Rattle.rules.specs.States.{highest, reachBy, reachOf}
+use Rattle.rules.specs.States.{highest, raisedBy, raisedTo}
 use Rattle.rules.specs.Bytes.{countOf}
 use Rattle.rules.specs.Sheet.{Book, bookOf}
 use Rattle.rules.specs.Info.{getDogmaEffect, getDogmaEffects}
@@ -115,8 +115,8 @@ module _ (k : Book) (o : Item) (t : TypeDogmaEffect) (f : FoundEffect) (s : SFit
   looked-up : effectFound f ≡ getDogmaEffect k (t .«effect_id»)
   looked-up = e ∙ ap (getDogmaEffect k) (toZ-ofZ w32 (t .«effect_id») s)
 
-  pub reach-found : (x : DogmaEffect) {r : ℕ} → f ≡ effect.At x → r ≡ reachOf o (categoryAt (x .category)) → r ≡ reachOn k o t
-  reach-found x a h = h ∙ ap (reachBy o) (ap effectFound (sym a) ∙ looked-up)
+  pub reach-found : (x : DogmaEffect) {r : ℕ} → f ≡ effect.At x → r ≡ raisedTo o (categoryAt (x .category)) → r ≡ reachOn k o t
+  reach-found x a h = h ∙ ap (raisedBy o) (ap effectFound (sym a) ∙ looked-up)
 
   pub reach-missing : f ≡ effect.Nothing → 0 ≡ reachOn k o t
-  reach-missing a = ap (reachBy o) (ap effectFound (sym a) ∙ looked-up)
+  reach-missing a = ap (raisedBy o) (ap effectFound (sym a) ∙ looked-up)

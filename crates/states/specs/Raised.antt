@@ -10,7 +10,7 @@ use Rattle.rules.specs.Codes.{stateCode}
 use Rattle.rules.specs.Sheet.{Book, Fit, basesOf}
 use Rattle.rules.specs.Info.{getDogmaEffect}
 use Rattle.rules.specs.Item.{effectsOf}
-use Rattle.rules.specs.States.{States, reachBy, highest, statesOf}
+use Rattle.rules.specs.States.{States, raisedBy, highest, statesOf}
 use Rattle.rules.specs.declared.Item.{Item}
 use Rattle.rules.specs.declared.TypeDogmaEffect.{TypeDogmaEffect}
 use Rattle.rules.specs.declared.ItemState.the-variants.{Active}
@@ -30,7 +30,7 @@ abbrev pub among : List TypeDogmaEffect → TypeDogmaEffect → Bool
 among own t = some? (λ e. eqZ (e .«effect_id») (t .«effect_id»)) own
 
 abbrev pub reachOn : Book → Item → TypeDogmaEffect → ℕ
-reachOn k o t = reachBy o (getDogmaEffect k (t .«effect_id»))
+reachOn k o t = raisedBy o (getDogmaEffect k (t .«effect_id»))
 
 -- the max state, by the type effects that own lacks
 abbrev pub raisedOver : Book → Item → List TypeDogmaEffect → ℕ → List TypeDogmaEffect → ℕ

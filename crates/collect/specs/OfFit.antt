@@ -6,6 +6,6 @@ use Rattle.rules.specs.Sheet.{Fit}
 use Rattle.rules.specs.declared.Item.{Item}
 
 -- o is the fit's object of its number
-pub record Stands (f : Fit) (o : Item) : Type 0 where
+pub record OfFit (f : Fit) (o : Item) : Type 0 where
   pub few : o .number < length (f .objects)
   pub is : (d : Item) → o ≡ getD (f .objects) (o .number) d
