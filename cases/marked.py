@@ -133,7 +133,9 @@ def main():
         (HERE / f"{name}.sheet").write_bytes(data)
         (HERE / f"{name}.txt").write_text(printed)
         account.append(f"| {name} | {len(data)} | {what} | {'; '.join(printed.splitlines())} |")
-    account += ["", "`kept.bin` has sheets with the oracle's answers, every list of them; [KEPT.md](KEPT.md) names each and says how it is read.",
+    account += ["", "Down to divided-by-0 they are the sheets of `crates/rules/proofs/Marked.antt`, and the four slips those of `crates/rules/proofs/Slips.antt`, byte for byte: "
+                "what they print is proved there of the definition. docs/FORMAT.md explains case L byte by byte, and why each of the refused is.",
+                "`kept.bin` has sheets with the oracle's answers, every list of them; [KEPT.md](KEPT.md) names each and says how it is read.",
                 "`make_damaged.py` makes the sheets of crates/shape_test."]
     (HERE / "README.md").write_text("\n".join(account) + "\n")
     print(len(CASES), "cases")
