@@ -11,5 +11,5 @@ unfoldable pub cleared : {B : Type 0} → B → ℕ → List B → List B
 cleared z n c = take n c ++ replicate (length c - n) z
 
 -- the column that was lent comes back so
-abbrev pub Cleared : {B : Type 0} → LentColumn B → B → ℕ → Type 0
-Cleared c z n = now (c .exit) ≡ cleared z n (now (c .entry))
+abbrev pub ClearedFrom : {B : Type 0} → LentColumn B → B → ℕ → Type 0
+ClearedFrom c z n = now (c .exit) ≡ cleared z n (now (c .entry))

@@ -17,12 +17,12 @@ use columns::States;
 ghost use mathlib.Core.Path.{_≡_};
 ghost use lib.ListN.{length, replicate};
 ghost use Rattle.laws.specs.Floats.{zeroF};
-ghost use Rattle.clear.specs.Ends.{Cleared};
+ghost use Rattle.clear.specs.Ends.{ClearedFrom};
 
 // ---- one column: zero from a place on; a place past the end changes nothing
 
 fn zero_collected(collected: &mut [CollectedRow], from: usize)
-    ensures cleared { λ _. ⌜ Cleared collected (replicate 14 0) from ⌝ }
+    ensures cleared { λ _. ⌜ ClearedFrom collected (replicate 14 0) from ⌝ }
 {
     let n = collected.len();
     let mut i = from;
@@ -33,7 +33,7 @@ fn zero_collected(collected: &mut [CollectedRow], from: usize)
 }
 
 fn zero_entries(entries: &mut [EntryRow], from: usize)
-    ensures cleared { λ _. ⌜ Cleared entries (replicate 11 0) from ⌝ }
+    ensures cleared { λ _. ⌜ ClearedFrom entries (replicate 11 0) from ⌝ }
 {
     let n = entries.len();
     let mut i = from;
@@ -44,7 +44,7 @@ fn zero_entries(entries: &mut [EntryRow], from: usize)
 }
 
 fn zero_sources(sources: &mut [SourceRow], from: usize)
-    ensures cleared { λ _. ⌜ Cleared sources (replicate 10 0) from ⌝ }
+    ensures cleared { λ _. ⌜ ClearedFrom sources (replicate 10 0) from ⌝ }
 {
     let n = sources.len();
     let mut i = from;
@@ -55,7 +55,7 @@ fn zero_sources(sources: &mut [SourceRow], from: usize)
 }
 
 fn zero_rows(rows: &mut [AttributeRow], from: usize)
-    ensures cleared { λ _. ⌜ Cleared rows (replicate 6 0) from ⌝ }
+    ensures cleared { λ _. ⌜ ClearedFrom rows (replicate 6 0) from ⌝ }
 {
     let n = rows.len();
     let mut i = from;
@@ -66,7 +66,7 @@ fn zero_rows(rows: &mut [AttributeRow], from: usize)
 }
 
 fn zero_plain(plain: &mut [PlainRow], from: usize)
-    ensures cleared { λ _. ⌜ Cleared plain (replicate 2 0) from ⌝ }
+    ensures cleared { λ _. ⌜ ClearedFrom plain (replicate 2 0) from ⌝ }
 {
     let n = plain.len();
     let mut i = from;
@@ -77,7 +77,7 @@ fn zero_plain(plain: &mut [PlainRow], from: usize)
 }
 
 fn zero_values(floats: &mut [f64], from: usize)
-    ensures cleared { λ _. ⌜ Cleared floats zeroF from ⌝ }
+    ensures cleared { λ _. ⌜ ClearedFrom floats zeroF from ⌝ }
 {
     let n = floats.len();
     let mut i = from;
@@ -88,7 +88,7 @@ fn zero_values(floats: &mut [f64], from: usize)
 }
 
 fn zero_source_values(pairs: &mut [SourceFloats], from: usize)
-    ensures cleared { λ _. ⌜ Cleared pairs (replicate 2 zeroF) from ⌝ }
+    ensures cleared { λ _. ⌜ ClearedFrom pairs (replicate 2 zeroF) from ⌝ }
 {
     let n = pairs.len();
     let mut i = from;
@@ -104,7 +104,7 @@ fn full(given: States)
 {}
 
 fn zero_states(states: &mut States, from: usize)
-    ensures cleared { λ _. ⌜ Cleared states (replicate 2 0) from ⌝ }
+    ensures cleared { λ _. ⌜ ClearedFrom states (replicate 2 0) from ⌝ }
     ensures whole { λ _. ⌜ length (now (states .entry)) ≡ 1024 ⌝ }
 {
     let given = *states;
@@ -143,17 +143,17 @@ pub fn clear(
     source_values: &mut [SourceFloats],
     counts: KeptCounts,
 )
-    ensures collected { λ _. ⌜ Cleared collected (replicate 14 0) (counts .collected) ⌝ }
-    ensures collected_values { λ _. ⌜ Cleared «collected_values» zeroF (counts .collected) ⌝ }
-    ensures rows { λ _. ⌜ Cleared rows (replicate 6 0) (counts .rows) ⌝ }
-    ensures bases { λ _. ⌜ Cleared bases zeroF (counts .rows) ⌝ }
-    ensures values { λ _. ⌜ Cleared values zeroF (counts .rows) ⌝ }
-    ensures entries { λ _. ⌜ Cleared entries (replicate 11 0) (counts .entries) ⌝ }
-    ensures entry_values { λ _. ⌜ Cleared «entry_values» zeroF (counts .entries) ⌝ }
-    ensures plain { λ _. ⌜ Cleared plain (replicate 2 0) (counts .plain) ⌝ }
-    ensures sources { λ _. ⌜ Cleared sources (replicate 10 0) (counts .sources) ⌝ }
-    ensures source_values { λ _. ⌜ Cleared «source_values» (replicate 2 zeroF) (counts .sources) ⌝ }
-    ensures states { λ _. ⌜ Cleared states (replicate 2 0) (counts .objects) ⌝ }
+    ensures collected { λ _. ⌜ ClearedFrom collected (replicate 14 0) (counts .collected) ⌝ }
+    ensures collected_values { λ _. ⌜ ClearedFrom «collected_values» zeroF (counts .collected) ⌝ }
+    ensures rows { λ _. ⌜ ClearedFrom rows (replicate 6 0) (counts .rows) ⌝ }
+    ensures bases { λ _. ⌜ ClearedFrom bases zeroF (counts .rows) ⌝ }
+    ensures values { λ _. ⌜ ClearedFrom values zeroF (counts .rows) ⌝ }
+    ensures entries { λ _. ⌜ ClearedFrom entries (replicate 11 0) (counts .entries) ⌝ }
+    ensures entry_values { λ _. ⌜ ClearedFrom «entry_values» zeroF (counts .entries) ⌝ }
+    ensures plain { λ _. ⌜ ClearedFrom plain (replicate 2 0) (counts .plain) ⌝ }
+    ensures sources { λ _. ⌜ ClearedFrom sources (replicate 10 0) (counts .sources) ⌝ }
+    ensures source_values { λ _. ⌜ ClearedFrom «source_values» (replicate 2 zeroF) (counts .sources) ⌝ }
+    ensures states { λ _. ⌜ ClearedFrom states (replicate 2 0) (counts .objects) ⌝ }
     ensures whole { λ _. ⌜ length (now (states .entry)) ≡ 1024 ⌝ }
 {
     zero_collected(collected, counts.collected);
