@@ -15,7 +15,13 @@ pub const STATE: usize = 0;
 pub const MAX_STATE: usize = 1;
 
 // Of each of the ten tables of a sheet the count of its records and its byte offset.
-pub type TablePairs = [[u32; 2]; 10];
+pub type TablePair = [u32; 2];
+
+pub const PAIR_COUNT: usize = 0;
+
+pub const PAIR_OFFSET: usize = 1;
+
+pub type TablePairs = [TablePair; 10];
 
 // Of each object its first row in list 2, and the row past its last.
 pub type Stretches = [[u32; 2]; OBJECTS];
