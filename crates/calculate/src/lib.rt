@@ -1,7 +1,7 @@
 // The engine's entry: the bytes of a sheet and lent lists go in, every list, every state and the answer come out (calculate.rs).
 use answers::number_of;
 use answers::place_of;
-use clear::Counts;
+use clear::KeptCounts;
 use clear::clear;
 use columns::AttributeRow;
 use columns::CollectedRow;
@@ -31,12 +31,12 @@ pub struct Outcome {
 }
 
 // The counts to keep: none after a refusal.
-fn counts_of(ran: Ran) -> Counts
+fn counts_of(ran: Ran) -> KeptCounts
     ensures { λ r. ⌜ r ≡ countsGiven ran ⌝ }
 {
     match ran {
         Ran::Done(n) => n,
-        Ran::Refused(_) => Counts {
+        Ran::Refused(_) => KeptCounts {
             objects: 0,
             collected: 0,
             rows: 0,

@@ -1,4 +1,11 @@
 // Unused ends are zero: every column that is lent, and the states, cleared behind the counts in one pass. With counts of 0 all is zero.
+use columns::AttributeRow;
+use columns::CollectedRow;
+use columns::EntryRow;
+use columns::PlainRow;
+use columns::SourceFloats;
+use columns::SourceRow;
+use columns::States;
 ghost use mathlib.Core.Path.{_≡_};
 ghost use lib.ListN.{length, replicate};
 ghost use Rattle.laws.specs.Floats.{zeroF};
@@ -6,7 +13,7 @@ ghost use Rattle.clear.specs.Ends.{cleared};
 
 // ---- one column: zero from a place on; a place past the end changes nothing
 
-fn zero_14(collected: &mut [[u32; 14]], from: usize)
+fn zero_collected(collected: &mut [CollectedRow], from: usize)
     ensures { λ _. ⌜ now (collected .exit) ≡ cleared (replicate 14 0) from (now (collected .entry)) ⌝ }
 {
     let n = collected.len();
@@ -17,7 +24,7 @@ fn zero_14(collected: &mut [[u32; 14]], from: usize)
     }
 }
 
-fn zero_11(entries: &mut [[u32; 11]], from: usize)
+fn zero_entries(entries: &mut [EntryRow], from: usize)
     ensures { λ _. ⌜ now (entries .exit) ≡ cleared (replicate 11 0) from (now (entries .entry)) ⌝ }
 {
     let n = entries.len();
@@ -28,7 +35,7 @@ fn zero_11(entries: &mut [[u32; 11]], from: usize)
     }
 }
 
-fn zero_10(sources: &mut [[u32; 10]], from: usize)
+fn zero_sources(sources: &mut [SourceRow], from: usize)
     ensures { λ _. ⌜ now (sources .exit) ≡ cleared (replicate 10 0) from (now (sources .entry)) ⌝ }
 {
     let n = sources.len();
@@ -39,7 +46,7 @@ fn zero_10(sources: &mut [[u32; 10]], from: usize)
     }
 }
 
-fn zero_6(rows: &mut [[u32; 6]], from: usize)
+fn zero_rows(rows: &mut [AttributeRow], from: usize)
     ensures { λ _. ⌜ now (rows .exit) ≡ cleared (replicate 6 0) from (now (rows .entry)) ⌝ }
 {
     let n = rows.len();
@@ -50,7 +57,7 @@ fn zero_6(rows: &mut [[u32; 6]], from: usize)
     }
 }
 
-fn zero_2(plain: &mut [[u32; 2]], from: usize)
+fn zero_plain(plain: &mut [PlainRow], from: usize)
     ensures { λ _. ⌜ now (plain .exit) ≡ cleared (replicate 2 0) from (now (plain .entry)) ⌝ }
 {
     let n = plain.len();
@@ -61,7 +68,7 @@ fn zero_2(plain: &mut [[u32; 2]], from: usize)
     }
 }
 
-fn zero_floats(floats: &mut [f64], from: usize)
+fn zero_values(floats: &mut [f64], from: usize)
     ensures { λ _. ⌜ now (floats .exit) ≡ cleared zeroF from (now (floats .entry)) ⌝ }
 {
     let n = floats.len();
@@ -72,7 +79,7 @@ fn zero_floats(floats: &mut [f64], from: usize)
     }
 }
 
-fn zero_pairs(pairs: &mut [[f64; 2]], from: usize)
+fn zero_source_values(pairs: &mut [SourceFloats], from: usize)
     ensures { λ _. ⌜ now (pairs .exit) ≡ cleared (replicate 2 zeroF) from (now (pairs .entry)) ⌝ }
 {
     let n = pairs.len();
@@ -84,11 +91,11 @@ fn zero_pairs(pairs: &mut [[f64; 2]], from: usize)
 }
 
 // A lent array's length is told where it is handed on by value; the compiler drops the copy.
-fn full(given: [[u32; 2]; 1024])
+fn full(given: States)
     ensures { λ _. ⌜ length given ≡ 1024 ⌝ }
 {}
 
-fn zero_states(states: &mut [[u32; 2]; 1024], from: usize)
+fn zero_states(states: &mut States, from: usize)
     ensures { λ _. ⌜ now (states .exit) ≡ cleared (replicate 2 0) from (now (states .entry)) ⌝ }
     ensures { λ _. ⌜ length (now (states .entry)) ≡ 1024 ⌝ }
 {
@@ -104,7 +111,7 @@ fn zero_states(states: &mut [[u32; 2]; 1024], from: usize)
 // ---- all columns
 
 // How many elements of each list stay.
-pub struct Counts {
+pub struct KeptCounts {
     pub objects: usize,
     pub collected: usize,
     pub rows: usize,
@@ -115,18 +122,18 @@ pub struct Counts {
 
 // Every column behind its count is zero.
 pub fn clear(
-    states: &mut [[u32; 2]; 1024],
-    collected: &mut [[u32; 14]],
+    states: &mut States,
+    collected: &mut [CollectedRow],
     collected_values: &mut [f64],
-    rows: &mut [[u32; 6]],
+    rows: &mut [AttributeRow],
     bases: &mut [f64],
     values: &mut [f64],
-    entries: &mut [[u32; 11]],
+    entries: &mut [EntryRow],
     entry_values: &mut [f64],
-    plain: &mut [[u32; 2]],
-    sources: &mut [[u32; 10]],
-    source_values: &mut [[f64; 2]],
-    counts: Counts,
+    plain: &mut [PlainRow],
+    sources: &mut [SourceRow],
+    source_values: &mut [SourceFloats],
+    counts: KeptCounts,
 )
     ensures { λ _. ⌜ now (collected .exit) ≡ cleared (replicate 14 0) (counts .collected) (now (collected .entry)) ⌝ }
     ensures { λ _. ⌜ now («collected_values» .exit) ≡ cleared zeroF (counts .collected) (now («collected_values» .entry)) ⌝ }
@@ -141,15 +148,15 @@ pub fn clear(
     ensures { λ _. ⌜ now (states .exit) ≡ cleared (replicate 2 0) (counts .objects) (now (states .entry)) ⌝ }
     ensures { λ _. ⌜ length (now (states .entry)) ≡ 1024 ⌝ }
 {
-    zero_14(collected, counts.collected);
-    zero_floats(collected_values, counts.collected);
-    zero_6(rows, counts.rows);
-    zero_floats(bases, counts.rows);
-    zero_floats(values, counts.rows);
-    zero_11(entries, counts.entries);
-    zero_floats(entry_values, counts.entries);
-    zero_2(plain, counts.plain);
-    zero_10(sources, counts.sources);
-    zero_pairs(source_values, counts.sources);
+    zero_collected(collected, counts.collected);
+    zero_values(collected_values, counts.collected);
+    zero_rows(rows, counts.rows);
+    zero_values(bases, counts.rows);
+    zero_values(values, counts.rows);
+    zero_entries(entries, counts.entries);
+    zero_values(entry_values, counts.entries);
+    zero_plain(plain, counts.plain);
+    zero_sources(sources, counts.sources);
+    zero_source_values(source_values, counts.sources);
     zero_states(states, counts.objects);
 }

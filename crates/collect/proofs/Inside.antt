@@ -22,7 +22,7 @@ use Rattle.rules.proofs.Verdicts.{effects-good, buff-collections-good, each-obj
 use Rattle.info.specs.Sound.{SoundBook, SoundFit, Based}
 use Rattle.info.proofs.Elements.{modifiers-length, objects-length, ids-length}
 use Rattle.info.proofs.Bases.{based}
-use Rattle.collect.specs.Stands.{Stands}
+use Rattle.collect.specs.OfFit.{OfFit}
 
 module _ {A : Type 0} (p q : A → Bool) where
   pick : (t : Bool) (y x : A) (o : Option A) → orElse t y o ≡ some x → q y ≡ true → (o ≡ some x → q x ≡ true) → q x ≡ true
@@ -86,7 +86,7 @@ module _ (f : Fit) (o : Item) where
   unfolding objectGood
   in-ids e = last-two before-ids (inside (o .«first_ability») (o .abilities) (length (f .ids))) (inside (o .«first_side_effect») (o .«side_effects») (length (f .ids))) e
 
-module _ (b : List ℕ) (pairs : List (List ℕ)) (s : SoundFit b pairs) (o : Item) (n : Stands (fitOf b pairs) o) where
+module _ (b : List ℕ) (pairs : List (List ℕ)) (s : SoundFit b pairs) (o : Item) (n : OfFit (fitOf b pairs) o) where
   abbrev f : Fit
   f = fitOf b pairs
 

@@ -1,5 +1,7 @@
 // Projected buffs.
 use super::collecting::collect_modifiers;
+use columns::CollectedRow;
+use columns::TablePairs;
 use info::header::count_of;
 use info::look_ups::FoundCollection;
 use info::look_ups::get_dbuff_collection;
@@ -7,8 +9,8 @@ use info::records::projected_buff;
 use modifier::causes::Cause;
 use modifier::codes::OperationTest;
 use modifier::codes::get_effect_operator;
+use modifier::moves::CollectedRooms;
 use modifier::moves::Counted;
-use modifier::moves::Rooms;
 use rules::DbuffCollection;
 use rules::ProjectedBuff;
 ghost use mathlib.Core.Path.{_≡_};
@@ -25,11 +27,11 @@ ghost use Rattle.modifier.specs.Ran.{Lent, at, ran, standOf};
 
 // A buff whose collection was found: operation before any modifier.
 pub fn collect_collection(
-    c: &mut [[u32; 14]],
+    c: &mut [CollectedRow],
     v: &mut [f64],
     book: &[u8],
-    pairs: &[[u32; 2]; 10],
-    rooms: Rooms,
+    pairs: &TablePairs,
+    rooms: CollectedRooms,
     n: usize,
     p: usize,
     b: ProjectedBuff,
@@ -64,11 +66,11 @@ pub fn collect_collection(
 
 // A buff; one without a collection is passed over.
 fn collect_buff(
-    c: &mut [[u32; 14]],
+    c: &mut [CollectedRow],
     v: &mut [f64],
     book: &[u8],
-    pairs: &[[u32; 2]; 10],
-    rooms: Rooms,
+    pairs: &TablePairs,
+    rooms: CollectedRooms,
     n: usize,
     p: usize,
     b: ProjectedBuff,
@@ -86,12 +88,12 @@ fn collect_buff(
 
 // All buffs of the fit, in order.
 pub fn collect_buffs(
-    c: &mut [[u32; 14]],
+    c: &mut [CollectedRow],
     v: &mut [f64],
     book: &[u8],
     fit: &[u8],
-    pairs: &[[u32; 2]; 10],
-    rooms: Rooms,
+    pairs: &TablePairs,
+    rooms: CollectedRooms,
     n: usize,
     p: usize,
 ) -> Counted

@@ -1,10 +1,12 @@
 // The modifiers of an effect or a buff, in order.
+use columns::CollectedRow;
+use columns::TablePairs;
 use info::little_endian::index;
 use info::records::modifier;
 use modifier::causes::Cause;
 use modifier::causes::move_of;
+use modifier::moves::CollectedRooms;
 use modifier::moves::Counted;
-use modifier::moves::Rooms;
 use modifier::moves::put;
 ghost use mathlib.Core.Path.{_≡_};
 ghost use mathlib.Core.List.{List};
@@ -17,11 +19,11 @@ ghost use Rattle.modifier.specs.Causes.{CauseOf, causeMoves};
 ghost use Rattle.modifier.specs.Ran.{Lent, at, ran, standOf};
 
 pub fn collect_modifiers(
-    c: &mut [[u32; 14]],
+    c: &mut [CollectedRow],
     v: &mut [f64],
     book: &[u8],
-    pairs: &[[u32; 2]; 10],
-    rooms: Rooms,
+    pairs: &TablePairs,
+    rooms: CollectedRooms,
     n: usize,
     p: usize,
     cause: Cause,

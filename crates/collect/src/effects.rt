@@ -1,8 +1,10 @@
 // The effects of an object: its type's own, then its base's (pass_2.rs, the inside of collection).
 use super::collecting::collect_modifiers;
 use super::uses::is_used;
+use columns::CollectedRow;
+use columns::TablePairs;
 use info::look_ups::FoundEffect;
-use info::look_ups::Run;
+use info::look_ups::TypeEffects;
 use info::look_ups::get_dogma_effect;
 use info::look_ups::get_dogma_effects;
 use info::records::type_effect;
@@ -12,8 +14,8 @@ use item::kinds::mutated;
 use item::states::category_on;
 use modifier::causes::Cause;
 use modifier::codes::Owner;
+use modifier::moves::CollectedRooms;
 use modifier::moves::Counted;
-use modifier::moves::Rooms;
 use modifier::moves::push_plain;
 use rules::DogmaEffect;
 use rules::Refusal;
@@ -27,19 +29,19 @@ ghost use Rattle.rules.specs.Sheet.{bookOf, fitOf};
 ghost use Rattle.rules.specs.Collect.{foundMoves, effectMoves, ownMoves};
 ghost use Rattle.info.specs.Sound.{HeldBook, SoundBook, SoundFit};
 ghost use Rattle.modifier.specs.Tests.{OwnerOf};
-ghost use Rattle.collect.specs.Stands.{Stands};
+ghost use Rattle.collect.specs.OfFit.{OfFit};
 ghost use Rattle.modifier.specs.Ran.{AllLent, at, ran, standOf};
 ghost use Rattle.collect.specs.New.{newMoves};
 
 // The category is tested for every effect found. An effect with no modifiers goes to the plain list.
 fn collect_found(
-    c: &mut [[u32; 14]],
+    c: &mut [CollectedRow],
     v: &mut [f64],
     l: &mut [[u32; 2]],
     book: &[u8],
     fit: &[u8],
-    pairs: &[[u32; 2]; 10],
-    rooms: Rooms,
+    pairs: &TablePairs,
+    rooms: CollectedRooms,
     n: usize,
     p: usize,
     w: Owner,
@@ -49,7 +51,7 @@ fn collect_found(
     requires { ⌜ AllLent rooms (now c) (now v) (now l) ⌝ }
     requires { ⌜ HeldBook (now book) (now pairs) ⌝ }
     requires { ⌜ SoundFit (now fit) (now pairs) ⌝ }
-    requires { ⌜ Stands (fitOf (now fit) (now pairs)) (w .item) ⌝ }
+    requires { ⌜ OfFit (fitOf (now fit) (now pairs)) (w .item) ⌝ }
     requires { ⌜ OwnerOf (fitOf (now fit) (now pairs)) w ⌝ }
     requires { ⌜ e .«first_modifier» + e .modifiers ≤ countOf (now pairs) 3 ⌝ }
     ensures { λ r. ⌜ standOf r (now (c .exit)) (now (v .exit)) (now (l .exit)) ≡ ran rooms (foundMoves (bookOf (now (book .entry)) (now (pairs .entry))) (fitOf (now (fit .entry)) (now (pairs .entry))) (w .item) t e) (at n p (now (c .entry)) (now (v .entry)) (now (l .entry))) ⌝ }
@@ -86,13 +88,13 @@ fn collect_found(
 
 // A missing effect is passed over.
 fn collect_effect(
-    c: &mut [[u32; 14]],
+    c: &mut [CollectedRow],
     v: &mut [f64],
     l: &mut [[u32; 2]],
     book: &[u8],
     fit: &[u8],
-    pairs: &[[u32; 2]; 10],
-    rooms: Rooms,
+    pairs: &TablePairs,
+    rooms: CollectedRooms,
     n: usize,
     p: usize,
     w: Owner,
@@ -101,7 +103,7 @@ fn collect_effect(
     requires { ⌜ AllLent rooms (now c) (now v) (now l) ⌝ }
     requires { ⌜ SoundBook (now book) (now pairs) ⌝ }
     requires { ⌜ SoundFit (now fit) (now pairs) ⌝ }
-    requires { ⌜ Stands (fitOf (now fit) (now pairs)) (w .item) ⌝ }
+    requires { ⌜ OfFit (fitOf (now fit) (now pairs)) (w .item) ⌝ }
     requires { ⌜ OwnerOf (fitOf (now fit) (now pairs)) w ⌝ }
     ensures { λ r. ⌜ standOf r (now (c .exit)) (now (v .exit)) (now (l .exit)) ≡ ran rooms (effectMoves (bookOf (now (book .entry)) (now (pairs .entry))) (fitOf (now (fit .entry)) (now (pairs .entry))) (w .item) t) (at n p (now (c .entry)) (now (v .entry)) (now (l .entry))) ⌝ }
 {
@@ -114,23 +116,23 @@ fn collect_effect(
 
 // An effect that is not among the type's own.
 fn collect_new(
-    c: &mut [[u32; 14]],
+    c: &mut [CollectedRow],
     v: &mut [f64],
     l: &mut [[u32; 2]],
     book: &[u8],
     fit: &[u8],
-    pairs: &[[u32; 2]; 10],
-    rooms: Rooms,
+    pairs: &TablePairs,
+    rooms: CollectedRooms,
     n: usize,
     p: usize,
     w: Owner,
     t: TypeDogmaEffect,
-    own: Run,
+    own: TypeEffects,
 ) -> Counted
     requires { ⌜ AllLent rooms (now c) (now v) (now l) ⌝ }
     requires { ⌜ SoundBook (now book) (now pairs) ⌝ }
     requires { ⌜ SoundFit (now fit) (now pairs) ⌝ }
-    requires { ⌜ Stands (fitOf (now fit) (now pairs)) (w .item) ⌝ }
+    requires { ⌜ OfFit (fitOf (now fit) (now pairs)) (w .item) ⌝ }
     requires { ⌜ OwnerOf (fitOf (now fit) (now pairs)) w ⌝ }
     requires { ⌜ own .first + own .count ≤ countOf (now pairs) 4 ⌝ }
     ensures { λ r. ⌜ standOf r (now (c .exit)) (now (v .exit)) (now (l .exit)) ≡ ran rooms (newMoves (bookOf (now (book .entry)) (now (pairs .entry))) (fitOf (now (fit .entry)) (now (pairs .entry))) (w .item) (span (own .first) (own .count) (bookOf (now (book .entry)) (now (pairs .entry)) .typeEffects)) t) (at n p (now (c .entry)) (now (v .entry)) (now (l .entry))) ⌝ }
@@ -143,23 +145,23 @@ fn collect_new(
 
 // A run of type effects, but for those that are among the type's own.
 fn collect_run(
-    c: &mut [[u32; 14]],
+    c: &mut [CollectedRow],
     v: &mut [f64],
     l: &mut [[u32; 2]],
     book: &[u8],
     fit: &[u8],
-    pairs: &[[u32; 2]; 10],
-    rooms: Rooms,
+    pairs: &TablePairs,
+    rooms: CollectedRooms,
     n: usize,
     p: usize,
     w: Owner,
-    run: Run,
-    own: Run,
+    run: TypeEffects,
+    own: TypeEffects,
 ) -> Counted
     requires { ⌜ AllLent rooms (now c) (now v) (now l) ⌝ }
     requires { ⌜ SoundBook (now book) (now pairs) ⌝ }
     requires { ⌜ SoundFit (now fit) (now pairs) ⌝ }
-    requires { ⌜ Stands (fitOf (now fit) (now pairs)) (w .item) ⌝ }
+    requires { ⌜ OfFit (fitOf (now fit) (now pairs)) (w .item) ⌝ }
     requires { ⌜ OwnerOf (fitOf (now fit) (now pairs)) w ⌝ }
     requires { ⌜ run .first + run .count ≤ countOf (now pairs) 4 ⌝ }
     requires { ⌜ own .first + own .count ≤ countOf (now pairs) 4 ⌝ }
@@ -186,13 +188,13 @@ fn collect_run(
 
 // Own type effects first, then base effects whose id the type lacks.
 pub fn collect_effects(
-    c: &mut [[u32; 14]],
+    c: &mut [CollectedRow],
     v: &mut [f64],
     l: &mut [[u32; 2]],
     book: &[u8],
     fit: &[u8],
-    pairs: &[[u32; 2]; 10],
-    rooms: Rooms,
+    pairs: &TablePairs,
+    rooms: CollectedRooms,
     n: usize,
     p: usize,
     w: Owner,
@@ -200,13 +202,13 @@ pub fn collect_effects(
     requires { ⌜ AllLent rooms (now c) (now v) (now l) ⌝ }
     requires { ⌜ SoundBook (now book) (now pairs) ⌝ }
     requires { ⌜ SoundFit (now fit) (now pairs) ⌝ }
-    requires { ⌜ Stands (fitOf (now fit) (now pairs)) (w .item) ⌝ }
+    requires { ⌜ OfFit (fitOf (now fit) (now pairs)) (w .item) ⌝ }
     requires { ⌜ OwnerOf (fitOf (now fit) (now pairs)) w ⌝ }
     ensures { λ r. ⌜ standOf r (now (c .exit)) (now (v .exit)) (now (l .exit)) ≡ ran rooms (ownMoves (bookOf (now (book .entry)) (now (pairs .entry))) (fitOf (now (fit .entry)) (now (pairs .entry))) (w .item)) (at n p (now (c .entry)) (now (v .entry)) (now (l .entry))) ⌝ }
 {
     let o = w.item;
     let own = get_dogma_effects(book, pairs, o.type_id);
-    let none = Run { first: 0, count: 0 };
+    let none = TypeEffects { first: 0, count: 0 };
     let got = collect_run(c, v, l, book, fit, pairs, rooms, n, p, w, own, none);
     if !mutated(o) {
         return got;

@@ -6,14 +6,16 @@ use super::effects::collect_effects;
 use super::owners::hull_of;
 use super::owners::owner_of;
 use super::projected::collect_projected;
+use columns::CollectedRow;
+use columns::TablePairs;
 use info::header::count_of;
 use info::records::object;
 use item::kinds::is_charge;
 use item::kinds::is_item;
 use item::kinds::is_projected;
 use item::kinds::is_skill;
+use modifier::moves::CollectedRooms;
 use modifier::moves::Counted;
-use modifier::moves::Rooms;
 use rules::CHAR;
 use rules::Item;
 use states::is_passed_over;
@@ -25,7 +27,7 @@ ghost use Rattle.rules.specs.Sheet.{bookOf, fitOf};
 ghost use Rattle.rules.specs.Collect.{moves};
 ghost use Rattle.rules.specs.Outcome as outcome;
 ghost use Rattle.info.specs.Sound.{SoundBook, SoundFit};
-ghost use Rattle.collect.specs.Stands.{Stands};
+ghost use Rattle.collect.specs.OfFit.{OfFit};
 ghost use Rattle.modifier.specs.Ran.{AllLent, at, ran, standOf, ended};
 ghost use Rattle.collect.specs.Parts.{HullOf, inPhase, objectMoves, allOf, restOf};
 
@@ -43,13 +45,13 @@ fn in_phase(phase: Phase, o: Item) -> bool
 
 // One object in a phase. An item that is passed over gives nothing, and its charge neither.
 fn collect_object(
-    c: &mut [[u32; 14]],
+    c: &mut [CollectedRow],
     v: &mut [f64],
     l: &mut [[u32; 2]],
     book: &[u8],
     fit: &[u8],
-    pairs: &[[u32; 2]; 10],
-    rooms: Rooms,
+    pairs: &TablePairs,
+    rooms: CollectedRooms,
     n: usize,
     p: usize,
     hull: Hull,
@@ -60,7 +62,7 @@ fn collect_object(
     requires { ⌜ SoundBook (now book) (now pairs) ⌝ }
     requires { ⌜ SoundFit (now fit) (now pairs) ⌝ }
     requires { ⌜ HullOf (bookOf (now book) (now pairs)) (fitOf (now fit) (now pairs)) hull ⌝ }
-    requires { ⌜ Stands (fitOf (now fit) (now pairs)) o ⌝ }
+    requires { ⌜ OfFit (fitOf (now fit) (now pairs)) o ⌝ }
     ensures { λ r. ⌜ standOf r (now (c .exit)) (now (v .exit)) (now (l .exit)) ≡ ran rooms (objectMoves (bookOf (now (book .entry)) (now (pairs .entry))) (fitOf (now (fit .entry)) (now (pairs .entry))) phase o) (at n p (now (c .entry)) (now (v .entry)) (now (l .entry))) ⌝ }
 {
     let inside = in_phase(phase, o);
@@ -81,13 +83,13 @@ fn collect_object(
 
 // All objects of a phase, in order.
 fn collect_objects(
-    c: &mut [[u32; 14]],
+    c: &mut [CollectedRow],
     v: &mut [f64],
     l: &mut [[u32; 2]],
     book: &[u8],
     fit: &[u8],
-    pairs: &[[u32; 2]; 10],
-    rooms: Rooms,
+    pairs: &TablePairs,
+    rooms: CollectedRooms,
     n: usize,
     p: usize,
     hull: Hull,
@@ -120,13 +122,13 @@ fn collect_objects(
 
 // Two phases, one after the other.
 fn collect_phases(
-    c: &mut [[u32; 14]],
+    c: &mut [CollectedRow],
     v: &mut [f64],
     l: &mut [[u32; 2]],
     book: &[u8],
     fit: &[u8],
-    pairs: &[[u32; 2]; 10],
-    rooms: Rooms,
+    pairs: &TablePairs,
+    rooms: CollectedRooms,
     n: usize,
     p: usize,
     hull: Hull,
@@ -148,13 +150,13 @@ fn collect_phases(
 
 // The buffs, items each with its charge, and skills.
 fn collect_rest(
-    c: &mut [[u32; 14]],
+    c: &mut [CollectedRow],
     v: &mut [f64],
     l: &mut [[u32; 2]],
     book: &[u8],
     fit: &[u8],
-    pairs: &[[u32; 2]; 10],
-    rooms: Rooms,
+    pairs: &TablePairs,
+    rooms: CollectedRooms,
     n: usize,
     p: usize,
     hull: Hull,
@@ -178,12 +180,12 @@ fn collect_rest(
 
 // Collection of a sound sheet into lists 1 and 4. After a refusal the columns may hold anything: who lent them clears them.
 pub fn collect(
-    c: &mut [[u32; 14]],
+    c: &mut [CollectedRow],
     v: &mut [f64],
     l: &mut [[u32; 2]],
     book: &[u8],
     fit: &[u8],
-    pairs: &[[u32; 2]; 10],
+    pairs: &TablePairs,
     room: usize,
     room_plain: usize,
 ) -> Counted
@@ -193,7 +195,7 @@ pub fn collect(
     requires { ⌜ SoundFit (now fit) (now pairs) ⌝ }
     ensures { λ r. ⌜ ((q : outcome.Rooms) → q .collected ≡ room → q .plain ≡ «room_plain» → standOf r (now (c .exit)) (now (v .exit)) (now (l .exit)) ≡ ended (outcome.collected q 0 0 (moves (bookOf (now (book .entry)) (now (pairs .entry))) (fitOf (now (fit .entry)) (now (pairs .entry))))) (moves (bookOf (now (book .entry)) (now (pairs .entry))) (fitOf (now (fit .entry)) (now (pairs .entry)))) (now (c .entry)) (now (v .entry)) (now (l .entry))) ⌝ }
 {
-    let rooms = Rooms {
+    let rooms = CollectedRooms {
         collected: room,
         plain: room_plain,
     };

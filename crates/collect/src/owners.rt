@@ -1,5 +1,6 @@
 // An object with what of the fit its modifiers go by.
 use super::Hull;
+use columns::TablePairs;
 use info::header::count_of;
 use info::little_endian::index;
 use info::records::object;
@@ -19,10 +20,10 @@ ghost use Rattle.rules.specs.Item as items;
 ghost use Rattle.rules.specs.Item.{isItem, isCharge};
 ghost use Rattle.info.specs.Sound.{HeldFit, SoundFit};
 ghost use Rattle.modifier.specs.Tests.{OwnerOf};
-ghost use Rattle.collect.specs.Stands.{Stands};
+ghost use Rattle.collect.specs.OfFit.{OfFit};
 ghost use Rattle.collect.specs.Parts.{HullOf};
 
-pub fn hull_of(book: &[u8], fit: &[u8], pairs: &[[u32; 2]; 10]) -> Hull
+pub fn hull_of(book: &[u8], fit: &[u8], pairs: &TablePairs) -> Hull
     requires { ⌜ 100 ≤ length (now book) ⌝ }
     requires { ⌜ SoundFit (now fit) (now pairs) ⌝ }
     ensures { λ r. ⌜ HullOf (bookOf (now (book .entry)) (now (pairs .entry))) (fitOf (now (fit .entry)) (now (pairs .entry))) r ⌝ }
@@ -38,7 +39,7 @@ pub fn hull_of(book: &[u8], fit: &[u8], pairs: &[[u32; 2]; 10]) -> Hull
 }
 
 // Whether a charge stands right after an object.
-fn is_charged(fit: &[u8], pairs: &[[u32; 2]; 10], number: u32) -> bool
+fn is_charged(fit: &[u8], pairs: &TablePairs, number: u32) -> bool
     requires { ⌜ HeldFit (now fit) (now pairs) ⌝ }
     ensures { λ r. ⌜ r ≡ isCharge (items.object (fitOf (now (fit .entry)) (now (pairs .entry))) (suc number)) ⌝ }
 {
@@ -64,9 +65,9 @@ fn beside(o: Item) -> u32
     o.number - 1
 }
 
-pub fn owner_of(fit: &[u8], pairs: &[[u32; 2]; 10], hull: Hull, o: Item) -> Owner
+pub fn owner_of(fit: &[u8], pairs: &TablePairs, hull: Hull, o: Item) -> Owner
     requires { ⌜ HeldFit (now fit) (now pairs) ⌝ }
-    requires { ⌜ Stands (fitOf (now fit) (now pairs)) o ⌝ }
+    requires { ⌜ OfFit (fitOf (now fit) (now pairs)) o ⌝ }
     ensures { λ r. ⌜ ((k : Book) → HullOf k (fitOf (now (fit .entry)) (now (pairs .entry))) hull → OwnerOf (fitOf (now (fit .entry)) (now (pairs .entry))) r) × (r .item ≡ o) ⌝ }
 {
     let charged = is_charged(fit, pairs, o.number);

@@ -1,5 +1,7 @@
 // Projected objects.
 use super::collecting::collect_modifiers;
+use columns::CollectedRow;
+use columns::TablePairs;
 use info::look_ups::FoundBase;
 use info::look_ups::FoundEffect;
 use info::look_ups::get_base;
@@ -8,8 +10,8 @@ use item::CategoryFound;
 use item::codes::category_at;
 use modifier::causes::Cause;
 use modifier::codes::Owner;
+use modifier::moves::CollectedRooms;
 use modifier::moves::Counted;
-use modifier::moves::Rooms;
 use numbers::integers::cut;
 use rules::ATTRIBUTE_REMOTE_RESISTANCE_ID;
 use rules::DogmaEffect;
@@ -28,7 +30,7 @@ ghost use Rattle.info.specs.Sound.{HeldBook, HeldFit, SoundBook, SoundFit, Base
 ghost use Rattle.modifier.specs.Tests.{OwnerOf};
 ghost use Rattle.modifier.specs.Causes.{resistanceOf};
 ghost use Rattle.modifier.specs.Ran.{Lent, at, ran, standOf};
-ghost use Rattle.collect.specs.Stands.{Stands};
+ghost use Rattle.collect.specs.OfFit.{OfFit};
 
 // 0 is none.
 fn unless_zero(id: i32, other: OptionalId) -> OptionalId
@@ -41,7 +43,7 @@ fn unless_zero(id: i32, other: OptionalId) -> OptionalId
 }
 
 // The resistance that attribute 2138 names.
-fn named_resistance(fit: &[u8], pairs: &[[u32; 2]; 10], o: Item) -> i32
+fn named_resistance(fit: &[u8], pairs: &TablePairs, o: Item) -> i32
     requires { ⌜ HeldFit (now fit) (now pairs) ⌝ }
     requires { ⌜ Based (fitOf (now fit) (now pairs)) o ⌝ }
     ensures { λ r. ⌜ r ≡ named (fitOf (now (fit .entry)) (now (pairs .entry))) o ⌝ }
@@ -54,7 +56,7 @@ fn named_resistance(fit: &[u8], pairs: &[[u32; 2]; 10], o: Item) -> i32
 }
 
 // Attribute 2138 names it, or else the effect does.
-fn get_resistance(fit: &[u8], pairs: &[[u32; 2]; 10], o: Item, e: DogmaEffect) -> OptionalId
+fn get_resistance(fit: &[u8], pairs: &TablePairs, o: Item, e: DogmaEffect) -> OptionalId
     requires { ⌜ HeldFit (now fit) (now pairs) ⌝ }
     requires { ⌜ Based (fitOf (now fit) (now pairs)) o ⌝ }
     ensures { λ r. ⌜ r ≡ resistanceOf (fitOf (now (fit .entry)) (now (pairs .entry))) o e ⌝ }
@@ -67,11 +69,11 @@ fn get_resistance(fit: &[u8], pairs: &[[u32; 2]; 10], o: Item, e: DogmaEffect) -
 
 // A projected effect that was found, against the resistance that it meets.
 pub fn collect_projected_effect(
-    c: &mut [[u32; 14]],
+    c: &mut [CollectedRow],
     v: &mut [f64],
     book: &[u8],
-    pairs: &[[u32; 2]; 10],
-    rooms: Rooms,
+    pairs: &TablePairs,
+    rooms: CollectedRooms,
     n: usize,
     p: usize,
     w: Owner,
@@ -106,12 +108,12 @@ pub fn collect_projected_effect(
 
 // A projected object's one effect; a missing one is passed over.
 pub fn collect_projected(
-    c: &mut [[u32; 14]],
+    c: &mut [CollectedRow],
     v: &mut [f64],
     book: &[u8],
     fit: &[u8],
-    pairs: &[[u32; 2]; 10],
-    rooms: Rooms,
+    pairs: &TablePairs,
+    rooms: CollectedRooms,
     n: usize,
     p: usize,
     w: Owner,
@@ -119,7 +121,7 @@ pub fn collect_projected(
     requires { ⌜ Lent rooms (now c) (now v) ⌝ }
     requires { ⌜ SoundBook (now book) (now pairs) ⌝ }
     requires { ⌜ SoundFit (now fit) (now pairs) ⌝ }
-    requires { ⌜ Stands (fitOf (now fit) (now pairs)) (w .item) ⌝ }
+    requires { ⌜ OfFit (fitOf (now fit) (now pairs)) (w .item) ⌝ }
     requires { ⌜ OwnerOf (fitOf (now fit) (now pairs)) w ⌝ }
     ensures { λ r. ⌜ ((l : List (List ℕ)) → standOf r (now (c .exit)) (now (v .exit)) l ≡ ran rooms (projectedMoves (bookOf (now (book .entry)) (now (pairs .entry))) (fitOf (now (fit .entry)) (now (pairs .entry))) (w .item)) (at n p (now (c .entry)) (now (v .entry)) l)) ⌝ }
 {

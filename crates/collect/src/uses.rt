@@ -1,4 +1,5 @@
 // Which of an object's effects are in use (pass_2.rs: abilities and side effects).
+use columns::TablePairs;
 use info::little_endian::index;
 use info::records::id_at;
 use item::kinds::abilities_given;
@@ -19,10 +20,10 @@ ghost use Rattle.rules.specs.Sheet.{Book, fitOf, abilitiesOf, sideEffectsOf};
 ghost use Rattle.rules.specs.Item.{isFighter, isPassive, abilitiesGiven};
 ghost use Rattle.rules.specs.Collect.{inUse};
 ghost use Rattle.info.specs.Sound.{HeldFit, SoundFit};
-ghost use Rattle.collect.specs.Stands.{Stands};
+ghost use Rattle.collect.specs.OfFit.{OfFit};
 
 // Whether an id is among those that an object's record points at.
-fn has_id(fit: &[u8], pairs: &[[u32; 2]; 10], first: u32, count: u32, id: i32) -> bool
+fn has_id(fit: &[u8], pairs: &TablePairs, first: u32, count: u32, id: i32) -> bool
     requires { ⌜ HeldFit (now fit) (now pairs) ⌝ }
     requires { ⌜ first + count ≤ countOf (now pairs) 8 ⌝ }
     ensures { λ r. ⌜ r ≡ some? (eqZ id) (span first count (fitOf (now (fit .entry)) (now (pairs .entry)) .ids)) ⌝ }
@@ -42,14 +43,14 @@ fn has_id(fit: &[u8], pairs: &[[u32; 2]; 10], first: u32, count: u32, id: i32) -
 // A fighter's effect that is not Passive is an ability, and the fit picks which run.
 fn is_able(
     fit: &[u8],
-    pairs: &[[u32; 2]; 10],
+    pairs: &TablePairs,
     o: Item,
     id: i32,
     default: u32,
     category: EffectCategory,
 ) -> bool
     requires { ⌜ SoundFit (now fit) (now pairs) ⌝ }
-    requires { ⌜ Stands (fitOf (now fit) (now pairs)) o ⌝ }
+    requires { ⌜ OfFit (fitOf (now fit) (now pairs)) o ⌝ }
     ensures { λ r. ⌜ r ≡ (not (isFighter o && not (isPassive category)) || cond (abilitiesGiven o) (some? (eqZ id) (abilitiesOf (fitOf (now (fit .entry)) (now (pairs .entry))) o)) (eqb default 1)) ⌝ }
 {
     if is_fighter(o) & !is_passive(category) {
@@ -62,9 +63,9 @@ fn is_able(
 }
 
 // A side effect is one that the fit names.
-fn is_taken(fit: &[u8], pairs: &[[u32; 2]; 10], o: Item, e: DogmaEffect) -> bool
+fn is_taken(fit: &[u8], pairs: &TablePairs, o: Item, e: DogmaEffect) -> bool
     requires { ⌜ SoundFit (now fit) (now pairs) ⌝ }
-    requires { ⌜ Stands (fitOf (now fit) (now pairs)) o ⌝ }
+    requires { ⌜ OfFit (fitOf (now fit) (now pairs)) o ⌝ }
     ensures { λ r. ⌜ r ≡ (eqZ (e .«usage_chance_attribute_id») (pos 0) || some? (eqZ (e .id)) (sideEffectsOf (fitOf (now (fit .entry)) (now (pairs .entry))) o)) ⌝ }
 {
     if e.usage_chance_attribute_id == 0 {
@@ -76,14 +77,14 @@ fn is_taken(fit: &[u8], pairs: &[[u32; 2]; 10], o: Item, e: DogmaEffect) -> bool
 // Whether an object's effect is in use at all.
 pub fn is_used(
     fit: &[u8],
-    pairs: &[[u32; 2]; 10],
+    pairs: &TablePairs,
     o: Item,
     e: DogmaEffect,
     t: TypeDogmaEffect,
     category: EffectCategory,
 ) -> bool
     requires { ⌜ SoundFit (now fit) (now pairs) ⌝ }
-    requires { ⌜ Stands (fitOf (now fit) (now pairs)) o ⌝ }
+    requires { ⌜ OfFit (fitOf (now fit) (now pairs)) o ⌝ }
     ensures { λ r. ⌜ ((k : Book) → r ≡ inUse k (fitOf (now (fit .entry)) (now (pairs .entry))) o e t category) ⌝ }
 {
     is_able(fit, pairs, o, e.id, t.is_default, category) & is_taken(fit, pairs, o, e)

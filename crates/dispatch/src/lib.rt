@@ -1,4 +1,8 @@
 // Dispatch (pass_2.rs, second half): the rows and entries of all objects, or the list that is full first.
+use columns::AttributeRow;
+use columns::CollectedRow;
+use columns::EntryRow;
+use columns::TablePairs;
 use hits::places::set_hits;
 use room::full_at;
 use rows::object_lists::all_lists;
@@ -24,15 +28,15 @@ pub enum Dispatched {
 
 // The rows and entries of n collected effects. Where a list is full, the columns may hold anything.
 pub fn dispatch(
-    rows: &mut [[u32; 6]],
+    rows: &mut [AttributeRow],
     bases: &mut [f64],
-    entries: &mut [[u32; 11]],
+    entries: &mut [EntryRow],
     values: &mut [f64],
-    collected: &[[u32; 14]],
+    collected: &[CollectedRow],
     collected_values: &[f64],
     book: &[u8],
     fit: &[u8],
-    pairs: &[[u32; 2]; 10],
+    pairs: &TablePairs,
     n: usize,
     room: usize,
     room_entries: usize,

@@ -1,4 +1,6 @@
 // Room: how many rows stand before any collection, and the list that the hit past the room of entries finds full.
+use columns::AttributeRow;
+use columns::TablePairs;
 use info::header::count_of;
 use info::little_endian::index;
 use info::records::object;
@@ -14,7 +16,7 @@ ghost use Rattle.info.specs.Sound.{SoundFit};
 ghost use Rattle.dispatch.specs.Keyed.{isRow};
 
 // How many base attributes all objects have: the rows that stand before any collection.
-pub fn base_total(fit: &[u8], pairs: &[[u32; 2]; 10]) -> usize
+pub fn base_total(fit: &[u8], pairs: &TablePairs) -> usize
     requires { ⌜ SoundFit (now fit) (now pairs) ⌝ }
     ensures { λ r. ⌜ r ≡ length (baseKeys (fitOf (now (fit .entry)) (now (pairs .entry)))) ⌝ }
 {
@@ -31,7 +33,7 @@ pub fn base_total(fit: &[u8], pairs: &[[u32; 2]; 10]) -> usize
 }
 
 // Whether an attribute of an object has a row among the first n.
-fn has_row(rows: &[[u32; 6]], n: usize, object: u32, attribute: u32) -> bool
+fn has_row(rows: &[AttributeRow], n: usize, object: u32, attribute: u32) -> bool
     requires { ⌜ n ≤ length (now rows) ⌝ }
     ensures { λ r. ⌜ r ≡ some? (isRow object attribute) (take n (now (rows .entry))) ⌝ }
 {
@@ -47,7 +49,7 @@ fn has_row(rows: &[[u32; 6]], n: usize, object: u32, attribute: u32) -> bool
 }
 
 // The list that the hit past the room of entries finds full, where n rows stand: it takes its row first.
-pub fn full_at(rows: &[[u32; 6]], past: [u32; 2], n: usize, room: usize) -> u32
+pub fn full_at(rows: &[AttributeRow], past: [u32; 2], n: usize, room: usize) -> u32
     requires { ⌜ n ≤ length (now rows) ⌝ }
     ensures { λ r. ⌜ r ≡ cond (eqb n room && not (some? (isRow (getD past 0 0) (getD past 1 0)) (take n (now (rows .entry))))) 2 3 ⌝ }
 {

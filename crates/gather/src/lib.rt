@@ -1,4 +1,6 @@
 // What one operator gathers of a row's entries, entry by entry (pass_3.rs).
+use columns::SourceFloats;
+use columns::SourceRow;
 use numbers::less;
 use numbers::simplified;
 use operate::Running;
@@ -12,7 +14,7 @@ use rules::EffectOperator;
 use rules::Refusal;
 use rules::Step;
 use sources::Noted;
-use sources::Run;
+use sources::Recording;
 use sources::notes::note;
 use sources::notes::note_penalised;
 use sources::rows::to_source;
@@ -200,9 +202,9 @@ fn add_penalised(
     positive_sources: &mut [u32; 8],
     negatives: &mut [f64; 8],
     negative_sources: &mut [u32; 8],
-    sources: &mut [[u32; 10]],
-    floats: &mut [[f64; 2]],
-    run: Run,
+    sources: &mut [SourceRow],
+    floats: &mut [SourceFloats],
+    run: Recording,
     first: u32,
     e: Effect,
     v: f64,
@@ -236,9 +238,9 @@ fn add_penalised(
 
 // An unpenalised entry of strength v, whose simplified value is x.
 fn add_plain(
-    sources: &mut [[u32; 10]],
-    floats: &mut [[f64; 2]],
-    run: Run,
+    sources: &mut [SourceRow],
+    floats: &mut [SourceFloats],
+    run: Recording,
     first: u32,
     high: bool,
     e: Effect,
@@ -265,9 +267,9 @@ fn add_plain(
 
 // An entry that does not run leaves a source row.
 fn add_idle(
-    sources: &mut [[u32; 10]],
-    floats: &mut [[f64; 2]],
-    run: Run,
+    sources: &mut [SourceRow],
+    floats: &mut [SourceFloats],
+    run: Recording,
     first: u32,
     e: Effect,
     v: f64,
@@ -291,9 +293,9 @@ fn add_running(
     positive_sources: &mut [u32; 8],
     negatives: &mut [f64; 8],
     negative_sources: &mut [u32; 8],
-    sources: &mut [[u32; 10]],
-    floats: &mut [[f64; 2]],
-    run: Run,
+    sources: &mut [SourceRow],
+    floats: &mut [SourceFloats],
+    run: Recording,
     first: u32,
     object: u32,
     high: bool,
@@ -339,9 +341,9 @@ pub fn add_entry(
     positive_sources: &mut [u32; 8],
     negatives: &mut [f64; 8],
     negative_sources: &mut [u32; 8],
-    sources: &mut [[u32; 10]],
-    floats: &mut [[f64; 2]],
-    run: Run,
+    sources: &mut [SourceRow],
+    floats: &mut [SourceFloats],
+    run: Recording,
     first: u32,
     object: u32,
     high: bool,

@@ -12,7 +12,7 @@ use lib.Seq.{getD-set-same, getD-set-other}
 use borrow.Author.Tests.{eqb-true, eqb-false}
 use Rattle.rules.specs.Sheet.{Fit}
 use Rattle.rules.specs.Item.{object}
-use Rattle.hits.specs.Reach.{requiredBits, Told}
+use Rattle.hits.specs.Reach.{requiredBits, TableOf}
 use Rattle.hits.specs.Marks.{Marked, Kept, Marking, AllMarked, Wanted}
 
 -- ---- one row
@@ -57,5 +57,5 @@ pub all-marked : {c : List ℕ} {rows : List (List ℕ)} {i n : ℕ} → AllMark
 all-marked A h = record { long = A .long; at = λ j l. A .at j (omega arith) }
 
 -- rows that tell of the objects
-pub wanted-told : {f : Fit} {marks : List ℕ} {rows : List (List ℕ)} {n : ℕ} → AllMarked n marks rows → n ≡ length (f .objects) → Told (requiredBits f) f rows → Wanted f marks
+pub wanted-told : {f : Fit} {marks : List ℕ} {rows : List (List ℕ)} {n : ℕ} → AllMarked n marks rows → n ≡ length (f .objects) → TableOf (requiredBits f) f rows → Wanted f marks
 wanted-told {f} {marks} A e T = record { at = λ i h. subst (Marked 6 marks) (T i h) (A .at i (omega arith)) }

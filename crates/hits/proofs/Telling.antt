@@ -10,7 +10,7 @@ use lib.Seq.{getD-set-same, getD-set-other}
 use Rattle.rules.specs.Sheet.{Fit}
 use Rattle.rules.specs.Item.{object}
 use Rattle.rules.specs.declared.Item.{Item}
-use Rattle.hits.specs.Reach.{Told}
+use Rattle.hits.specs.Reach.{TableOf}
 
 -- i of n rows are told, in a table that was as long before
 pub record Telling (g : Item → List ℕ) (f : Fit) (n : ℕ) (rows₀ rows : List (List ℕ)) (i : ℕ) : Type 0 where
@@ -39,5 +39,5 @@ module _ {g : Item → List ℕ} {f : Fit} {n : ℕ} {rows₀ rows : List (List 
       at j (inl q) = ap (λ (m : ℕ). getD (set rows i row) m []) q ∙ getD-set-same rows i row [] (omega (arith, T .room)) ∙ e ∙ ap (λ (m : ℕ). g (object f m)) (sym q)
       at j (inr q) = getD-set-other rows i j row [] (λ s. lt-irrefl i (subst (λ (m : ℕ). m < i) s q)) ∙ T .told j q
 
-  pub telling-all : n ≤ i → Told g f rows
+  pub telling-all : n ≤ i → TableOf g f rows
   telling-all h j l = T .told j (omega (arith, T .all))

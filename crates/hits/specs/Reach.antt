@@ -48,5 +48,5 @@ reachOf k f o =
     ∷ yes1 (isCharge o || isItem o && isOwnerModifiable o) ∷ 1 ∷ bits (o .«group_id») ∷ []
 
 -- rows of a table that are those of the objects
-abbrev pub Told : (Item → List ℕ) → Fit → List (List ℕ) → Type 0
-Told g f rows = (i : ℕ) → i < length (f .objects) → getD rows i [] ≡ g (object f i)
+abbrev pub TableOf : (Item → List ℕ) → Fit → List (List ℕ) → Type 0
+TableOf g f rows = (i : ℕ) → i < length (f .objects) → getD rows i [] ≡ g (object f i)

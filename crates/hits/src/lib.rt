@@ -1,4 +1,6 @@
 // Whom the collected effects touch (pass_2.rs, second half): the aims of an effect, and the test of an object.
+use columns::CollectedRow;
+use columns::TablePairs;
 use info::little_endian::index;
 use info::records::object;
 use info::standing::Spans;
@@ -149,7 +151,7 @@ fn owned(s: Spans, test: Test) -> Aim
 }
 
 // The bits of the skill that effect j means: -1 is the source's own type; a buff's is 0.
-fn skill_of(collected: &[[u32; 14]], fit: &[u8], pairs: &[[u32; 2]; 10], j: usize) -> u32
+fn skill_of(collected: &[CollectedRow], fit: &[u8], pairs: &TablePairs, j: usize) -> u32
     requires { ⌜ j < length (now collected) ⌝ }
     requires { ⌜ HeldFit (now fit) (now pairs) ⌝ }
     requires { ⌜ Pointing (getD (now collected) j []) (countOf (now pairs) 6) ⌝ }
@@ -168,13 +170,7 @@ fn skill_of(collected: &[[u32; 14]], fit: &[u8], pairs: &[[u32; 2]; 10], j: usiz
 }
 
 // Whom effect j touches first.
-pub fn aim_of(
-    collected: &[[u32; 14]],
-    fit: &[u8],
-    pairs: &[[u32; 2]; 10],
-    s: Spans,
-    j: usize,
-) -> Aim
+pub fn aim_of(collected: &[CollectedRow], fit: &[u8], pairs: &TablePairs, s: Spans, j: usize) -> Aim
     requires { ⌜ j < length (now collected) ⌝ }
     requires { ⌜ SoundFit (now fit) (now pairs) ⌝ }
     requires { ⌜ Pointing (getD (now collected) j []) (countOf (now pairs) 6) ⌝ }
@@ -201,7 +197,7 @@ pub fn aim_of(
 }
 
 // Whom effect j touches then: the char's location has its items last.
-pub fn aim_then(collected: &[[u32; 14]], s: Spans, j: usize) -> Aim
+pub fn aim_then(collected: &[CollectedRow], s: Spans, j: usize) -> Aim
     requires { ⌜ j < length (now collected) ⌝ }
     ensures { λ r. ⌜ ((k : Book) (f : Fit) (t : Pass2Effect) → Stands f s → t .target < length (f .objects) → getD (now (collected .entry)) j [] ≡ collectedNumbers t → Narrow (t .modifier) → Second k f t r) ⌝ }
 {

@@ -1,4 +1,5 @@
 // What of the objects decides who is touched: two tables, a row for each object, read once.
+use columns::TablePairs;
 use info::header::count_of;
 use info::little_endian::index;
 use info::records::base_attribute;
@@ -26,10 +27,10 @@ ghost use Rattle.rules.specs.Item as items;
 ghost use Rattle.rules.specs.Dispatch.{carrier};
 ghost use Rattle.info.specs.Sound.{HeldBook, SoundFit};
 ghost use Rattle.item.specs.Categories.{CategoriesOf};
-ghost use Rattle.hits.specs.Reach.{slotOf, requiredBits, reachOf, Told};
+ghost use Rattle.hits.specs.Reach.{slotOf, requiredBits, reachOf, TableOf};
 
 // The item that an item or a charge goes by: a charge's stands before it.
-fn carrier_of(fit: &[u8], pairs: &[[u32; 2]; 10], i: usize) -> Item
+fn carrier_of(fit: &[u8], pairs: &TablePairs, i: usize) -> Item
     requires { ⌜ SoundFit (now fit) (now pairs) ⌝ }
     requires { ⌜ i < countOf (now pairs) 6 ⌝ }
     ensures { λ r. ⌜ r ≡ carrier (fitOf (now (fit .entry)) (now (pairs .entry))) (items.object (fitOf (now (fit .entry)) (now (pairs .entry))) i) ⌝ }
@@ -62,7 +63,7 @@ fn columns(categories: Categories, o: Item, c: Item) -> [u32; 8]
     ]
 }
 
-pub fn reach_of(book: &[u8], fit: &[u8], pairs: &[[u32; 2]; 10], i: usize) -> [u32; 8]
+pub fn reach_of(book: &[u8], fit: &[u8], pairs: &TablePairs, i: usize) -> [u32; 8]
     requires { ⌜ HeldBook (now book) (now pairs) ⌝ }
     requires { ⌜ SoundFit (now fit) (now pairs) ⌝ }
     requires { ⌜ i < countOf (now pairs) 6 ⌝ }
@@ -93,7 +94,7 @@ fn slot_of(id: i32) -> usize
 }
 
 // The skills that object i requires, fixed from base values.
-pub fn required_skills(fit: &[u8], pairs: &[[u32; 2]; 10], i: usize) -> [u64; 6]
+pub fn required_skills(fit: &[u8], pairs: &TablePairs, i: usize) -> [u64; 6]
     requires { ⌜ SoundFit (now fit) (now pairs) ⌝ }
     requires { ⌜ i < countOf (now pairs) 6 ⌝ }
     ensures { λ r. ⌜ r ≡ requiredBits (fitOf (now (fit .entry)) (now (pairs .entry))) (items.object (fitOf (now (fit .entry)) (now (pairs .entry))) i) ⌝ }
@@ -116,10 +117,10 @@ pub fn required_skills(fit: &[u8], pairs: &[[u32; 2]; 10], i: usize) -> [u64; 6]
 }
 
 // The required skills of all objects, into a table that is lent.
-pub fn skill_table(rows: &mut [[u64; 6]; 1024], fit: &[u8], pairs: &[[u32; 2]; 10])
+pub fn skill_table(rows: &mut [[u64; 6]; 1024], fit: &[u8], pairs: &TablePairs)
     requires { ⌜ SoundFit (now fit) (now pairs) ⌝ }
     requires { ⌜ length (now rows) ≡ 1024 ⌝ }
-    ensures { λ _. ⌜ Told (requiredBits (fitOf (now (fit .entry)) (now (pairs .entry)))) (fitOf (now (fit .entry)) (now (pairs .entry))) (now (rows .exit)) ⌝ }
+    ensures { λ _. ⌜ TableOf (requiredBits (fitOf (now (fit .entry)) (now (pairs .entry)))) (fitOf (now (fit .entry)) (now (pairs .entry))) (now (rows .exit)) ⌝ }
 {
     let objects = count_of(pairs, 6);
     let mut i = 0;
@@ -131,11 +132,11 @@ pub fn skill_table(rows: &mut [[u64; 6]; 1024], fit: &[u8], pairs: &[[u32; 2]; 1
 }
 
 // The columns of all objects, into a table that is lent.
-pub fn reach_table(rows: &mut [[u32; 8]; 1024], book: &[u8], fit: &[u8], pairs: &[[u32; 2]; 10])
+pub fn reach_table(rows: &mut [[u32; 8]; 1024], book: &[u8], fit: &[u8], pairs: &TablePairs)
     requires { ⌜ HeldBook (now book) (now pairs) ⌝ }
     requires { ⌜ SoundFit (now fit) (now pairs) ⌝ }
     requires { ⌜ length (now rows) ≡ 1024 ⌝ }
-    ensures { λ _. ⌜ Told (reachOf (bookOf (now (book .entry)) (now (pairs .entry))) (fitOf (now (fit .entry)) (now (pairs .entry)))) (fitOf (now (fit .entry)) (now (pairs .entry))) (now (rows .exit)) ⌝ }
+    ensures { λ _. ⌜ TableOf (reachOf (bookOf (now (book .entry)) (now (pairs .entry))) (fitOf (now (fit .entry)) (now (pairs .entry)))) (fitOf (now (fit .entry)) (now (pairs .entry))) (now (rows .exit)) ⌝ }
 {
     let objects = count_of(pairs, 6);
     let mut i = 0;

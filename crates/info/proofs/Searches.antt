@@ -50,8 +50,8 @@ module _ (b : List ℕ) (at w n : ℕ) where
 
   module _ (a : ℤ) where
     -- of the places before k those before found have keys that are less than a, and the others have not
-    abbrev pub Counts : ℕ → ℕ → Type 0
-    Counts k found = Counted (lessThan (keyAt b at w) a) (from 0 n) 0 k found
+    abbrev pub CountedBelow : ℕ → ℕ → Type 0
+    CountedBelow k found = Counted (lessThan (keyAt b at w) a) (from 0 n) 0 k found
 
     pub bounds-start : Bounds b at w n a 0 n
     bounds-start = subst (Bounds b at w n a 0) (from-length 0 n) (between-start (lessThan (keyAt b at w) a) (from 0 n) 0)
@@ -88,7 +88,7 @@ module _ (b : List ℕ) (at w n : ℕ) where
           let high = bounds-high h i in
           narrowed (lessThan (keyAt b at w) a) (from 0 n) 0 falls q i m four (stepped q (lo + q - 1) (omega arith) e p) (stepped q (lo + 2 * q - 1) (omega arith) e2 p2) (stepped q (lo + 3 * q - 1) (omega arith) e3 p3)
 
-      pub counts-more : {k found x : ℕ} {t : Bool} → Counts k found → k < n → ltZ (keyAt b at w k) a ≡ t → x ≡ cond t 1 0 → Counts (k + 1) (found + x)
+      pub counts-more : {k found x : ℕ} {t : Bool} → CountedBelow k found → k < n → ltZ (keyAt b at w k) a ≡ t → x ≡ cond t 1 0 → CountedBelow (k + 1) (found + x)
       counts-more {k} c l e p = counted-more (lessThan (keyAt b at w) a) (from 0 n) 0 falls c (rw (from-length 0 n) l) (stepped 1 k l e p)
 
     module _ (h : Keyed b at w n) {lo : ℕ} (bound : Lower b at w n a lo) where

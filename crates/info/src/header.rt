@@ -2,6 +2,7 @@
 use super::little_endian::i32_at;
 use super::little_endian::index;
 use super::little_endian::u32_at;
+use columns::TablePairs;
 ghost use mathlib.Core.Path.{_≡_};
 ghost use Prim.Native.Nat.{_+_, _≤_, _<_, _^_};
 ghost use mathlib.Core.List.{[], _∷_};
@@ -15,7 +16,7 @@ fn pair_at(b: &[u8], at: usize) -> [u32; 2]
     [u32_at(b, at), u32_at(b, at + 4)]
 }
 
-pub fn pairs_of(b: &[u8]) -> [[u32; 2]; 10]
+pub fn pairs_of(b: &[u8]) -> TablePairs
     requires { ⌜ 100 ≤ length (now b) ⌝ }
     ensures { λ r. ⌜ r ≡ pairsOf (now (b .entry)) ⌝ }
 {
@@ -33,14 +34,14 @@ pub fn pairs_of(b: &[u8]) -> [[u32; 2]; 10]
     ]
 }
 
-pub fn count_of(pairs: &[[u32; 2]; 10], t: usize) -> usize
+pub fn count_of(pairs: &TablePairs, t: usize) -> usize
     requires { ⌜ (1 ≤ t) × (t ≤ 10) ⌝ }
     ensures { λ r. ⌜ r ≡ countOf (now (pairs .entry)) t ⌝ }
 {
     index(pairs[t - 1][0])
 }
 
-pub fn offset_of(pairs: &[[u32; 2]; 10], t: usize) -> usize
+pub fn offset_of(pairs: &TablePairs, t: usize) -> usize
     requires { ⌜ (1 ≤ t) × (t ≤ 10) ⌝ }
     ensures { λ r. ⌜ r ≡ offsetOf (now (pairs .entry)) t ⌝ }
 {

@@ -7,6 +7,7 @@ use super::records::attribute;
 use super::records::base_attribute;
 use super::records::buff_collection;
 use super::records::effect;
+use columns::TablePairs;
 use laws::Window;
 use laws::step;
 use rules::BaseAttribute;
@@ -39,7 +40,7 @@ pub enum FoundCollection {
 }
 
 // Records that stand together.
-pub struct Run {
+pub struct TypeEffects {
     pub first: usize,
     pub count: usize,
 }
@@ -128,7 +129,7 @@ fn run_end(b: &[u8], at: usize, w: usize, n: usize, id: i32, low: usize) -> usiz
 }
 
 // A missing attribute record: not stackable, high not good, default 0.0.
-pub fn get_dogma_attribute(book: &[u8], pairs: &[[u32; 2]; 10], id: i32) -> DogmaAttribute
+pub fn get_dogma_attribute(book: &[u8], pairs: &TablePairs, id: i32) -> DogmaAttribute
     requires { ⌜ SoundBook (now book) (now pairs) ⌝ }
     ensures { λ r. ⌜ r ≡ getDogmaAttribute (bookOf (now (book .entry)) (now (pairs .entry))) id ⌝ }
 {
@@ -145,7 +146,7 @@ pub fn get_dogma_attribute(book: &[u8], pairs: &[[u32; 2]; 10], id: i32) -> Dogm
     attribute(book, pairs, i)
 }
 
-pub fn get_dogma_effect(book: &[u8], pairs: &[[u32; 2]; 10], id: i32) -> FoundEffect
+pub fn get_dogma_effect(book: &[u8], pairs: &TablePairs, id: i32) -> FoundEffect
     requires { ⌜ SoundBook (now book) (now pairs) ⌝ }
     ensures { λ r. ⌜ effectFound r ≡ getDogmaEffect (bookOf (now (book .entry)) (now (pairs .entry))) id ⌝ }
 {
@@ -156,7 +157,7 @@ pub fn get_dogma_effect(book: &[u8], pairs: &[[u32; 2]; 10], id: i32) -> FoundEf
     FoundEffect::At(effect(book, pairs, i))
 }
 
-pub fn get_dbuff_collection(book: &[u8], pairs: &[[u32; 2]; 10], id: i32) -> FoundCollection
+pub fn get_dbuff_collection(book: &[u8], pairs: &TablePairs, id: i32) -> FoundCollection
     requires { ⌜ SoundBook (now book) (now pairs) ⌝ }
     ensures { λ r. ⌜ collectionFound r ≡ getDbuffCollection (bookOf (now (book .entry)) (now (pairs .entry))) id ⌝ }
 {
@@ -168,7 +169,7 @@ pub fn get_dbuff_collection(book: &[u8], pairs: &[[u32; 2]; 10], id: i32) -> Fou
 }
 
 // The effects of a type stand together.
-pub fn get_dogma_effects(book: &[u8], pairs: &[[u32; 2]; 10], id: i32) -> Run
+pub fn get_dogma_effects(book: &[u8], pairs: &TablePairs, id: i32) -> TypeEffects
     requires { ⌜ SoundBook (now book) (now pairs) ⌝ }
     ensures { λ r. ⌜ Stretch (getDogmaEffects (bookOf (now (book .entry)) (now (pairs .entry))) id) (bookOf (now (book .entry)) (now (pairs .entry)) .typeEffects) (r .first) (r .count) ⌝ }
 {
@@ -176,14 +177,14 @@ pub fn get_dogma_effects(book: &[u8], pairs: &[[u32; 2]; 10], id: i32) -> Run
     let n = count_of(pairs, 4);
     let low = lower(book, at, 12, n, id);
     let end = run_end(book, at, 12, n, id, low);
-    Run {
+    TypeEffects {
         first: low,
         count: end - low,
     }
 }
 
 // A base attribute of an object.
-pub fn get_base(fit: &[u8], pairs: &[[u32; 2]; 10], o: Item, id: i32) -> FoundBase
+pub fn get_base(fit: &[u8], pairs: &TablePairs, o: Item, id: i32) -> FoundBase
     requires { ⌜ HeldFit (now fit) (now pairs) ⌝ }
     requires { ⌜ Based (fitOf (now fit) (now pairs)) o ⌝ }
     ensures { λ r. ⌜ baseFound r ≡ getBase (fitOf (now (fit .entry)) (now (pairs .entry))) o id ⌝ }

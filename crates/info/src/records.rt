@@ -3,6 +3,7 @@ use super::header::offset_of;
 use super::little_endian::f64_at;
 use super::little_endian::i32_at;
 use super::little_endian::u32_at;
+use columns::TablePairs;
 use rules::Ask;
 use rules::BaseAttribute;
 use rules::DbuffCollection;
@@ -29,7 +30,7 @@ fn record_of(b: &[u8], at: usize, w: usize, i: usize) -> &[u8]
     &b[start..end]
 }
 
-pub fn attribute(book: &[u8], pairs: &[[u32; 2]; 10], i: usize) -> DogmaAttribute
+pub fn attribute(book: &[u8], pairs: &TablePairs, i: usize) -> DogmaAttribute
     requires { ⌜ HeldBook (now book) (now pairs) ⌝ }
     requires { ⌜ i < countOf (now pairs) 1 ⌝ }
     ensures { λ r. ⌜ Nth (bookOf (now (book .entry)) (now (pairs .entry)) .attributes) i r ⌝ }
@@ -44,7 +45,7 @@ pub fn attribute(book: &[u8], pairs: &[[u32; 2]; 10], i: usize) -> DogmaAttribut
     }
 }
 
-pub fn effect(book: &[u8], pairs: &[[u32; 2]; 10], i: usize) -> DogmaEffect
+pub fn effect(book: &[u8], pairs: &TablePairs, i: usize) -> DogmaEffect
     requires { ⌜ HeldBook (now book) (now pairs) ⌝ }
     requires { ⌜ i < countOf (now pairs) 2 ⌝ }
     ensures { λ r. ⌜ Nth (bookOf (now (book .entry)) (now (pairs .entry)) .effects) i r ⌝ }
@@ -61,7 +62,7 @@ pub fn effect(book: &[u8], pairs: &[[u32; 2]; 10], i: usize) -> DogmaEffect
     }
 }
 
-pub fn modifier(book: &[u8], pairs: &[[u32; 2]; 10], i: usize) -> DogmaModifier
+pub fn modifier(book: &[u8], pairs: &TablePairs, i: usize) -> DogmaModifier
     requires { ⌜ HeldBook (now book) (now pairs) ⌝ }
     requires { ⌜ i < countOf (now pairs) 3 ⌝ }
     ensures { λ r. ⌜ Nth (bookOf (now (book .entry)) (now (pairs .entry)) .modifiers) i r ⌝ }
@@ -79,7 +80,7 @@ pub fn modifier(book: &[u8], pairs: &[[u32; 2]; 10], i: usize) -> DogmaModifier
     }
 }
 
-pub fn type_effect(book: &[u8], pairs: &[[u32; 2]; 10], i: usize) -> TypeDogmaEffect
+pub fn type_effect(book: &[u8], pairs: &TablePairs, i: usize) -> TypeDogmaEffect
     requires { ⌜ HeldBook (now book) (now pairs) ⌝ }
     requires { ⌜ i < countOf (now pairs) 4 ⌝ }
     ensures { λ r. ⌜ Nth (bookOf (now (book .entry)) (now (pairs .entry)) .typeEffects) i r ⌝ }
@@ -92,7 +93,7 @@ pub fn type_effect(book: &[u8], pairs: &[[u32; 2]; 10], i: usize) -> TypeDogmaEf
     }
 }
 
-pub fn buff_collection(book: &[u8], pairs: &[[u32; 2]; 10], i: usize) -> DbuffCollection
+pub fn buff_collection(book: &[u8], pairs: &TablePairs, i: usize) -> DbuffCollection
     requires { ⌜ HeldBook (now book) (now pairs) ⌝ }
     requires { ⌜ i < countOf (now pairs) 5 ⌝ }
     ensures { λ r. ⌜ Nth (bookOf (now (book .entry)) (now (pairs .entry)) .buffCollections) i r ⌝ }
@@ -107,7 +108,7 @@ pub fn buff_collection(book: &[u8], pairs: &[[u32; 2]; 10], i: usize) -> DbuffCo
     }
 }
 
-pub fn object(fit: &[u8], pairs: &[[u32; 2]; 10], i: usize) -> Item
+pub fn object(fit: &[u8], pairs: &TablePairs, i: usize) -> Item
     requires { ⌜ HeldFit (now fit) (now pairs) ⌝ }
     requires { ⌜ i < countOf (now pairs) 6 ⌝ }
     ensures { λ r. ⌜ Nth (fitOf (now (fit .entry)) (now (pairs .entry)) .objects) i r ⌝ }
@@ -135,7 +136,7 @@ pub fn object(fit: &[u8], pairs: &[[u32; 2]; 10], i: usize) -> Item
     }
 }
 
-pub fn base_attribute(fit: &[u8], pairs: &[[u32; 2]; 10], i: usize) -> BaseAttribute
+pub fn base_attribute(fit: &[u8], pairs: &TablePairs, i: usize) -> BaseAttribute
     requires { ⌜ HeldFit (now fit) (now pairs) ⌝ }
     requires { ⌜ i < countOf (now pairs) 7 ⌝ }
     ensures { λ r. ⌜ Nth (fitOf (now (fit .entry)) (now (pairs .entry)) .bases) i r ⌝ }
@@ -147,7 +148,7 @@ pub fn base_attribute(fit: &[u8], pairs: &[[u32; 2]; 10], i: usize) -> BaseAttri
     }
 }
 
-pub fn id_at(fit: &[u8], pairs: &[[u32; 2]; 10], i: usize) -> i32
+pub fn id_at(fit: &[u8], pairs: &TablePairs, i: usize) -> i32
     requires { ⌜ HeldFit (now fit) (now pairs) ⌝ }
     requires { ⌜ i < countOf (now pairs) 8 ⌝ }
     ensures { λ r. ⌜ Nth (fitOf (now (fit .entry)) (now (pairs .entry)) .ids) i r ⌝ }
@@ -156,7 +157,7 @@ pub fn id_at(fit: &[u8], pairs: &[[u32; 2]; 10], i: usize) -> i32
     i32_at(r, 0)
 }
 
-pub fn projected_buff(fit: &[u8], pairs: &[[u32; 2]; 10], i: usize) -> ProjectedBuff
+pub fn projected_buff(fit: &[u8], pairs: &TablePairs, i: usize) -> ProjectedBuff
     requires { ⌜ HeldFit (now fit) (now pairs) ⌝ }
     requires { ⌜ i < countOf (now pairs) 9 ⌝ }
     ensures { λ r. ⌜ Nth (fitOf (now (fit .entry)) (now (pairs .entry)) .buffs) i r ⌝ }
@@ -168,7 +169,7 @@ pub fn projected_buff(fit: &[u8], pairs: &[[u32; 2]; 10], i: usize) -> Projected
     }
 }
 
-pub fn ask(fit: &[u8], pairs: &[[u32; 2]; 10], i: usize) -> Ask
+pub fn ask(fit: &[u8], pairs: &TablePairs, i: usize) -> Ask
     requires { ⌜ HeldFit (now fit) (now pairs) ⌝ }
     requires { ⌜ i < countOf (now pairs) 10 ⌝ }
     ensures { λ r. ⌜ Nth (fitOf (now (fit .entry)) (now (pairs .entry)) .asks) i r ⌝ }

@@ -1,6 +1,7 @@
 // Where the objects of a sound sheet stand.
 use super::header::count_of;
 use super::records::object;
+use columns::TablePairs;
 use rules::CHAR;
 use rules::SKILL;
 ghost use mathlib.Core.Path.{_≡_};
@@ -20,7 +21,7 @@ pub struct Spans {
 }
 
 // The char's number: it stands right after the ship or its mode.
-pub fn char_of(fit: &[u8], pairs: &[[u32; 2]; 10]) -> u32
+pub fn char_of(fit: &[u8], pairs: &TablePairs) -> u32
     requires { ⌜ SoundFit (now fit) (now pairs) ⌝ }
     ensures { λ r. ⌜ r ≡ charOf (fitOf (now (fit .entry)) (now (pairs .entry))) ⌝ }
 {
@@ -32,7 +33,7 @@ pub fn char_of(fit: &[u8], pairs: &[[u32; 2]; 10]) -> u32
 }
 
 // The first skill from one object on: skills stand last.
-fn first_skill(fit: &[u8], pairs: &[[u32; 2]; 10], from: usize) -> usize
+fn first_skill(fit: &[u8], pairs: &TablePairs, from: usize) -> usize
     requires { ⌜ HeldFit (now fit) (now pairs) ⌝ }
     requires { ⌜ from ≤ countOf (now pairs) 6 ⌝ }
     ensures { λ r. ⌜ FirstSkill (fitOf (now (fit .entry)) (now (pairs .entry))) from r ⌝ }
@@ -49,7 +50,7 @@ fn first_skill(fit: &[u8], pairs: &[[u32; 2]; 10], from: usize) -> usize
     i
 }
 
-pub fn spans_of(fit: &[u8], pairs: &[[u32; 2]; 10]) -> Spans
+pub fn spans_of(fit: &[u8], pairs: &TablePairs) -> Spans
     requires { ⌜ SoundFit (now fit) (now pairs) ⌝ }
     ensures { λ r. ⌜ Stands (fitOf (now (fit .entry)) (now (pairs .entry))) r ⌝ }
 {

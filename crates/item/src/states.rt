@@ -11,7 +11,7 @@ ghost use mathlib.Core.Path.{_≡_};
 ghost use lib.Dec.{leb};
 ghost use Rattle.rules.specs.Codes.{categoryAt, stateCode};
 ghost use Rattle.rules.specs.Item.{requiredState, lowestState, runsAt, isPassive, categoryOn};
-ghost use Rattle.rules.specs.States.{codeOr0, reachOf};
+ghost use Rattle.rules.specs.States.{codeOr0, raisedTo};
 ghost use Rattle.item.specs.Found.{stateOf};
 
 pub fn state_code(state: ItemState) -> u32
@@ -103,8 +103,8 @@ fn reaches(category: EffectCategory) -> u32
 }
 
 // The same of an effect that has a category's code, on this object.
-pub fn reach_of(o: Item, code: u32) -> u32
-    ensures { λ r. ⌜ r ≡ reachOf o (categoryAt code) ⌝ }
+pub fn raises_to(o: Item, code: u32) -> u32
+    ensures { λ r. ⌜ r ≡ raisedTo o (categoryAt code) ⌝ }
 {
     let found = category_at(code);
     match found {

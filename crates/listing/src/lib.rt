@@ -15,6 +15,7 @@ ghost use Rattle.rules.specs.declared.Hundredths.the-variants.{Cut};
 ghost use Rattle.rules.specs.declared.Refusal.{Refusal};
 ghost use Rattle.rules.specs.declared.Answer.the-variants.{Refused};
 ghost use Rattle.listing.specs.Pieces.{longest, longestRefusal, headOf, Prints};
+use columns::AttributeRow;
 use numbers::hundredths::in_hundredths;
 use numbers::integers::bits;
 use numbers::integers::signed;
@@ -183,7 +184,7 @@ pub struct Block {
 }
 
 // The lines of the rows from one on, up to row n: as many as have room.
-pub fn lines(out: &mut [u8], rows: &[[u32; 6]], values: &[f64], from: usize, n: usize) -> Block
+pub fn lines(out: &mut [u8], rows: &[AttributeRow], values: &[f64], from: usize, n: usize) -> Block
     requires { ⌜ longest ≤ length (now out) ⌝ }
     requires { ⌜ from ≤ n ⌝ }
     requires { ⌜ (n ≤ length (now rows)) × (n ≤ length (now values)) ⌝ }

@@ -21,10 +21,10 @@ use Rattle.rules.specs.Value.{World, Mem, Read, Reader, operate, clamped, value
 use Rattle.rules.specs.declared.DogmaAttribute.{DogmaAttribute}
 use Rattle.rules.specs.declared.Refusal.{Refusal}
 use Rattle.reading.specs.Stretched.{Limits}
-use Rattle.sources.specs.declared.Run.{Run}
+use Rattle.sources.specs.declared.Recording.{Recording}
 use Rattle.memory.specs.Steps.{rowAt, evaluation}
 use Rattle.memory.specs.Holding.{Tables, RowTold, Ready, Busy}
-use Rattle.memory.specs.Answers.{Meets, heldBy}
+use Rattle.memory.specs.Answers.{Returns, heldBy}
 use Rattle.memory.specs.declared.apply.Got.{Got}
 use Rattle.memory.specs.declared.apply.Got.the-variants as got
 use Rattle.memory.proofs.Falling.{operate-falls, limit-falls}
@@ -32,7 +32,7 @@ use Rattle.memory.proofs.Holdings.{met, goes-on-from, number-of}
 use Rattle.memory.proofs.Gathering.{no-length}
 use Rattle.memory.proofs.Limiting.{raise-refused, lowers, plain-row}
 
-module _ {t : Tables} {run : Run} {v : List Float} {s : List (List ℕ)} {f : List (List Float)} {used i : ℕ} (h : Busy t run v s f used i 0 operators) where
+module _ {t : Tables} {run : Recording} {v : List Float} {s : List (List ℕ)} {f : List (List Float)} {used i : ℕ} (h : Busy t run v s f used i 0 operators) where
   abbrev w : World
   w = h .ready .world
 
@@ -68,7 +68,7 @@ module _ {t : Tables} {run : Run} {v : List Float} {s : List (List ℕ)} {f : Li
 
   pub plain-meets : (left : ℕ) → getD (getD (t .rows) i []) 3 0 ≡ 0
       → ((k : Book) → Limits k (t .limits) → (getDogmaAttribute k (toZ w32 (getD (getD (t .rows) i []) 1 0)) .«min_attribute_id» ≡ pos 0) × (getDogmaAttribute k (toZ w32 (getD (getD (t .rows) i []) 1 0)) .«max_attribute_id» ≡ pos 0))
-      → Meets w s₀ f₀ (evaluation w (valueOf w left) i row m) (got.Value (getD (t .bases) i nan) used) v s f
+      → Returns w s₀ f₀ (evaluation w (valueOf w left) i row m) (got.Value (getD (t .bases) i nan) used) v s f
   plain-meets left none-there free =
       let both = free (w .book) (h .ready .told .limited) in
       plain-row w s₀ f₀ v s f (valueOf w left) i row m (no-length (row .entries) (omega (arith, told .count, none-there)))
@@ -76,7 +76,7 @@ module _ {t : Tables} {run : Run} {v : List Float} {s : List (List ℕ)} {f : Li
       (told .base) (subst (λ (x : Float). T (finite x)) (sym (told .base)) (told .number)) (h .ready .holds)
 
   module _ (left : ℕ) (x : Float) (more : ℕ) (v′ : List Float) (s′ : List (List ℕ)) (f′ : List (List Float))
-      (k : Meets w s₀ f₀ (operate w i row (valueOf w left) operators (record { value = row .base; mem = m })) (got.Value x more) v′ s′ f′) where
+      (k : Returns w s₀ f₀ (operate w i row (valueOf w left) operators (record { value = row .base; mem = m })) (got.Value x more) v′ s′ f′) where
     abbrev pub operated-on : Ready t run v′ s′ f′ more
     operated-on = goes-on-from (h .ready) (operate w i row (valueOf w left) operators (record { value = row .base; mem = m })) x more v′ s′ f′ k
 
@@ -96,10 +96,10 @@ module _ {t : Tables} {run : Run} {v : List Float} {s : List (List ℕ)} {f : Li
           ap₂ (λ (n : ℕ) (z : ℤ). clamped n (valueOf w left) (heldBy true) z (record { value = x; mem = operated-on .mem })) (sym (o-is ∙ object-is))
           (sym (a-is ∙ ap (λ (r : DogmaAttribute). r .«min_attribute_id») record-is))
 
-      pub low-refused : (r : Got) (y : Refusal) → r ≡ got.Refused y → (v″ : List Float) (s″ : List (List ℕ)) (f″ : List (List Float)) → Meets w s₀ f₀ low r v″ s″ f″ → Meets w s₀ f₀ (evaluation w (valueOf w left) i row m) r v″ s″ f″
+      pub low-refused : (r : Got) (y : Refusal) → r ≡ got.Refused y → (v″ : List Float) (s″ : List (List ℕ)) (f″ : List (List Float)) → Returns w s₀ f₀ low r v″ s″ f″ → Returns w s₀ f₀ (evaluation w (valueOf w left) i row m) r v″ s″ f″
       low-refused r y e v″ s″ f″ l = raise-refused w s₀ f₀ v′ s′ f′ (valueOf w left) i row m x more k low low-is r y e v″ s″ f″ l
 
-      module _ (b : ℤ) (b-is : b ≡ own-record .«max_attribute_id») (y : Float) (still : ℕ) (v″ : List Float) (s″ : List (List ℕ)) (f″ : List (List Float)) (l : Meets w s₀ f₀ low (got.Value y still) v″ s″ f″) where
+      module _ (b : ℤ) (b-is : b ≡ own-record .«max_attribute_id») (y : Float) (still : ℕ) (v″ : List Float) (s″ : List (List ℕ)) (f″ : List (List Float)) (l : Returns w s₀ f₀ low (got.Value y still) v″ s″ f″) where
         abbrev pub raised-on : Ready t run v″ s″ f″ still
         raised-on = goes-on-from operated-on low y still v″ s″ f″ l
 
@@ -117,5 +117,5 @@ module _ {t : Tables} {run : Run} {v : List Float} {s : List (List ℕ)} {f : Li
             ap₂ (λ (n : ℕ) (z : ℤ). clamped n (valueOf w left) (heldBy false) z (record { value = y; mem = raised-on .mem })) (sym (o-is ∙ object-is))
             (sym (b-is ∙ ap (λ (r : DogmaAttribute). r .«max_attribute_id») record-is))
 
-        pub evaluated-meets : (r : Got) (v‴ : List Float) (s‴ : List (List ℕ)) (f‴ : List (List Float)) → Meets w s₀ f₀ high r v‴ s‴ f‴ → Meets w s₀ f₀ (evaluation w (valueOf w left) i row m) r v‴ s‴ f‴
+        pub evaluated-meets : (r : Got) (v‴ : List Float) (s‴ : List (List ℕ)) (f‴ : List (List Float)) → Returns w s₀ f₀ high r v‴ s‴ f‴ → Returns w s₀ f₀ (evaluation w (valueOf w left) i row m) r v‴ s‴ f‴
         evaluated-meets r v‴ s‴ f‴ q = lowers w s₀ f₀ v′ s′ f′ (valueOf w left) i row m x more k low low-is y still v″ s″ f″ l high high-is r v‴ s‴ f‴ q

@@ -9,13 +9,13 @@ use lib.Ieee.{Float}
 use lib.ListN.{length, getD}
 use mir.Syntax.{w64}
 use mir.Val.{Fits}
-use Rattle.sources.specs.declared.Run.{Run}
+use Rattle.sources.specs.declared.Recording.{Recording}
 use Rattle.memory.specs.Holding.{Tables, Ready}
 
 pub fits-below : (n m : ℕ) → n ≤ m → m < 2 ^ 64 → Fits w64 n
 fits-below n m a b = record { fits = lt-of-le-of-lt a b }
 
-module _ {t : Tables} {run : Run} {v : List Float} {s : List (List ℕ)} {f : List (List Float)} {used : ℕ} (h : Ready t run v s f used) (i : ℕ) (inside : i < length (h .world .rows)) where
+module _ {t : Tables} {run : Recording} {v : List Float} {s : List (List ℕ)} {f : List (List Float)} {used : ℕ} (h : Ready t run v s f used) (i : ℕ) (inside : i < length (h .world .rows)) where
   pub row-inside : i < length (t .rows)
   row-inside = omega (arith, inside, h .told .held .long)
 

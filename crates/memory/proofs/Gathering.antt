@@ -31,7 +31,7 @@ use Rattle.rules.specs.declared.Source.{Source}
 use Rattle.rules.specs.declared.Step.{Step}
 use Rattle.rules.specs.declared.Step.the-variants.{Finite, NotFinite}
 use Rattle.reading.specs.Held.{noRow}
-use Rattle.sources.specs.declared.Run.{Run}
+use Rattle.sources.specs.declared.Recording.{Recording}
 use Rattle.sources.specs.Planned.{countsOf, plannedOf, plannedFor, plannedBy, Started, Grown}
 use Rattle.sources.specs.Keeping.{Keeping, Begins}
 use Rattle.sources.specs.Marks.{Fresh}
@@ -42,12 +42,12 @@ use Rattle.gather.specs.declared.Stop.the-variants.{No, Because}
 use Rattle.gather.specs.Piles.{PileOf}
 use Rattle.memory.specs.Memory.{valueAt}
 use Rattle.memory.specs.Steps.{rowAt, entryAt, noEntry}
-use Rattle.memory.specs.Holding.{Tables, highAt, Told, Holds, Ready, Busy, Piling, PileMeets}
+use Rattle.memory.specs.Holding.{Tables, highAt, Tells, Holds, Ready, Busy, Piling, PileMeets}
 use Rattle.memory.proofs.Growth.{value-grows, gather-grows}
 use Rattle.memory.proofs.Gathers.{gather-append}
 use Rattle.memory.proofs.Entering.{gather-fresh, gather-plain, marked-values}
 use Rattle.memory.proofs.Counting.{planned-append}
-use Rattle.memory.specs.Answers.{AppliedAs, PartMeets, applying}
+use Rattle.memory.specs.Answers.{AppliedAs, PartReturns, applying}
 use Rattle.memory.specs.declared.apply.Part.{Part}
 use Rattle.memory.specs.declared.apply.Part.the-variants as part
 use Rattle.memory.proofs.Holdings.{ready-on, noted-holds, floats-long}
@@ -78,7 +78,7 @@ pub no-length : {A : Type 0} (l : List A) → length l ≤ 0 → l ≡ []
 no-length [] h = refl
 no-length (x ∷ l) h = absurd (omega (arith, h))
 
-module _ {t : Tables} {run : Run} {v₀ : List Float} {s₁ : List (List ℕ)} {f₁ : List (List Float)} {used i own : ℕ} {op : EffectOperator} (h : Busy t run v₀ s₁ f₁ used i own (op ∷ [])) where
+module _ {t : Tables} {run : Recording} {v₀ : List Float} {s₁ : List (List ℕ)} {f₁ : List (List Float)} {used i own : ℕ} {op : EffectOperator} (h : Busy t run v₀ s₁ f₁ used i own (op ∷ [])) where
   abbrev w : World
   w = h .ready .world
 
@@ -181,7 +181,7 @@ module _ {t : Tables} {run : Run} {v₀ : List Float} {s₁ : List (List ℕ)} {
                 ap (λ (l : List Effect). gather w i row read op l begin) split ∙ gather-append w i row read op (take (k + 1) (row .entries)) (drop (k + 1) (row .entries)) begin
                 ∙ ap (λ (x : Res Gathered). x >>= λ g. gather w i row read op (drop (k + 1) (row .entries)) g) (stops (gather w i row read op (e ∷ []) (G .sofar)) one-more a)
 
-        pub gathering-refused : (y : Refusal) → Answer (gather w i row read op (e ∷ []) (G .sofar)) → p′ .stop ≡ Because y → PartMeets w s₀ f₀ i (operate w i row read (op ∷ []) (record { value = found; mem = m })) (part.Refused y) v′ s′ f′
+        pub gathering-refused : (y : Refusal) → Answer (gather w i row read op (e ∷ []) (G .sofar)) → p′ .stop ≡ Because y → PartReturns w s₀ f₀ i (operate w i row read (op ∷ []) (record { value = found; mem = m })) (part.Refused y) v′ s′ f′
         gathering-refused y a z = rw (operate-refused y a z) refl
 
     pub floats-there : run .room ≤ length f
@@ -222,18 +222,18 @@ module _ {t : Tables} {run : Run} {v₀ : List Float} {s₁ : List (List ℕ)} {
           let same = marked-values i (G .sofar) in
           noted-holds (G .holds) i grown (markedBy i (G .sofar)) (same .0) (same .2) kept
 
-      pub gathering-applied : high ≡ highIsGood (getDogmaAttribute (w .book) (row .id)) → (r : Part) (s′ : List (List ℕ)) (f′ : List (List Float)) → Applied (applying row high op found i (G .sofar)) r s′ f′ → PartMeets w s₀ f₀ i asked r v s′ f′
+      pub gathering-applied : high ≡ highIsGood (getDogmaAttribute (w .book) (row .id)) → (r : Part) (s′ : List (List ℕ)) (f′ : List (List Float)) → Applied (applying row high op found i (G .sofar)) r s′ f′ → PartReturns w s₀ f₀ i asked r v s′ f′
       unfolding applying numberAt
       gathering-applied z r s′ f′ a = rw (asked-is z) (by (applied high op found (G .sofar .values)) r a)
         where
-          by : (x : Step) (r : Part) → Applied (numberAt (row .object) x >>= λ n. ok (record { value = n; mem = markedBy i (G .sofar) })) r s′ f′ → PartMeets w s₀ f₀ i (numberAt (row .object) x >>= λ n. ok (record { value = n; mem = markedBy i (G .sofar) })) r v s′ f′
+          by : (x : Step) (r : Part) → Applied (numberAt (row .object) x >>= λ n. ok (record { value = n; mem = markedBy i (G .sofar) })) r s′ f′ → PartReturns w s₀ f₀ i (numberAt (row .object) x >>= λ n. ok (record { value = n; mem = markedBy i (G .sofar) })) r v s′ f′
           by (Finite n) (part.At y a b) q = (q .0, q .1, q .2 .mine, marked-holds (q .2))
           by (Finite n) (part.Refused y) q = absurd q
           by NotFinite (part.At y a b) q = absurd q
           by NotFinite (part.Refused y) q = q
 
 -- a row's attribute by the numbers of list 2
-pub high-is : {t : Tables} {run : Run} {v : List Float} {s : List (List ℕ)} {f : List (List Float)} {used : ℕ} (h : Ready t run v s f used) (i : ℕ) → i < length (h .world .rows)
+pub high-is : {t : Tables} {run : Recording} {v : List Float} {s : List (List ℕ)} {f : List (List Float)} {used : ℕ} (h : Ready t run v s f used) (i : ℕ) → i < length (h .world .rows)
     → highAt t i ≡ highIsGood (getDogmaAttribute (h .world .book) (rowAt (h .world) i .id))
 high-is {t} h i inside =
     ap (λ (a : ℤ). highIsGood (getDogmaAttribute (bookOf (t .book) (t .pairs)) a)) (ap (toZ w32) (h .told .held .id i inside) ∙ toZ-ofZ (h .told .held .narrow i inside))

@@ -18,16 +18,16 @@ use Rattle.rules.specs.Columns.{sourceNumbers, sourceFloats}
 use Rattle.rules.specs.Value.{World, Mem, Read, ownSources, setValue}
 use Rattle.rules.specs.declared.Refusal.{Refusal}
 use Rattle.rules.specs.declared.Source.{Source}
-use Rattle.sources.specs.declared.Run.{Run}
+use Rattle.sources.specs.declared.Recording.{Recording}
 use Rattle.sources.specs.Planned.{countsOf}
 use Rattle.sources.specs.Keeping.{Keeping}
 use Rattle.sources.proofs.Planning.{some-none}
 use Rattle.sources.proofs.Showing.{shown-length}
 use Rattle.memory.specs.Memory.{valueAt, valueColumn, AllFinite}
-use Rattle.memory.specs.Holding.{Tables, Told, Holds, Ready}
+use Rattle.memory.specs.Holding.{Tables, Tells, Holds, Ready}
 use Rattle.memory.proofs.Nanned.{set-shown}
 use Rattle.memory.proofs.Nanned.{shown-length as shown-long}
-use Rattle.memory.specs.Answers.{Meets}
+use Rattle.memory.specs.Answers.{Returns}
 use Rattle.memory.specs.declared.apply.Got.{Got}
 use Rattle.memory.specs.declared.apply.Got.the-variants as got
 
@@ -96,7 +96,7 @@ module _ {w : World} {s₀ : List (List ℕ)} {f₀ : List (List Float)} {m : Me
   floats-long t = omega (arith, t, ap length (H .sources 0 .floats) ∙ shown-length sourceFloats (w .room) (countsOf w) (m .sources) f₀)
 
 -- the same world with another memory
-abbrev pub ready-on : {t : Tables} {run : Run} {v : List Float} {s : List (List ℕ)} {f : List (List Float)} {used : ℕ} (h : Ready t run v s f used) (m : Mem) {v′ : List Float} {s′ : List (List ℕ)} {f′ : List (List Float)} {more : ℕ}
+abbrev pub ready-on : {t : Tables} {run : Recording} {v : List Float} {s : List (List ℕ)} {f : List (List Float)} {used : ℕ} (h : Ready t run v s f used) (m : Mem) {v′ : List Float} {s′ : List (List ℕ)} {f′ : List (List Float)} {more : ℕ}
     → Holds (h .world) (h .sources₀) (h .floats₀) m v′ s′ f′ more → Ready t run v′ s′ f′ more
 ready-on h m k = record { world = h .world; mem = m; sources₀ = h .sources₀; floats₀ = h .floats₀; told = h .told; holds = k }
 
@@ -111,25 +111,25 @@ pub record Met (w : World) (s₀ : List (List ℕ)) (f₀ : List (List Float)) (
   pub holds : Holds w s₀ f₀ (read .mem) v s f used
 
 module _ (w : World) (s₀ : List (List ℕ)) (f₀ : List (List Float)) (v : List Float) (s : List (List ℕ)) (f : List (List Float)) where
-  unfoldable pub met : (x : Res Read) (y : Float) (used : ℕ) → Meets w s₀ f₀ x (got.Value y used) v s f → Met w s₀ f₀ x y v s f used
+  unfoldable pub met : (x : Res Read) (y : Float) (used : ℕ) → Returns w s₀ f₀ x (got.Value y used) v s f → Met w s₀ f₀ x y v s f used
   met (ok q) y used h = record { read = q; is = refl; value = h .0; number = h .1; holds = h .2 }
   met (refused z) y used h = absurd h
 
-  pub missed : (x : Res Read) (z : Refusal) → Meets w s₀ f₀ x (got.Refused z) v s f → x ≡ refused z
+  pub missed : (x : Res Read) (z : Refusal) → Returns w s₀ f₀ x (got.Refused z) v s f → x ≡ refused z
   missed (ok q) z h = absurd h
   missed (refused y) z h = ap refused (sym h)
 
-  pub meets-value : (x : Res Read) (q : Read) {y : Float} {used : ℕ} → x ≡ ok q → y ≡ q .value → T (finite y) → Holds w s₀ f₀ (q .mem) v s f used → Meets w s₀ f₀ x (got.Value y used) v s f
+  pub meets-value : (x : Res Read) (q : Read) {y : Float} {used : ℕ} → x ≡ ok q → y ≡ q .value → T (finite y) → Holds w s₀ f₀ (q .mem) v s f used → Returns w s₀ f₀ x (got.Value y used) v s f
   meets-value x q e a b h = rw e (a, b, h)
 
-  pub meets-refused : (x : Res Read) {z : Refusal} → x ≡ refused z → Meets w s₀ f₀ x (got.Refused z) v s f
+  pub meets-refused : (x : Res Read) {z : Refusal} → x ≡ refused z → Returns w s₀ f₀ x (got.Refused z) v s f
   meets-refused x e = rw e refl
 
-  pub meets-same : (x y : Res Read) (r : Got) → x ≡ y → Meets w s₀ f₀ y r v s f → Meets w s₀ f₀ x r v s f
+  pub meets-same : (x y : Res Read) (r : Got) → x ≡ y → Returns w s₀ f₀ y r v s f → Returns w s₀ f₀ x r v s f
   meets-same x y r e h = rw e h
 
 -- after an answer with a value
-module _ {t : Tables} {run : Run} {v : List Float} {s : List (List ℕ)} {f : List (List Float)} {used : ℕ} (h : Ready t run v s f used) (x : Res Read) (y : Float) (more : ℕ) (v′ : List Float) (s′ : List (List ℕ)) (f′ : List (List Float)) (k : Meets (h .world) (h .sources₀) (h .floats₀) x (got.Value y more) v′ s′ f′) where
+module _ {t : Tables} {run : Recording} {v : List Float} {s : List (List ℕ)} {f : List (List Float)} {used : ℕ} (h : Ready t run v s f used) (x : Res Read) (y : Float) (more : ℕ) (v′ : List Float) (s′ : List (List ℕ)) (f′ : List (List Float)) (k : Returns (h .world) (h .sources₀) (h .floats₀) x (got.Value y more) v′ s′ f′) where
   abbrev pub goes-on-from : Ready t run v′ s′ f′ more
   goes-on-from = ready-on h (met (h .world) (h .sources₀) (h .floats₀) v′ s′ f′ x y more k .read .mem) (met (h .world) (h .sources₀) (h .floats₀) v′ s′ f′ x y more k .holds)
 

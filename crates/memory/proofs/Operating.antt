@@ -21,7 +21,7 @@ use Rattle.rules.specs.declared.Refusal.{Refusal}
 use Rattle.operate.proofs.PassedOver.{isOf, operate-none}
 use Rattle.reading.specs.Held.{hasCode, isMarked}
 use Rattle.reading.proofs.Decodes.{mark-left}
-use Rattle.sources.specs.declared.Run.{Run}
+use Rattle.sources.specs.declared.Recording.{Recording}
 use Rattle.sources.specs.Planned.{countsOf, plannedFor, plannedBy, Started, Grown}
 use Rattle.sources.proofs.Planning.{counts-long, some-none, operate-gives, leaves-started}
 use Rattle.memory.specs.Memory.{valueAt}
@@ -31,7 +31,7 @@ use Rattle.memory.proofs.Growth.{value-grows, operate-grows}
 use Rattle.memory.proofs.Gathers.{operate-append}
 use Rattle.memory.proofs.Counting.{by-append}
 use Rattle.memory.proofs.Codes.{operators-at, take-operators, has-operator}
-use Rattle.memory.specs.Answers.{Meets, PartMeets}
+use Rattle.memory.specs.Answers.{Returns, PartReturns}
 use Rattle.memory.specs.declared.apply.Got.the-variants as got
 use Rattle.memory.specs.declared.apply.Part.the-variants as part
 use Rattle.memory.proofs.Holdings.{ready-on, meets-value, meets-refused}
@@ -45,7 +45,7 @@ pub record Operating (w : World) (s₀ : List (List ℕ)) (f₀ : List (List Flo
   pub mine : own ≡ length (ownSources i (sofar .mem))
   pub holds : Holds w s₀ f₀ (sofar .mem) v s f used
 
-module _ {t : Tables} {run : Run} {v₀ : List Float} {s₁ : List (List ℕ)} {f₁ : List (List Float)} {used₀ i : ℕ} (h : Busy t run v₀ s₁ f₁ used₀ i 0 operators) where
+module _ {t : Tables} {run : Recording} {v₀ : List Float} {s₁ : List (List ℕ)} {f₁ : List (List Float)} {used₀ i : ℕ} (h : Busy t run v₀ s₁ f₁ used₀ i 0 operators) where
   abbrev w : World
   w = h .ready .world
 
@@ -146,20 +146,20 @@ module _ {t : Tables} {run : Run} {v₀ : List Float} {s₁ : List (List ℕ)} {
           ap (λ (l : List EffectOperator). operate w i row read l begin) next ∙ operate-append w i row read (take code operators) (o ∷ []) begin
           ∙ ap (λ (a : Res Read). a >>= λ b. operate w i row read (o ∷ []) b) (O .is) ∙ ap (operate w i row read (o ∷ [])) (sym now-is)
 
-      pub operating-next : (y : Float) (a b : ℕ) (v′ : List Float) (s′ : List (List ℕ)) (f′ : List (List Float)) → PartMeets w s₀ f₀ i (operate w i row read (o ∷ []) now) (part.At y a b) v′ s′ f′ → Operating w s₀ f₀ left i m (code + 1) v′ s′ f′ y a b
+      pub operating-next : (y : Float) (a b : ℕ) (v′ : List Float) (s′ : List (List ℕ)) (f′ : List (List Float)) → PartReturns w s₀ f₀ i (operate w i row read (o ∷ []) now) (part.At y a b) v′ s′ f′ → Operating w s₀ f₀ left i m (code + 1) v′ s′ f′ y a b
       operating-next y a b v′ s′ f′ k = by (operate w i row read (o ∷ []) now) one-more k
         where
-          by : (z : Res Read) → operate w i row read (take (code + 1) operators) begin ≡ z → PartMeets w s₀ f₀ i z (part.At y a b) v′ s′ f′ → Operating w s₀ f₀ left i m (code + 1) v′ s′ f′ y a b
+          by : (z : Res Read) → operate w i row read (take (code + 1) operators) begin ≡ z → PartReturns w s₀ f₀ i z (part.At y a b) v′ s′ f′ → Operating w s₀ f₀ left i m (code + 1) v′ s′ f′ y a b
           by (ok q) e k = record { sofar = q; is = e; value = k .0; number = k .1; mine = k .2; holds = k .3 }
           by (refused q) e k = absurd k
 
-      pub operating-refused : (y : Refusal) (v′ : List Float) (s′ : List (List ℕ)) (f′ : List (List Float)) → PartMeets w s₀ f₀ i (operate w i row read (o ∷ []) now) (part.Refused y) v′ s′ f′ → Meets w s₀ f₀ (operate w i row read operators begin) (got.Refused y) v′ s′ f′
+      pub operating-refused : (y : Refusal) (v′ : List Float) (s′ : List (List ℕ)) (f′ : List (List Float)) → PartReturns w s₀ f₀ i (operate w i row read (o ∷ []) now) (part.Refused y) v′ s′ f′ → Returns w s₀ f₀ (operate w i row read operators begin) (got.Refused y) v′ s′ f′
       operating-refused y v′ s′ f′ k =
           meets-refused w s₀ f₀ v′ s′ f′ (operate w i row read operators begin)
           (ap (λ (l : List EffectOperator). operate w i row read l begin) split ∙ operate-append w i row read (take (code + 1) operators) (drop (code + 1) operators) begin
           ∙ ap (λ (a : Res Read). a >>= λ b. operate w i row read (drop (code + 1) operators) b) (one-more ∙ stops (operate w i row read (o ∷ []) now) k))
         where
-          stops : (z : Res Read) → PartMeets w s₀ f₀ i z (part.Refused y) v′ s′ f′ → z ≡ refused y
+          stops : (z : Res Read) → PartReturns w s₀ f₀ i z (part.Refused y) v′ s′ f′ → z ≡ refused y
           stops (ok q) k = absurd k
           stops (refused q) k = ap refused (sym k)
 
@@ -175,7 +175,7 @@ module _ {t : Tables} {run : Run} {v₀ : List Float} {s₁ : List (List ℕ)} {
             holds = O .holds;
           }
 
-    pub operating-ends : 9 ≤ code → Meets w s₀ f₀ (operate w i row read operators begin) (got.Value x used) v s f
+    pub operating-ends : 9 ≤ code → Returns w s₀ f₀ (operate w i row read operators begin) (got.Value x used) v s f
     operating-ends all =
         meets-value w s₀ f₀ v s f (operate w i row read operators begin) (O .sofar)
         (ap (λ (l : List EffectOperator). operate w i row read l begin) (sym (take-all code operators all)) ∙ O .is) (O .value) (O .number) (O .holds)

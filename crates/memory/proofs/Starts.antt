@@ -21,15 +21,15 @@ use Rattle.rules.specs.Value.{World, Mem, Read, Found, findRow, ownSources, set
 use Rattle.rules.specs.declared.Refusal.{Refusal}
 use Rattle.rules.specs.declared.Refusal.the-variants.{Depth}
 use Rattle.reading.specs.Held.{indexOf, noRow}
-use Rattle.sources.specs.declared.Run.{Run}
+use Rattle.sources.specs.declared.Recording.{Recording}
 use Rattle.sources.specs.Planned.{countsOf, plannedOf}
 use Rattle.sources.proofs.Planning.{planned-all}
 use Rattle.memory.specs.Memory.{valueAt, valueColumn}
 use Rattle.memory.specs.Steps.{rowAt, evaluation}
-use Rattle.memory.specs.Holding.{Tables, Told, Holds, Ready, Busy}
+use Rattle.memory.specs.Holding.{Tables, Tells, Holds, Ready, Busy}
 use Rattle.memory.proofs.Nanned.{valued, unvalued, nans-start, set-shown}
 use Rattle.memory.proofs.Readings.{absent, known, deep, starting, its-row, at-row, nowhere, calculate-evaluation}
-use Rattle.memory.specs.Answers.{Meets}
+use Rattle.memory.specs.Answers.{Returns}
 use Rattle.memory.specs.declared.apply.Got.{Got}
 use Rattle.memory.specs.declared.apply.Got.the-variants as got
 use Rattle.memory.proofs.Holdings.{set-holds, ready-on, Met, met, missed, meets-value, meets-refused, meets-same}
@@ -39,7 +39,7 @@ pub counts-at : (w : World) (i : ℕ) → i < length (w .rows) → w .recording 
 unfolding countsOf
 counts-at w i t on = map-at (λ (r : Row). cond (w .recording) (total (map (plannedOf w) (r .entries))) 0) (w .rows) i noRow 0 t ∙ ap (λ (b : Bool). cond b (total (map (plannedOf w) (rowAt w i .entries))) 0) on
 
-module _ {t : Tables} {run : Run} {v : List Float} {s : List (List ℕ)} {f : List (List Float)} {used : ℕ} (h : Ready t run v s f used) (i : ℕ) (inside : i < length (t .rows)) where
+module _ {t : Tables} {run : Recording} {v : List Float} {s : List (List ℕ)} {f : List (List Float)} {used : ℕ} (h : Ready t run v s f used) (i : ℕ) (inside : i < length (t .rows)) where
   pub within : i < length (h .world .rows)
   within = omega (arith, inside, h .told .held .long)
 
@@ -60,13 +60,13 @@ module _ {t : Tables} {run : Run} {v : List Float} {s : List (List ℕ)} {f : Li
   is-unvalued e = unvalued (h .mem .values) i (h .holds .numbers) (sym (ap (λ (x : Float). eq x x) shown) ∙ e)
 
   pub known-row : (left : ℕ) → eq here here ≡ true
-      → Meets (h .world) (h .sources₀) (h .floats₀) (valueOf (h .world) left (rowAt (h .world) i .object) (rowAt (h .world) i .id) (h .mem)) (got.Value here used) v s f
+      → Returns (h .world) (h .sources₀) (h .floats₀) (valueOf (h .world) left (rowAt (h .world) i .object) (rowAt (h .world) i .id) (h .mem)) (got.Value here used) v s f
   known-row left e =
       let has = is-valued e in
       meets-value (h .world) (h .sources₀) (h .floats₀) v s f _ (record { value = here; mem = h .mem }) (known (h .world) _ _ (h .mem) its-row-here left has) refl (h .holds .numbers i here has) (h .holds)
 
   pub deep-row : (left : ℕ) {object : ℕ} → left ≡ 0 → object ≡ getD (getD (t .rows) i []) 0 0 → eq here here ≡ false
-      → Meets (h .world) (h .sources₀) (h .floats₀) (valueOf (h .world) left (rowAt (h .world) i .object) (rowAt (h .world) i .id) (h .mem)) (got.Refused (Depth object)) v s f
+      → Returns (h .world) (h .sources₀) (h .floats₀) (valueOf (h .world) left (rowAt (h .world) i .object) (rowAt (h .world) i .id) (h .mem)) (got.Refused (Depth object)) v s f
   deep-row left {object} z o e =
       meets-refused (h .world) (h .sources₀) (h .floats₀) v s f _
       (ap (λ (d : ℕ). valueOf (h .world) d (rowAt (h .world) i .object) (rowAt (h .world) i .id) (h .mem)) z ∙ deep (h .world) _ _ (h .mem) its-row-here (is-unvalued e)
@@ -123,14 +123,14 @@ module _ {t : Tables} {run : Run} {v : List Float} {s : List (List ℕ)} {f : Li
           ∙ starting (h .world) _ _ (h .mem) its-row-here (left - 1) (is-unvalued e)
           ∙ calculate-evaluation (h .world) (valueOf (h .world) (left - 1)) i (rowAt (h .world) i) (h .mem)
 
-      pub ends : (x : Float) (more : ℕ) → Meets (h .world) (h .sources₀) (h .floats₀) evaluating (got.Value x more) v′ s′ f′ → Meets (h .world) (h .sources₀) (h .floats₀) asked (got.Value x more) (set v′ i x) s′ f′
+      pub ends : (x : Float) (more : ℕ) → Returns (h .world) (h .sources₀) (h .floats₀) evaluating (got.Value x more) v′ s′ f′ → Returns (h .world) (h .sources₀) (h .floats₀) asked (got.Value x more) (set v′ i x) s′ f′
       ends x more k =
           let q = met (h .world) (h .sources₀) (h .floats₀) v′ s′ f′ evaluating x more k in
           meets-value (h .world) (h .sources₀) (h .floats₀) (set v′ i x) s′ f′ asked (record { value = q .read .value; mem = setValue i (q .read .value) (q .read .mem) })
           (asked-is ∙ ap (λ (r : Res Read). r >>= λ c. ok (record { value = c .value; mem = setValue i (c .value) (c .mem) })) (q .is)) (q .value) (q .number)
           (subst (λ (y : Float). Holds (h .world) (h .sources₀) (h .floats₀) (setValue i y (q .read .mem)) (set v′ i x) s′ f′ more) (q .value) (set-holds (q .holds) i x within (q .number)))
 
-      pub ends-refused : (z : Refusal) → Meets (h .world) (h .sources₀) (h .floats₀) evaluating (got.Refused z) v′ s′ f′ → Meets (h .world) (h .sources₀) (h .floats₀) asked (got.Refused z) v′ s′ f′
+      pub ends-refused : (z : Refusal) → Returns (h .world) (h .sources₀) (h .floats₀) evaluating (got.Refused z) v′ s′ f′ → Returns (h .world) (h .sources₀) (h .floats₀) asked (got.Refused z) v′ s′ f′
       ends-refused z k =
           meets-refused (h .world) (h .sources₀) (h .floats₀) v′ s′ f′ asked
           (asked-is ∙ ap (λ (r : Res Read). r >>= λ c. ok (record { value = c .value; mem = setValue i (c .value) (c .mem) })) (missed (h .world) (h .sources₀) (h .floats₀) v′ s′ f′ evaluating z k))

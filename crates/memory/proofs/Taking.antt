@@ -26,7 +26,7 @@ use Rattle.rules.specs.declared.Origin.{Origin}
 use Rattle.rules.specs.declared.Origin.the-variants as origin
 use Rattle.rules.specs.declared.Refusal.{Refusal}
 use Rattle.reading.specs.Held.{EntryHeld, Sourced, isRunning}
-use Rattle.sources.specs.declared.Run.{Run}
+use Rattle.sources.specs.declared.Recording.{Recording}
 use Rattle.sources.specs.Planned.{countsOf, plannedOf, plannedIf, plannedFor, runsIn}
 use Rattle.sources.specs.Keeping.{Keeping, Begins}
 use Rattle.sources.proofs.Planning.{counts-long}
@@ -35,11 +35,11 @@ use Rattle.gather.specs.declared.Stop.the-variants.{No, Because}
 use Rattle.gather.specs.Piles.{PileOf, PiledAs, entered, enteredCount}
 use Rattle.memory.specs.Memory.{valueAt, Grows}
 use Rattle.memory.specs.Steps.{rowAt, entryAt, noEntry, strengthOf}
-use Rattle.memory.specs.Holding.{Tables, Good, RowTold, Told, Holds, Ready, Piling, PileMeets, entriesFrom}
+use Rattle.memory.specs.Holding.{Tables, Good, RowTold, Tells, Holds, Ready, Piling, PileMeets, entriesFrom}
 use Rattle.memory.proofs.Growth.{value-grows}
 use Rattle.memory.proofs.Gathers.{gather-one, gather-other, from-idle, from-read, strength-grows}
 use Rattle.memory.proofs.Entering.{entered-values, same-operator}
-use Rattle.memory.specs.Answers.{Meets}
+use Rattle.memory.specs.Answers.{Returns}
 use Rattle.memory.specs.declared.apply.Got.the-variants as got
 use Rattle.memory.proofs.Fitting.{fits-below}
 use Rattle.memory.proofs.Holdings.{Met, met, missed, noted-holds, sources-long, floats-long}
@@ -61,7 +61,7 @@ planned-entered : (runs : Bool) (e : Effect) → enteredCount runs e ≡ planned
 planned-entered true e = refl
 planned-entered false e = refl
 
-module _ {t : Tables} {run : Run} {v : List Float} {s : List (List ℕ)} {f : List (List Float)} {i k : ℕ} {high : Bool} {op : EffectOperator} {p : Pile} (h : Piling t run v s f i k high op p) where
+module _ {t : Tables} {run : Recording} {v : List Float} {s : List (List ℕ)} {f : List (List Float)} {i k : ℕ} {high : Bool} {op : EffectOperator} {p : Pile} (h : Piling t run v s f i k high op p) where
   abbrev w : World
   w = h .ready .world
 
@@ -161,10 +161,10 @@ module _ {t : Tables} {run : Run} {v : List Float} {s : List (List ℕ)} {f : Li
             ∙ from-read w i row read x (x .origin) g (ap₂ (λ (a b : Bool). a || b) (sym runs-here) (h .ready .told .recorded .recording) ∙ wanted)
             ∙ ap (λ (b : Bool). strong >>= λ q. entered w i row b x (q .value) (record { mem = q .mem; values = h .values })) (sym runs-here)
 
-        pub entry-refused : (y : Refusal) (r : Pile) (v′ : List Float) (s′ : List (List ℕ)) (f′ : List (List Float)) → Meets w s₀ f₀ strong (got.Refused y) v′ s′ f′ → r .stop ≡ Because y → Answer asked r v′ s′ f′
+        pub entry-refused : (y : Refusal) (r : Pile) (v′ : List Float) (s′ : List (List ℕ)) (f′ : List (List Float)) → Returns w s₀ f₀ strong (got.Refused y) v′ s′ f′ → r .stop ≡ Because y → Answer asked r v′ s′ f′
         entry-refused y r v′ s′ f′ a z = rw (read-is ∙ ap (λ (q : Res Read). q >>= adding) (missed w s₀ f₀ v′ s′ f′ strong y a)) z
 
-        module _ (y : Float) (more : ℕ) (v′ : List Float) (s′ : List (List ℕ)) (f′ : List (List Float)) (a : Meets w s₀ f₀ strong (got.Value y more) v′ s′ f′) where
+        module _ (y : Float) (more : ℕ) (v′ : List Float) (s′ : List (List ℕ)) (f′ : List (List Float)) (a : Returns w s₀ f₀ strong (got.Value y more) v′ s′ f′) where
           abbrev pub q : Met w s₀ f₀ strong y v′ s′ f′ more
           q = met w s₀ f₀ v′ s′ f′ strong y more a
 

@@ -37,15 +37,15 @@ AppliedAs counts room s₀ f₀ i (refused y) (part.At x own used) s f = ⊥
 AppliedAs counts room s₀ f₀ i (refused y) (part.Refused z) s f = z ≡ y
 
 -- the value of an attribute, with the columns as they are then
-abbrev pub Meets : World → List (List ℕ) → List (List Float) → Res Read → Got → List Float → List (List ℕ) → List (List Float) → Type 0
-Meets w s₀ f₀ (ok q) (got.Value x used) v s f = (x ≡ q .value) × T (finite x) × Holds w s₀ f₀ (q .mem) v s f used
-Meets w s₀ f₀ (ok q) (got.Refused z) v s f = ⊥
-Meets w s₀ f₀ (refused y) (got.Value x used) v s f = ⊥
-Meets w s₀ f₀ (refused y) (got.Refused z) v s f = z ≡ y
+abbrev pub Returns : World → List (List ℕ) → List (List Float) → Res Read → Got → List Float → List (List ℕ) → List (List Float) → Type 0
+Returns w s₀ f₀ (ok q) (got.Value x used) v s f = (x ≡ q .value) × T (finite x) × Holds w s₀ f₀ (q .mem) v s f used
+Returns w s₀ f₀ (ok q) (got.Refused z) v s f = ⊥
+Returns w s₀ f₀ (refused y) (got.Value x used) v s f = ⊥
+Returns w s₀ f₀ (refused y) (got.Refused z) v s f = z ≡ y
 
 -- the same after one operator of row i, with its own source rows
-abbrev pub PartMeets : World → List (List ℕ) → List (List Float) → ℕ → Res Read → Part → List Float → List (List ℕ) → List (List Float) → Type 0
-PartMeets w s₀ f₀ i (ok q) (part.At x own used) v s f = (x ≡ q .value) × T (finite x) × (own ≡ length (ownSources i (q .mem))) × Holds w s₀ f₀ (q .mem) v s f used
-PartMeets w s₀ f₀ i (ok q) (part.Refused z) v s f = ⊥
-PartMeets w s₀ f₀ i (refused y) (part.At x own used) v s f = ⊥
-PartMeets w s₀ f₀ i (refused y) (part.Refused z) v s f = z ≡ y
+abbrev pub PartReturns : World → List (List ℕ) → List (List Float) → ℕ → Res Read → Part → List Float → List (List ℕ) → List (List Float) → Type 0
+PartReturns w s₀ f₀ i (ok q) (part.At x own used) v s f = (x ≡ q .value) × T (finite x) × (own ≡ length (ownSources i (q .mem))) × Holds w s₀ f₀ (q .mem) v s f used
+PartReturns w s₀ f₀ i (ok q) (part.Refused z) v s f = ⊥
+PartReturns w s₀ f₀ i (refused y) (part.At x own used) v s f = ⊥
+PartReturns w s₀ f₀ i (refused y) (part.Refused z) v s f = z ≡ y

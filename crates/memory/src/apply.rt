@@ -1,10 +1,11 @@
 // What becomes of an operator's pile, and of a value that meets a limit (pass_3.rs).
+use columns::SourceFloats;
 use gather::Pile;
 use numbers::less;
 use operate::finished;
 use rules::Refusal;
 use rules::Step;
-use sources::Run;
+use sources::Recording;
 use sources::marks::set_penalties;
 ghost use mathlib.Core.Path.{_≡_};
 ghost use mathlib.Core.Bool.{Bool, true, false};
@@ -34,7 +35,7 @@ pub enum Part {
 }
 
 // The operator's values are applied, and its source rows get their penalties.
-pub fn apply(floats: &mut [[f64; 2]], run: Run, first: u32, object: u32, p: Pile) -> Part
+pub fn apply(floats: &mut [SourceFloats], run: Recording, first: u32, object: u32, p: Pile) -> Part
     requires { ⌜ run .room ≤ length (now floats) ⌝ }
     ensures { λ r. ⌜ ((w : World) (counts : List ℕ) (s₀ : List (List ℕ)) (f₀ : List (List Float)) (i : ℕ) (row : Row) (high : Bool) (op : EffectOperator) (found : Float) (g : Gathered) (s : List (List ℕ)) → RunOf w run → Begins counts i first → row .object ≡ object → PileOf counts (w .room) s₀ f₀ i high op found g p s (now (floats .entry)) → (w .recording ≡ true → Fresh (ownSources i (g .mem)) (g .values .positive ++ g .values .negative)) → (w .recording ≡ false → ownSources i (g .mem) ≡ []) → (hasPenalty op ≡ false → (g .values .positive ≡ []) × (g .values .negative ≡ [])) → AppliedAs counts (w .room) s₀ f₀ i (applying row high op found i g) r s (now (floats .exit))) ⌝ }
 {

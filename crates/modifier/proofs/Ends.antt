@@ -19,7 +19,7 @@ use Rattle.rules.specs.Outcome as outcome
 use Rattle.rules.specs.declared.Pass2Effect.{Pass2Effect}
 use Rattle.rules.specs.declared.Refusal.{Refusal}
 use Rattle.rules.specs.declared.Refusal.the-variants.{Room}
-use Rattle.modifier.specs.declared.moves.Rooms.{Rooms}
+use Rattle.modifier.specs.declared.moves.CollectedRooms.{CollectedRooms}
 use Rattle.modifier.specs.Ran.{Stand, at, stop, valueOf, held, moved, ran, ended}
 use Rattle.modifier.proofs.Runs.{ran-stop}
 
@@ -68,7 +68,7 @@ module _ (n p : ℕ) (ms : List Move) (c : List (List ℕ)) (v : List Float) (l 
   one-plain (ok u) o e h = at-same refl (omega arith) refl refl (written-more p (plainNumbers (record { object = o; id = e })) _ l h)
   one-plain (refused x) o e h = refl
 
-abbrev pub roomsIn : outcome.Rooms → Rooms
+abbrev pub roomsIn : outcome.Rooms → CollectedRooms
 roomsIn q = record { collected = q .collected; plain = q .plain }
 
 module _ (q : outcome.Rooms) where

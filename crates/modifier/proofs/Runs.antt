@@ -14,12 +14,12 @@ use Rattle.rules.specs.Columns.{collectedNumbers}
 use Rattle.rules.specs.declared.Pass2Effect.{Pass2Effect}
 use Rattle.rules.specs.declared.Refusal.{Refusal}
 use Rattle.rules.specs.declared.Refusal.the-variants.{Room}
-use Rattle.modifier.specs.declared.moves.Rooms.{Rooms}
+use Rattle.modifier.specs.declared.moves.CollectedRooms.{CollectedRooms}
 use Rattle.modifier.specs.declared.moves.Counted.{Counted}
 use Rattle.modifier.specs.declared.moves.Counted.the-variants.{At, Refused}
 use Rattle.modifier.specs.Ran.{Stand, at, stop, standOf, valueOf, moved, ran}
 
-module _ (q : Rooms) where
+module _ (q : CollectedRooms) where
   pub ran-append : (xs ys : List Move) (s : Stand) → ran q (xs ++ ys) s ≡ ran q ys (ran q xs s)
   unfolding ran
   ran-append [] ys s = refl
@@ -36,12 +36,12 @@ module _ (q : Rooms) where
   ran-none s = refl
 
 -- the same moves lead to the same
-pub ran-same : (q : Rooms) (s : Stand) {xs ys : List Move} → xs ≡ ys → ran q xs s ≡ ran q ys s
+pub ran-same : (q : CollectedRooms) (s : Stand) {xs ys : List Move} → xs ≡ ys → ran q xs s ≡ ran q ys s
 ran-same q s e = ap (λ (l : List Move). ran q l s) e
 
 -- ---- a loop over the places i to e of a list
 
-module _ (q : Rooms) {A : Type 0} (F : A → List Move) (M : List A) (i e : ℕ) where
+module _ (q : CollectedRooms) {A : Type 0} (F : A → List Move) (M : List A) (i e : ℕ) where
   -- a turn: x is the element at i, it gives the moves xs, and they lead from s to t
   pub turn : (whole s t : Stand) (x : A) (xs : List Move) → i < e → i < length M → whole ≡ ran q (flat F (span i (e - i) M)) s → ((d : A) → x ≡ getD M i d) → xs ≡ F x → t ≡ ran q xs s → whole ≡ ran q (flat F (span (i + 1) (e - (i + 1)) M)) t
   turn whole s t x xs l h w n m r =
@@ -53,7 +53,7 @@ module _ (q : Rooms) {A : Type 0} (F : A → List Move) (M : List A) (i e : ℕ)
   ended-at whole s l w = sym (w ∙ ap (λ (k : List A). ran q (flat F k) s) (span-end i e M l) ∙ ran-none q s)
 
 -- what is left after a refusal changes nothing
-pub halted : (q : Rooms) (xs : List Move) (whole t : Stand) (x : Refusal) → whole ≡ ran q xs t → t ≡ stop x → stop x ≡ whole
+pub halted : (q : CollectedRooms) (xs : List Move) (whole t : Stand) (x : Refusal) → whole ≡ ran q xs t → t ≡ stop x → stop x ≡ whole
 halted q xs whole t x w e = sym (w ∙ ap (ran q xs) e ∙ ran-stop q xs x)
 
 -- an answer, as a pattern found it
@@ -65,7 +65,7 @@ was-refused e c v l = ap (λ (r : Counted). standOf r c v l) e
 
 -- ---- a row pushed
 
-module _ (q : Rooms) (n p : ℕ) (c : List (List ℕ)) (v : List Float) (l : List (List ℕ)) where
+module _ (q : CollectedRooms) (n p : ℕ) (c : List (List ℕ)) (v : List Float) (l : List (List ℕ)) where
   pub no-room : (t : Pass2Effect) → q .collected ≤ n → stop (Room 1) ≡ ran q (taken t ∷ []) (at n p c v l)
   unfolding ran moved
   no-room t h = rw (le-ltb n (q .collected) h) refl

@@ -12,7 +12,7 @@ use Rattle.rules.specs.declared.Pass2Effect.{Pass2Effect}
 use Rattle.rules.specs.declared.Refusal.{Refusal}
 use Rattle.rules.specs.declared.Refusal.the-variants.{Room}
 use Rattle.laws.specs.Columns.{laid}
-use Rattle.modifier.specs.declared.moves.Rooms.{Rooms}
+use Rattle.modifier.specs.declared.moves.CollectedRooms.{CollectedRooms}
 use Rattle.modifier.specs.declared.moves.Counted.{Counted}
 use Rattle.modifier.specs.declared.moves.Counted.the-variants.{At, Refused}
 
@@ -35,23 +35,23 @@ held true list s = s
 held false list s = stop (Room list)
 
 -- one move: a row more, if there is room
-unfoldable pub moved : Rooms → Move → Stand → Stand
+unfoldable pub moved : CollectedRooms → Move → Stand → Stand
 moved q m (stop x) = stop x
 moved q (taken t) (at n p c v l) = held (ltb n (q .collected)) 1 (at (n + 1) p (set c n (collectedNumbers t)) (set v n (valueOf t)) l)
 moved q (plain o e) (at n p c v l) = held (ltb p (q .plain)) 4 (at n (p + 1) c v (set l p (plainNumbers (record { object = o; id = e }))))
 moved q (refuse x) (at n p c v l) = stop x
 
 -- moves, in order
-unfoldable pub ran : Rooms → List Move → Stand → Stand
+unfoldable pub ran : CollectedRooms → List Move → Stand → Stand
 ran q [] s = s
 ran q (m ∷ r) s = ran q r (moved q m s)
 
 -- the rooms are no longer than the columns
-pub record Lent (q : Rooms) (c : List (List ℕ)) (v : List Float) : Type 0 where
+pub record Lent (q : CollectedRooms) (c : List (List ℕ)) (v : List Float) : Type 0 where
   pub numbers : q .collected ≤ length c
   pub values : q .collected ≤ length v
 
-pub record AllLent (q : Rooms) (c : List (List ℕ)) (v : List Float) (l : List (List ℕ)) : Type 0 where
+pub record AllLent (q : CollectedRooms) (c : List (List ℕ)) (v : List Float) (l : List (List ℕ)) : Type 0 where
   pub collected : Lent q c v
   pub plain : q .plain ≤ length l
 

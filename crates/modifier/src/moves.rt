@@ -1,5 +1,6 @@
 // The rows of lists 1 and 4, as what a modifier gives is added to them (pass_2.rs, the inside of collection).
 use super::causes::Moved;
+use columns::CollectedRow;
 use item::codes::category_code;
 use item::codes::operator_code;
 use numbers::integers::bits;
@@ -20,7 +21,7 @@ ghost use Rattle.modifier.specs.Causes.{movesOf};
 ghost use Rattle.modifier.specs.Ran.{Lent, at, ran, standOf};
 
 // The rooms of lists 1 and 4.
-pub struct Rooms {
+pub struct CollectedRooms {
     pub collected: usize,
     pub plain: usize,
 }
@@ -80,7 +81,7 @@ fn modifier_numbers(m: Modifier) -> [u32; 2]
     }
 }
 
-fn collected_numbers(e: Pass2Effect) -> [u32; 14]
+fn collected_numbers(e: Pass2Effect) -> CollectedRow
     ensures { λ r. ⌜ r ≡ collectedNumbers e ⌝ }
 {
     let origin = e.origin;
@@ -112,9 +113,9 @@ fn collected_numbers(e: Pass2Effect) -> [u32; 14]
 
 // A collected effect goes to the end of list 1.
 pub fn push(
-    c: &mut [[u32; 14]],
+    c: &mut [CollectedRow],
     v: &mut [f64],
-    rooms: Rooms,
+    rooms: CollectedRooms,
     n: usize,
     p: usize,
     e: Pass2Effect,
@@ -136,9 +137,9 @@ pub fn push(
 
 // What a modifier gives goes to list 1.
 pub fn put(
-    c: &mut [[u32; 14]],
+    c: &mut [CollectedRow],
     v: &mut [f64],
-    rooms: Rooms,
+    rooms: CollectedRooms,
     n: usize,
     p: usize,
     x: Moved,
@@ -156,7 +157,7 @@ pub fn put(
 // A plain effect goes to the end of list 4.
 pub fn push_plain(
     l: &mut [[u32; 2]],
-    rooms: Rooms,
+    rooms: CollectedRooms,
     n: usize,
     p: usize,
     object: u32,

@@ -12,13 +12,13 @@ use Rattle.rules.specs.Dispatch.{Row}
 use Rattle.rules.specs.Operate.{Values}
 use Rattle.rules.specs.Value.{World, Mem, Read, Gathered}
 use Rattle.rules.specs.declared.EffectOperator.{EffectOperator}
-use Rattle.sources.specs.declared.Run.{Run}
+use Rattle.sources.specs.declared.Recording.{Recording}
 use Rattle.gather.specs.declared.Growing.{Growing}
 use Rattle.gather.specs.declared.Pile.{Pile}
 use Rattle.gather.specs.Piles.{whole, Eights}
 use Rattle.memory.specs.Holding.{Tables, tables, PileMeets}
 use Rattle.memory.specs.Holding as holding
-use Rattle.memory.specs.Answers.{Meets, PartMeets}
+use Rattle.memory.specs.Answers.{Returns, PartReturns}
 use Rattle.memory.specs.declared.apply.Got.{Got}
 use Rattle.memory.specs.declared.apply.Part.{Part}
 
@@ -48,36 +48,36 @@ read b p s x l r c e v =
     tables (now (b .entry)) (now (p .entry)) (now (s .entry)) (now (x .entry)) (now (l .entry)) (now (r .entry)) (now (c .entry)) (now (e .entry)) (now (v .entry))
 
 -- the columns hold some world and some memory
-abbrev pub Ready : Tables → Floats → Rows → Pairs → Run → ℕ → Type 0
-Ready t v s f run used = holding.Ready t run (now v) (now s) (now f) used
+abbrev pub ReadyNow : Tables → Floats → Rows → Pairs → Recording → ℕ → Type 0
+ReadyNow t v s f run used = holding.Ready t run (now v) (now s) (now f) used
 
 -- and row i is under calculation
-abbrev pub Busy : Tables → Floats → Rows → Pairs → Run → ℕ → ℕ → ℕ → List EffectOperator → Type 0
-Busy t v s f run used i own ops = holding.Busy t run (now v) (now s) (now f) used i own ops
+abbrev pub BusyNow : Tables → Floats → Rows → Pairs → Recording → ℕ → ℕ → ℕ → List EffectOperator → Type 0
+BusyNow t v s f run used i own ops = holding.Busy t run (now v) (now s) (now f) used i own ops
 
 -- of the world and the memory that the columns held, the call gives what the definition g gives, and they hold the memory that g leaves
-abbrev pub Gives : Tables → Lent Floats → Lent Rows → Lent Pairs → Run → ℕ → Got → (World → Mem → Res Read) → Type 0
+abbrev pub Gives : Tables → Lent Floats → Lent Rows → Lent Pairs → Recording → ℕ → Got → (World → Mem → Res Read) → Type 0
 Gives t v s f run used r g =
     (h : holding.Ready t run (now (v .entry)) (now (s .entry)) (now (f .entry)) used)
-    → Meets (h .world) (h .sources₀) (h .floats₀) (g (h .world) (h .mem)) r (now (v .exit)) (now (s .exit)) (now (f .exit))
+    → Returns (h .world) (h .sources₀) (h .floats₀) (g (h .world) (h .mem)) r (now (v .exit)) (now (s .exit)) (now (f .exit))
 
 -- the same of row i under calculation
-abbrev pub BusyGives : Tables → Lent Floats → Lent Rows → Lent Pairs → Run → ℕ → ℕ → Got → (World → Mem → Res Read) → Type 0
+abbrev pub BusyGives : Tables → Lent Floats → Lent Rows → Lent Pairs → Recording → ℕ → ℕ → Got → (World → Mem → Res Read) → Type 0
 BusyGives t v s f run used i r g =
     (h : holding.Busy t run (now (v .entry)) (now (s .entry)) (now (f .entry)) used i 0 operators)
-    → Meets (h .ready .world) (h .ready .sources₀) (h .ready .floats₀) (g (h .ready .world) (h .ready .mem)) r (now (v .exit)) (now (s .exit)) (now (f .exit))
+    → Returns (h .ready .world) (h .ready .sources₀) (h .ready .floats₀) (g (h .ready .world) (h .ready .mem)) r (now (v .exit)) (now (s .exit)) (now (f .exit))
 
 -- the same of one operator of row i
-abbrev pub PartGives : Tables → Lent Floats → Lent Rows → Lent Pairs → Run → ℕ → ℕ → ℕ → EffectOperator → Part → (World → Mem → Res Read) → Type 0
+abbrev pub PartGives : Tables → Lent Floats → Lent Rows → Lent Pairs → Recording → ℕ → ℕ → ℕ → EffectOperator → Part → (World → Mem → Res Read) → Type 0
 PartGives t v s f run used i own op r g =
     (h : holding.Busy t run (now (v .entry)) (now (s .entry)) (now (f .entry)) used i own (op ∷ []))
-    → PartMeets (h .ready .world) (h .ready .sources₀) (h .ready .floats₀) i (g (h .ready .world) (h .ready .mem)) r (now (v .exit)) (now (s .exit)) (now (f .exit))
+    → PartReturns (h .ready .world) (h .ready .sources₀) (h .ready .floats₀) i (g (h .ready .world) (h .ready .mem)) r (now (v .exit)) (now (s .exit)) (now (f .exit))
 
 -- the same of an entry, on any row of an object
-abbrev pub GivesOn : Tables → Lent Floats → Lent Rows → Lent Pairs → Run → ℕ → ℕ → Got → (World → ℕ → Row → Mem → Res Read) → Type 0
+abbrev pub GivesOn : Tables → Lent Floats → Lent Rows → Lent Pairs → Recording → ℕ → ℕ → Got → (World → ℕ → Row → Mem → Res Read) → Type 0
 GivesOn t v s f run used object r g =
     (h : holding.Ready t run (now (v .entry)) (now (s .entry)) (now (f .entry)) used) (i : ℕ) (row : Row) → row .object ≡ object
-    → Meets (h .world) (h .sources₀) (h .floats₀) (g (h .world) i row (h .mem)) r (now (v .exit)) (now (s .exit)) (now (f .exit))
+    → Returns (h .world) (h .sources₀) (h .floats₀) (g (h .world) i row (h .mem)) r (now (v .exit)) (now (s .exit)) (now (f .exit))
 
 -- the pile as it is lent, and at entry and at exit
 abbrev pub pileOf : Floats → Numbers → Floats → Numbers → Growing → Pile
@@ -91,11 +91,11 @@ abbrev pub EightsAt : Floats → Numbers → Floats → Numbers → Type 0
 EightsAt pv ps nv ns = Eights (now pv) (now ps) (now nv) (now ns)
 
 -- row i is under calculation, and the pile holds what the entries before entry k gave
-abbrev pub Piling : Tables → Floats → Rows → Pairs → Run → ℕ → ℕ → Bool → EffectOperator → Pile → Type 0
+abbrev pub Piling : Tables → Floats → Rows → Pairs → Recording → ℕ → ℕ → Bool → EffectOperator → Pile → Type 0
 Piling t v s f run i k high op p = holding.Piling t run (now v) (now s) (now f) i k high op p
 
 -- the pile holds what the definition g gathers
-abbrev pub PileGives : Tables → Lent Floats → Lent Rows → Lent Pairs → Lent Pile → Run → ℕ → ℕ → Bool → EffectOperator → (World → Mem → Values → Res Gathered) → Type 0
+abbrev pub PileGives : Tables → Lent Floats → Lent Rows → Lent Pairs → Lent Pile → Recording → ℕ → ℕ → Bool → EffectOperator → (World → Mem → Values → Res Gathered) → Type 0
 PileGives t v s f pile run i k high op g =
     (h : holding.Piling t run (now (v .entry)) (now (s .entry)) (now (f .entry)) i k high op (pile .entry))
     → PileMeets (h .ready .world) (h .ready .sources₀) (h .ready .floats₀) i high op (h .found) (g (h .ready .world) (h .ready .mem) (h .values)) (pile .exit) (now (v .exit)) (now (s .exit)) (now (f .exit))

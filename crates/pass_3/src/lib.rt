@@ -42,7 +42,7 @@ use rules::OptionalId;
 use rules::Origin;
 use rules::Refusal;
 use rules::Step;
-use sources::Run;
+use sources::Recording;
 ghost use mathlib.Core.Path.{_≡_};
 ghost use mathlib.Core.Bool.{Bool, cond};
 ghost use mathlib.Core.List.{List, [], _∷_};
@@ -59,7 +59,7 @@ ghost use Rattle.memory.specs.Steps.{rowAt, entryAt, strengthOf, evaluation};
 ghost use Rattle.memory.specs.Holding.{highAt, Good};
 ghost use Rattle.memory.specs.Answers.{heldBy};
 ghost use Rattle.gather.specs.Piles.{Eights};
-ghost use Rattle.pass_3.specs.Calls.{lent, read, Ready, Busy, Gives, BusyGives, PartGives, GivesOn, Piling, PileGives, pileOf, piled, EightsAt};
+ghost use Rattle.pass_3.specs.Calls.{lent, read, ReadyNow, BusyNow, Gives, BusyGives, PartGives, GivesOn, Piling, PileGives, pileOf, piled, EightsAt};
 
 // The value of an attribute of an object: its row's, or the default where it has none.
 pub fn calculated_value(
@@ -75,14 +75,14 @@ pub fn calculated_value(
     bases: &[f64],
     entries: &[EntryRow],
     entry_values: &[f64],
-    run: Run,
+    run: Recording,
     object: u32,
     attribute: i32,
     left: u32,
     used: u32,
 ) -> Got
     requires holding { let t = lent book pairs states stretches limits rows bases entries «entry_values» in
-        ⌜ Ready t values sources floats run used ⌝ }
+        ⌜ ReadyNow t values sources floats run used ⌝ }
     requires an_object { ⌜ object < 1024 ⌝ }
     ensures defined { λ r.
         let t = read book pairs states stretches limits rows bases entries «entry_values» in
@@ -129,13 +129,13 @@ pub fn calculate_value(
     bases: &[f64],
     entries: &[EntryRow],
     entry_values: &[f64],
-    run: Run,
+    run: Recording,
     row: usize,
     left: u32,
     used: u32,
 ) -> Got
     requires holding { let t = lent book pairs states stretches limits rows bases entries «entry_values» in
-        ⌜ Ready t values sources floats run used ⌝ }
+        ⌜ ReadyNow t values sources floats run used ⌝ }
     requires within { ⌜ row < length (now rows) ⌝ }
     ensures defined { λ r.
         let t = read book pairs states stretches limits rows bases entries «entry_values» in
@@ -192,13 +192,13 @@ fn evaluated(
     bases: &[f64],
     entries: &[EntryRow],
     entry_values: &[f64],
-    run: Run,
+    run: Recording,
     row: usize,
     left: u32,
     used: u32,
 ) -> Got
     requires begun { let t = lent book pairs states stretches limits rows bases entries «entry_values» in
-        ⌜ Busy t values sources floats run used row 0 operators ⌝ }
+        ⌜ BusyNow t values sources floats run used row 0 operators ⌝ }
     ensures defined { λ r.
         let t = read book pairs states stretches limits rows bases entries «entry_values» in
         ⌜ BusyGives t values sources floats run used row r (λ w. evaluation w (valueOf w left) row (rowAt w row)) ⌝ }
@@ -300,7 +300,7 @@ fn limited(
     bases: &[f64],
     entries: &[EntryRow],
     entry_values: &[f64],
-    run: Run,
+    run: Recording,
     object: u32,
     limit: i32,
     least: bool,
@@ -309,7 +309,7 @@ fn limited(
     used: u32,
 ) -> Got
     requires holding { let t = lent book pairs states stretches limits rows bases entries «entry_values» in
-        ⌜ Ready t values sources floats run used ⌝ }
+        ⌜ ReadyNow t values sources floats run used ⌝ }
     requires within { ⌜ (object < 1024) × T (finite v) ⌝ }
     ensures defined { λ r.
         let t = read book pairs states stretches limits rows bases entries «entry_values» in
@@ -358,14 +358,14 @@ fn operated(
     bases: &[f64],
     entries: &[EntryRow],
     entry_values: &[f64],
-    run: Run,
+    run: Recording,
     row: usize,
     high: bool,
     left: u32,
     used: u32,
 ) -> Got
     requires begun { let t = lent book pairs states stretches limits rows bases entries «entry_values» in
-        ⌜ (Busy t values sources floats run used row 0 operators) × (high ≡ highAt t row) ⌝ }
+        ⌜ (BusyNow t values sources floats run used row 0 operators) × (high ≡ highAt t row) ⌝ }
     ensures defined { λ r.
         let t = read book pairs states stretches limits rows bases entries «entry_values» in
         ⌜ BusyGives t values sources floats run used row r
@@ -432,7 +432,7 @@ fn gathered(
     bases: &[f64],
     entries: &[EntryRow],
     entry_values: &[f64],
-    run: Run,
+    run: Recording,
     row: usize,
     operator: EffectOperator,
     high: bool,
@@ -442,7 +442,7 @@ fn gathered(
     used: u32,
 ) -> Part
     requires begun { let t = lent book pairs states stretches limits rows bases entries «entry_values» in
-        ⌜ (Busy t values sources floats run used row own (operator ∷ [])) × (T (finite found) × (high ≡ highAt t row)) ⌝ }
+        ⌜ (BusyNow t values sources floats run used row own (operator ∷ [])) × (T (finite found) × (high ≡ highAt t row)) ⌝ }
     ensures defined { λ r.
         let t = read book pairs states stretches limits rows bases entries «entry_values» in
         ⌜ PartGives t values sources floats run used row own operator r
@@ -512,7 +512,7 @@ fn with_entry(
     bases: &[f64],
     entries: &[EntryRow],
     entry_values: &[f64],
-    run: Run,
+    run: Recording,
     row: usize,
     k: usize,
     operator: EffectOperator,
@@ -600,14 +600,14 @@ fn strength(
     bases: &[f64],
     entries: &[EntryRow],
     entry_values: &[f64],
-    run: Run,
+    run: Recording,
     object: u32,
     e: Effect,
     left: u32,
     used: u32,
 ) -> Got
     requires holding { let t = lent book pairs states stretches limits rows bases entries «entry_values» in
-        ⌜ Ready t values sources floats run used ⌝ }
+        ⌜ ReadyNow t values sources floats run used ⌝ }
     requires good { ⌜ Good e ⌝ }
     ensures defined { λ r.
         let t = read book pairs states stretches limits rows bases entries «entry_values» in
@@ -710,7 +710,7 @@ fn resisted(
     bases: &[f64],
     entries: &[EntryRow],
     entry_values: &[f64],
-    run: Run,
+    run: Recording,
     object: u32,
     resistance: OptionalId,
     v: f64,
@@ -718,7 +718,7 @@ fn resisted(
     used: u32,
 ) -> Got
     requires holding { let t = lent book pairs states stretches limits rows bases entries «entry_values» in
-        ⌜ Ready t values sources floats run used ⌝ }
+        ⌜ ReadyNow t values sources floats run used ⌝ }
     requires number { ⌜ T (finite v) ⌝ }
     ensures defined { λ r.
         let t = read book pairs states stretches limits rows bases entries «entry_values» in

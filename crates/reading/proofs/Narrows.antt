@@ -47,12 +47,12 @@ module _ (c : List (List ℕ)) (a : ℤ) (first end : ℕ) where
   narrowed-none l = record { within = omega arith; between = λ o rs H w b. between-end (rowBefore o a) rs noRow b l }
 
   -- of the rows before k those before found stand before the attribute, and the others do not
-  pub record Counts (k found : ℕ) : Type 0 where
+  pub record CountedFound (k found : ℕ) : Type 0 where
     pub within : first ≤ found
     pub upTo : found ≤ k
     pub counted : (o : ℕ) (rs : List Row) → RowsHeld rs c → AllOf o rs first end → Between (rowBefore o a) rs noRow first end → Counted (rowBefore o a) rs noRow k found
 
-  pub counts-start : {lo hi : ℕ} → Narrowed c a first end lo hi → Counts lo lo
+  pub counts-start : {lo hi : ℕ} → Narrowed c a first end lo hi → CountedFound lo lo
   counts-start n =
       record {
         within = n .within;
@@ -60,7 +60,7 @@ module _ (c : List (List ℕ)) (a : ℤ) (first end : ℕ) where
         counted = λ o rs H w b. counted-start (rowBefore o a) rs noRow (n .between o rs H w b);
       }
 
-  pub counts-end : {lo hi k found : ℕ} → Narrowed c a first end lo hi → Counts k found → hi ≤ k → Narrowed c a first end found found
+  pub counts-end : {lo hi k found : ℕ} → Narrowed c a first end lo hi → CountedFound k found → hi ≤ k → Narrowed c a first end found found
   counts-end n v l =
       record {
         within = v .within;
@@ -94,7 +94,7 @@ module _ (c : List (List ℕ)) (a : ℤ) (first end : ℕ) where
               (stepped q (lo + 3 * q - 1) (omega arith) (omega arith) e3 p3 o rs H w);
         }
 
-    pub counts-more : {k found x : ℕ} {t : Bool} → Counts k found → k < end → ltZ (toZ w32 (getD (getD c k []) 1 0)) a ≡ t → x ≡ cond t 1 0 → x ≤ 1 → Counts (k + 1) (found + x)
+    pub counts-more : {k found x : ℕ} {t : Bool} → CountedFound k found → k < end → ltZ (toZ w32 (getD (getD c k []) 1 0)) a ≡ t → x ≡ cond t 1 0 → x ≤ 1 → CountedFound (k + 1) (found + x)
     counts-more {k} v l e p few =
         record {
           within = omega (arith, v .within);

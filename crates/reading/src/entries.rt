@@ -1,4 +1,6 @@
 // Entries by value, and what is asked of them.
+use columns::EntryRow;
+use columns::States;
 use info::little_endian::index;
 use item::CategoryFound;
 use item::OperatorFound;
@@ -52,7 +54,7 @@ fn optional_id(given: u32, id: u32) -> OptionalId
     OptionalId::Absent
 }
 
-fn origin_of(e: [u32; 11], value: f64) -> Origin
+fn origin_of(e: EntryRow, value: f64) -> Origin
     ensures { λ r. ⌜ ((g : Origin) (rest : List ℕ) → NarrowOrigin g → e ≡ originNumbers g ++ rest → value ≡ originValue g → r ≡ g) ⌝ }
 {
     if e[0] == 0 {
@@ -70,7 +72,7 @@ fn origin_of(e: [u32; 11], value: f64) -> Origin
 }
 
 // Entry i, by value: a buff's value is in its origin.
-pub fn entry_at(entries: &[[u32; 11]], values: &[f64], i: usize) -> Effect
+pub fn entry_at(entries: &[EntryRow], values: &[f64], i: usize) -> Effect
     requires { ⌜ (i < length (now entries)) × (i < length (now values)) ⌝ }
     ensures { λ r. ⌜ ((e : Effect) → EntryHeld e (getD (now (entries .entry)) i []) (getD (now (values .entry)) i nan) → r ≡ e) ⌝ }
 {
@@ -86,7 +88,7 @@ pub fn entry_at(entries: &[[u32; 11]], values: &[f64], i: usize) -> Effect
 }
 
 // Whether an entry runs: a buff always does.
-pub fn is_running(states: &[[u32; 2]; 1024], origin: Origin) -> bool
+pub fn is_running(states: &States, origin: Origin) -> bool
     requires { ⌜ Sourced origin ⌝ }
     ensures { λ r. ⌜ r ≡ isRunning (now (states .entry)) origin ⌝ }
 {
@@ -109,7 +111,7 @@ pub fn is_running(states: &[[u32; 2]; 1024], origin: Origin) -> bool
 }
 
 // A mark for each operator that an entry from first to end is of, at its code.
-pub fn operators_in(entries: &[[u32; 11]], first: usize, end: usize) -> [u32; 9]
+pub fn operators_in(entries: &[EntryRow], first: usize, end: usize) -> [u32; 9]
     requires { ⌜ end ≤ length (now entries) ⌝ }
     ensures { λ r. ⌜ ((c : ℕ) → c < 9 → isMarked r c ≡ some? (hasCode c) (span first (end - first) (now (entries .entry)))) ⌝ }
 {

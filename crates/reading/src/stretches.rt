@@ -1,5 +1,9 @@
 // A row found in its object's stretch of list 2, whether an attribute may have a limit, and the two tables that tell.
 use super::rows::Found;
+use columns::AttributeRow;
+use columns::Limits;
+use columns::Stretches;
+use columns::TablePairs;
 use info::header::count_of;
 use info::little_endian::index;
 use info::records::attribute;
@@ -22,7 +26,7 @@ ghost use Rattle.reading.specs.Held.{RowsHeld, placed, indexOf};
 ghost use Rattle.reading.specs.Stretched.{Stretched, Narrowed, Past, Limits};
 
 // Where the first row from one to another whose attribute is not before the one sought lies: of eight or more a quarter and what is over is left.
-fn narrowed(rows: &[[u32; 6]], first: usize, end: usize, id: i32) -> Window
+fn narrowed(rows: &[AttributeRow], first: usize, end: usize, id: i32) -> Window
     requires { ⌜ first ≤ end ⌝ }
     requires { ⌜ end ≤ length (now rows) ⌝ }
     ensures { λ r. ⌜ r .low + r .left ≤ end ⌝ }
@@ -45,7 +49,7 @@ fn narrowed(rows: &[[u32; 6]], first: usize, end: usize, id: i32) -> Window
 }
 
 // The first row from one to another whose attribute is not before the one sought: in its window those before it are counted.
-fn lower(rows: &[[u32; 6]], first: usize, end: usize, id: i32) -> usize
+fn lower(rows: &[AttributeRow], first: usize, end: usize, id: i32) -> usize
     requires { ⌜ end ≤ length (now rows) ⌝ }
     ensures { λ r. ⌜ Narrowed (now (rows .entry)) id first end r r ⌝ }
 {
@@ -65,7 +69,7 @@ fn lower(rows: &[[u32; 6]], first: usize, end: usize, id: i32) -> usize
 }
 
 // The row of an attribute of an object.
-pub fn find(rows: &[[u32; 6]], stretches: &[[u32; 2]; 1024], object: u32, id: i32) -> Found
+pub fn find(rows: &[AttributeRow], stretches: &Stretches, object: u32, id: i32) -> Found
     requires { ⌜ object < 1024 ⌝ }
     ensures { λ r. ⌜ ((rs : List Row) → RowsHeld rs (now (rows .entry)) → Stretched rs (now (stretches .entry)) → placed r ≡ indexOf (findRow object id 0 rs)) ⌝ }
 {
@@ -86,7 +90,7 @@ pub fn find(rows: &[[u32; 6]], stretches: &[[u32; 2]; 1024], object: u32, id: i3
 }
 
 // The first row from one on that is of a later object.
-fn past(rows: &[[u32; 6]], first: usize, object: u32) -> usize
+fn past(rows: &[AttributeRow], first: usize, object: u32) -> usize
     requires { ⌜ first ≤ length (now rows) ⌝ }
     ensures { λ r. ⌜ Past (now (rows .entry)) object first r ⌝ }
 {
@@ -102,7 +106,7 @@ fn past(rows: &[[u32; 6]], first: usize, object: u32) -> usize
 }
 
 // The stretches of all objects, in one pass over the rows.
-pub fn set_stretches(rows: &[[u32; 6]]) -> [[u32; 2]; 1024]
+pub fn set_stretches(rows: &[AttributeRow]) -> [[u32; 2]; 1024]
     requires { ⌜ length (now rows) < 2 ^ 32 ⌝ }
     ensures { λ r. ⌜ ((rs : List Row) → RowsHeld rs (now (rows .entry)) → Stretched rs r) ⌝ }
 {
@@ -121,7 +125,7 @@ pub fn set_stretches(rows: &[[u32; 6]]) -> [[u32; 2]; 1024]
 }
 
 // Whether an attribute may have a limit.
-pub fn is_limited(limits: &[u32; 1024], id: i32) -> bool
+pub fn is_limited(limits: &Limits, id: i32) -> bool
     ensures { λ r. ⌜ ((k : Book) → Limits k (now (limits .entry)) → r ≡ false → (getDogmaAttribute k id .«min_attribute_id» ≡ pos 0) × (getDogmaAttribute k id .«max_attribute_id» ≡ pos 0)) ⌝ }
 {
     let mark = limits[index(bits(id) % 1024)];
@@ -129,7 +133,7 @@ pub fn is_limited(limits: &[u32; 1024], id: i32) -> bool
 }
 
 // Marks of the attributes that may have a limit, by their ids modulo 1,024.
-pub fn set_limits(book: &[u8], pairs: &[[u32; 2]; 10]) -> [u32; 1024]
+pub fn set_limits(book: &[u8], pairs: &TablePairs) -> [u32; 1024]
     requires { ⌜ HeldBook (now book) (now pairs) ⌝ }
     ensures { λ r. ⌜ Limits (bookOf (now (book .entry)) (now (pairs .entry))) r ⌝ }
 {

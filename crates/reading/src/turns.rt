@@ -1,4 +1,6 @@
 // In which order the walk goes over the rows of list 2: ship, projected, mode, char, items and charges, skills, ids ascending (pass_3.rs).
+use columns::AttributeRow;
+use columns::TablePairs;
 use info::header::count_of;
 use info::records::object;
 use info::standing::char_of;
@@ -23,7 +25,7 @@ pub struct Turns {
 }
 
 // How many rows are of objects below one: rows ascend by object.
-fn rows_below(rows: &[[u32; 6]], object: u32) -> usize
+fn rows_below(rows: &[AttributeRow], object: u32) -> usize
     ensures { λ r. ⌜ ((rs : List Row) → RowsHeld rs (now (rows .entry)) → r ≡ rowsBelow object rs) ⌝ }
 {
     let mut low: usize = 0;
@@ -41,7 +43,7 @@ fn rows_below(rows: &[[u32; 6]], object: u32) -> usize
 }
 
 // The number just past the last projected one: they stand right after the char.
-fn projected_end(fit: &[u8], pairs: &[[u32; 2]; 10], character: u32) -> u32
+fn projected_end(fit: &[u8], pairs: &TablePairs, character: u32) -> u32
     requires { ⌜ SoundFit (now fit) (now pairs) ⌝ }
     requires { ⌜ character ≡ charOf (fitOf (now fit) (now pairs)) ⌝ }
     ensures { λ r. ⌜ r ≡ projectedEnd (fitOf (now (fit .entry)) (now (pairs .entry))) ⌝ }
@@ -58,7 +60,7 @@ fn projected_end(fit: &[u8], pairs: &[[u32; 2]; 10], character: u32) -> u32
     i as u32
 }
 
-pub fn turns_of(rows: &[[u32; 6]], fit: &[u8], pairs: &[[u32; 2]; 10]) -> Turns
+pub fn turns_of(rows: &[AttributeRow], fit: &[u8], pairs: &TablePairs) -> Turns
     requires { ⌜ SoundFit (now fit) (now pairs) ⌝ }
     ensures { λ r. ⌜ ((rs : List Row) → RowsHeld rs (now (rows .entry)) → owned (length (fitOf (now (fit .entry)) (now (pairs .entry)) .objects)) rs ≡ true → TurnsOf (fitOf (now (fit .entry)) (now (pairs .entry))) rs r) ⌝ }
 {

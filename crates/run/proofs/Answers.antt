@@ -25,20 +25,20 @@ use Rattle.modifier.proofs.Runs.{answered, was-refused}
 use Rattle.dispatch.specs.declared.Dispatched.{Dispatched}
 use Rattle.dispatch.specs.declared.Dispatched.the-variants.{Lists, Full}
 use Rattle.dispatch.specs.Whole.{Collection, Collecting, Given}
-use Rattle.run.specs.declared.lists.Rooms.{Rooms}
+use Rattle.run.specs.declared.lists.ListRooms.{ListRooms}
 use Rattle.run.specs.declared.lists.Listed.{Listed}
 use Rattle.run.specs.Listing.{listsIn, RoomsOf, Lent, ListedAs, listedOf, RowsWithin}
 use Rattle.run.proofs.Steps.{base-full, not-collected, dispatched}
 use Rattle.run.proofs.Gathered.{Gathered, gathered, collection}
 
 -- the definition's rooms, by the rooms given
-abbrev pub roomsBy : Rooms → outcome.Rooms
+abbrev pub roomsBy : ListRooms → outcome.Rooms
 roomsBy s = record { collected = s .collected; rows = s .rows; entries = s .entries; plain = s .plain; sources = 0 }
 
-pub no-base-room : (k : Book) (f : Fit) (s : Rooms) (q : outcome.Rooms) → RoomsOf q s → s .rows < length (baseKeys f) → listsIn k f q ≡ refused (Room 2)
+pub no-base-room : (k : Book) (f : Fit) (s : ListRooms) (q : outcome.Rooms) → RoomsOf q s → s .rows < length (baseKeys f) → listsIn k f q ≡ refused (Room 2)
 no-base-room k f s q Q h = base-full k f q (omega (arith, Q .rows, h))
 
-module _ (book fit : List ℕ) (pairs : List (List ℕ)) (S : SoundFit fit pairs) (s : Rooms) {c : List (List ℕ)} {v : List Float} {r : List (List ℕ)} {b : List Float} {e : List (List ℕ)} {w : List Float} {l : List (List ℕ)} (L : Lent s c v r b e w l) where
+module _ (book fit : List ℕ) (pairs : List (List ℕ)) (S : SoundFit fit pairs) (s : ListRooms) {c : List (List ℕ)} {v : List Float} {r : List (List ℕ)} {b : List Float} {e : List (List ℕ)} {w : List Float} {l : List (List ℕ)} (L : Lent s c v r b e w l) where
   abbrev k : Book
   k = bookOf book pairs
 

@@ -11,8 +11,8 @@ use Rattle.laws.specs.Lists.{flat}
 use Rattle.rules.specs.Answer.{Res, ok, refused}
 use Rattle.rules.specs.Columns.{collectedNumbers, rowsNumbers, entryNumbers, originValue, plainNumbers, sourceNumbers, sourceFloats}
 use Rattle.rules.specs.Outcome.{Lent, Done}
-use Rattle.clear.specs.declared.Counts.{Counts}
-use Rattle.run.specs.declared.lists.Counts as lists
+use Rattle.clear.specs.declared.KeptCounts.{KeptCounts}
+use Rattle.run.specs.declared.lists.ListCounts as lists
 use Rattle.values.specs.declared.walk.Valued.{Valued}
 use Rattle.values.specs.declared.walk.Valued.the-variants as valued
 use Rattle.run.specs.declared.Ran.{Ran}
@@ -62,7 +62,7 @@ lentOf c =
     }
 
 -- the columns c, which were c₀, and the states hold what is done, counted
-pub record Filled (d : Done) (n : Counts) (st : List (List ℕ)) (c₀ c : Columns) : Type 0 where
+pub record Filled (d : Done) (n : KeptCounts) (st : List (List ℕ)) (c₀ c : Columns) : Type 0 where
   pub objects : n .objects ≡ length (d .states)
   pub few : length (d .states) ≤ 1024
   pub n-collected : n .collected ≡ length (d .collected)
@@ -91,7 +91,7 @@ RanAs (refused x) (ran.Done n) st c₀ c = ⊥
 RanAs (refused x) (ran.Refused y) st c₀ c = y ≡ x
 
 -- the answer once the lists are counted, by what the values gave
-abbrev pub ranBy : Valued → lists.Counts → ℕ → Ran
+abbrev pub ranBy : Valued → lists.ListCounts → ℕ → Ran
 ranBy (valued.At used) n objects =
     ran.Done (record { objects = objects; collected = n .collected; rows = n .rows; entries = n .entries; plain = n .plain; sources = used })
 ranBy (valued.Refused y) n objects = ran.Refused y

@@ -20,8 +20,8 @@ use Rattle.rows.specs.Parts.{ListsLaid}
 use Rattle.rules.specs.declared.Refusal.the-variants.{Room}
 use Rattle.dispatch.specs.declared.Dispatched.{Dispatched}
 use Rattle.dispatch.specs.declared.Dispatched.the-variants.{Lists, Full}
-use Rattle.run.specs.declared.lists.Rooms.{Rooms}
-use Rattle.run.specs.declared.lists.Counts.{Counts}
+use Rattle.run.specs.declared.lists.ListRooms.{ListRooms}
+use Rattle.run.specs.declared.lists.ListCounts.{ListCounts}
 use Rattle.run.specs.declared.lists.Listed.{Listed}
 use Rattle.run.specs.declared.lists.Listed.the-variants.{Done, Refused}
 
@@ -40,14 +40,14 @@ valuedIn k f q = do
   ok (record { states = w .states; collected = collectedIn k f; plain = plainOf (moves k f); rows = w .rows; values = m .values; sources = m .sources })
 
 -- the definition's rooms of lists 1 to 4 are these
-pub record RoomsOf (q : outcome.Rooms) (s : Rooms) : Type 0 where
+pub record RoomsOf (q : outcome.Rooms) (s : ListRooms) : Type 0 where
   pub collected : q .collected ≡ s .collected
   pub rows : q .rows ≡ s .rows
   pub entries : q .entries ≡ s .entries
   pub plain : q .plain ≡ s .plain
 
 -- no room is longer than its columns, or past 32 bits where that counts
-pub record Lent (s : Rooms) (c : List (List ℕ)) (v : List Float) (r : List (List ℕ)) (b : List Float) (e : List (List ℕ)) (w : List Float) (p : List (List ℕ)) : Type 0 where
+pub record Lent (s : ListRooms) (c : List (List ℕ)) (v : List Float) (r : List (List ℕ)) (b : List Float) (e : List (List ℕ)) (w : List Float) (p : List (List ℕ)) : Type 0 where
   pub collected : s .collected ≤ length c
   pub collectedValues : s .collected ≤ length v
   pub collectedFew : s .collected < 2 ^ 32
@@ -58,7 +58,7 @@ pub record Lent (s : Rooms) (c : List (List ℕ)) (v : List Float) (r : List (Li
   pub entriesFew : s .entries < 2 ^ 32
   pub plain : s .plain ≤ length p
 
-pub record CountsOf (n : Counts) (k : Book) (f : Fit) : Type 0 where
+pub record CountsOf (n : ListCounts) (k : Book) (f : Fit) : Type 0 where
   pub collected : n .collected ≡ length (collectedIn k f)
   pub rows : n .rows ≡ length (rowsIn k f)
   pub entries : n .entries ≡ length (entriesOf (rowsIn k f))

@@ -1,5 +1,10 @@
 // Lists 1 to 4 of a sound sheet: base attributes, collection and dispatch, in 01's order.
 use collect::objects::collect;
+use columns::AttributeRow;
+use columns::CollectedRow;
+use columns::EntryRow;
+use columns::PlainRow;
+use columns::TablePairs;
 use dispatch::Dispatched;
 use dispatch::dispatch;
 use dispatch::room::base_total;
@@ -12,7 +17,7 @@ ghost use Rattle.info.specs.Sound.{SoundBook, SoundFit};
 ghost use Rattle.run.specs.Listing.{RoomsOf, Lent, ListedAs, RowsWithin, listedOf, listsIn};
 
 // The rooms of lists 1 to 4.
-pub struct Rooms {
+pub struct ListRooms {
     pub collected: usize,
     pub rows: usize,
     pub entries: usize,
@@ -20,7 +25,7 @@ pub struct Rooms {
 }
 
 // How many rows each of them has.
-pub struct Counts {
+pub struct ListCounts {
     pub collected: usize,
     pub rows: usize,
     pub entries: usize,
@@ -29,7 +34,7 @@ pub struct Counts {
 
 // The counts; or the first refusal.
 pub enum Listed {
-    Done(Counts),
+    Done(ListCounts),
     Refused(Refusal),
 }
 
@@ -39,7 +44,7 @@ fn with_counts(given: Dispatched, n: usize, p: usize) -> Listed
 {
     match given {
         Dispatched::Lists(k, m) => {
-            Listed::Done(Counts {
+            Listed::Done(ListCounts {
                 collected: n,
                 rows: k,
                 entries: m,
@@ -52,17 +57,17 @@ fn with_counts(given: Dispatched, n: usize, p: usize) -> Listed
 
 // The base attributes are to have room before anything is collected. After a refusal the columns may hold anything: who lent them clears them.
 pub fn set_lists(
-    collected: &mut [[u32; 14]],
+    collected: &mut [CollectedRow],
     collected_values: &mut [f64],
-    rows: &mut [[u32; 6]],
+    rows: &mut [AttributeRow],
     bases: &mut [f64],
-    entries: &mut [[u32; 11]],
+    entries: &mut [EntryRow],
     entry_values: &mut [f64],
-    plain: &mut [[u32; 2]],
+    plain: &mut [PlainRow],
     book: &[u8],
     fit: &[u8],
-    pairs: &[[u32; 2]; 10],
-    rooms: Rooms,
+    pairs: &TablePairs,
+    rooms: ListRooms,
 ) -> Listed
     requires { ⌜ SoundBook (now book) (now pairs) ⌝ }
     requires { ⌜ SoundFit (now fit) (now pairs) ⌝ }

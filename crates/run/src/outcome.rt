@@ -1,6 +1,13 @@
 // Any bytes: SHAPE, then a run (calculate.rs).
 use super::Ran;
 use super::fill;
+use columns::AttributeRow;
+use columns::CollectedRow;
+use columns::EntryRow;
+use columns::PlainRow;
+use columns::SourceFloats;
+use columns::SourceRow;
+use columns::States;
 use info::header::pairs_of;
 use rules::Refusal;
 use shape::Shaped;
@@ -10,17 +17,17 @@ ghost use Rattle.run.specs.Filled.{columns, lentOf, RanAs};
 
 // SHAPE comes first. After a refusal the columns may hold anything: who lent them clears them.
 pub fn filled(
-    states: &mut [[u32; 2]; 1024],
-    collected: &mut [[u32; 14]],
+    states: &mut States,
+    collected: &mut [CollectedRow],
     collected_values: &mut [f64],
-    rows: &mut [[u32; 6]],
+    rows: &mut [AttributeRow],
     bases: &mut [f64],
     values: &mut [f64],
-    entries: &mut [[u32; 11]],
+    entries: &mut [EntryRow],
     entry_values: &mut [f64],
-    plain: &mut [[u32; 2]],
-    sources: &mut [[u32; 10]],
-    source_values: &mut [[f64; 2]],
+    plain: &mut [PlainRow],
+    sources: &mut [SourceRow],
+    source_values: &mut [SourceFloats],
     sheet: &[u8],
 ) -> Ran
     ensures { λ r. ⌜ RanAs (outcome.outcome (now (sheet .entry)) (lentOf (columns (now (collected .entry)) (now («collected_values» .entry)) (now (rows .entry)) (now (bases .entry)) (now (values .entry)) (now (entries .entry)) (now («entry_values» .entry)) (now (plain .entry)) (now (sources .entry)) (now («source_values» .entry))))) r (now (states .exit)) (columns (now (collected .entry)) (now («collected_values» .entry)) (now (rows .entry)) (now (bases .entry)) (now (values .entry)) (now (entries .entry)) (now («entry_values» .entry)) (now (plain .entry)) (now (sources .entry)) (now («source_values» .entry))) (columns (now (collected .exit)) (now («collected_values» .exit)) (now (rows .exit)) (now (bases .exit)) (now (values .exit)) (now (entries .exit)) (now («entry_values» .exit)) (now (plain .exit)) (now (sources .exit)) (now («source_values» .exit))) ⌝ }

@@ -1,4 +1,5 @@
 // 1 SHAPE, tables 1 to 5: whether each table of the book is good.
+use columns::TablePairs;
 use info::header::count_of;
 use info::records::attribute;
 use info::records::buff_collection;
@@ -34,7 +35,7 @@ fn attribute_good(i: usize, last: i32, r: DogmaAttribute) -> bool
     ((i == 0) | (last < r.id)) & ((r.flags <= 3) & sized)
 }
 
-pub fn attributes_good(book: &[u8], pairs: &[[u32; 2]; 10]) -> bool
+pub fn attributes_good(book: &[u8], pairs: &TablePairs) -> bool
     requires { ⌜ HeldBook (now book) (now pairs) ⌝ }
     ensures { λ r. ⌜ r ≡ attributesGood (bookOf (now (book .entry)) (now (pairs .entry))) ⌝ }
 {
@@ -61,7 +62,7 @@ fn effect_good(i: usize, last: i32, r: DogmaEffect, n: usize) -> bool
     ((i == 0) | (last < r.id)) & within
 }
 
-pub fn effects_good(book: &[u8], pairs: &[[u32; 2]; 10]) -> bool
+pub fn effects_good(book: &[u8], pairs: &TablePairs) -> bool
     requires { ⌜ HeldBook (now book) (now pairs) ⌝ }
     ensures { λ r. ⌜ r ≡ effectsGood (bookOf (now (book .entry)) (now (pairs .entry))) ⌝ }
 {
@@ -88,7 +89,7 @@ fn type_effect_good(i: usize, last: i32, r: TypeDogmaEffect) -> bool
     ((i == 0) | (last <= r.type_id)) & (r.is_default <= 1)
 }
 
-pub fn type_effects_good(book: &[u8], pairs: &[[u32; 2]; 10]) -> bool
+pub fn type_effects_good(book: &[u8], pairs: &TablePairs) -> bool
     requires { ⌜ HeldBook (now book) (now pairs) ⌝ }
     ensures { λ r. ⌜ r ≡ typeEffectsGood (bookOf (now (book .entry)) (now (pairs .entry))) ⌝ }
 {
@@ -115,7 +116,7 @@ fn buff_collection_good(i: usize, last: i32, r: DbuffCollection, n: usize) -> bo
     ((i == 0) | (last < r.id)) & held
 }
 
-pub fn buff_collections_good(book: &[u8], pairs: &[[u32; 2]; 10]) -> bool
+pub fn buff_collections_good(book: &[u8], pairs: &TablePairs) -> bool
     requires { ⌜ HeldBook (now book) (now pairs) ⌝ }
     ensures { λ r. ⌜ r ≡ buffCollectionsGood (bookOf (now (book .entry)) (now (pairs .entry))) ⌝ }
 {

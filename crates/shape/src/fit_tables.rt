@@ -1,5 +1,6 @@
 // 1 SHAPE, tables 6 to 10: whether each table of the fit is good.
 use super::book_tables::inside;
+use columns::TablePairs;
 use info::header::count_of;
 use info::little_endian::index;
 use info::records::ask;
@@ -70,7 +71,7 @@ fn stands(i: usize, last: u32, k: u32) -> bool
     ((i == 0) & (k == SHIP)) | ((0 < i) & after)
 }
 
-pub fn objects_good(fit: &[u8], pairs: &[[u32; 2]; 10]) -> bool
+pub fn objects_good(fit: &[u8], pairs: &TablePairs) -> bool
     requires { ⌜ HeldFit (now fit) (now pairs) ⌝ }
     ensures { λ r. ⌜ r ≡ objectsGood (fitOf (now (fit .entry)) (now (pairs .entry))) ⌝ }
 {
@@ -93,7 +94,7 @@ pub fn objects_good(fit: &[u8], pairs: &[[u32; 2]; 10]) -> bool
     CHAR <= last
 }
 
-fn bases_finite(fit: &[u8], pairs: &[[u32; 2]; 10]) -> bool
+fn bases_finite(fit: &[u8], pairs: &TablePairs) -> bool
     requires { ⌜ HeldFit (now fit) (now pairs) ⌝ }
     ensures { λ r. ⌜ r ≡ every? (λ x. finite (x .value)) (fitOf (now (fit .entry)) (now (pairs .entry)) .bases) ⌝ }
 {
@@ -118,7 +119,7 @@ fn base_attribute_stands(i: usize, last: i32, r: BaseAttribute) -> bool
 }
 
 // Whether n base attributes ascend, from the first on.
-fn range_ascends(fit: &[u8], pairs: &[[u32; 2]; 10], first: usize, n: usize) -> bool
+fn range_ascends(fit: &[u8], pairs: &TablePairs, first: usize, n: usize) -> bool
     requires { ⌜ HeldFit (now fit) (now pairs) ⌝ }
     requires { ⌜ first + n ≤ countOf (now pairs) 7 ⌝ }
     ensures { λ r. ⌜ r ≡ ascends (map (λ x. x .«attribute_id») (span first n (fitOf (now (fit .entry)) (now (pairs .entry)) .bases))) ⌝ }
@@ -138,7 +139,7 @@ fn range_ascends(fit: &[u8], pairs: &[[u32; 2]; 10], first: usize, n: usize) -> 
 }
 
 // Whether the base attributes of each object ascend. The ranges are good.
-fn bases_ascend(fit: &[u8], pairs: &[[u32; 2]; 10]) -> bool
+fn bases_ascend(fit: &[u8], pairs: &TablePairs) -> bool
     requires { ⌜ HeldFit (now fit) (now pairs) ⌝ }
     requires { ⌜ objectsGood (fitOf (now fit) (now pairs)) ≡ true ⌝ }
     ensures { λ r. ⌜ r ≡ every? (rangeAscends (fitOf (now (fit .entry)) (now (pairs .entry)))) (fitOf (now (fit .entry)) (now (pairs .entry)) .objects) ⌝ }
@@ -158,7 +159,7 @@ fn bases_ascend(fit: &[u8], pairs: &[[u32; 2]; 10]) -> bool
     true
 }
 
-pub fn bases_good(fit: &[u8], pairs: &[[u32; 2]; 10]) -> bool
+pub fn bases_good(fit: &[u8], pairs: &TablePairs) -> bool
     requires { ⌜ HeldFit (now fit) (now pairs) ⌝ }
     requires { ⌜ objectsGood (fitOf (now fit) (now pairs)) ≡ true ⌝ }
     ensures { λ r. ⌜ r ≡ basesGood (fitOf (now (fit .entry)) (now (pairs .entry))) ⌝ }
@@ -169,7 +170,7 @@ pub fn bases_good(fit: &[u8], pairs: &[[u32; 2]; 10]) -> bool
     bases_ascend(fit, pairs)
 }
 
-pub fn buffs_good(fit: &[u8], pairs: &[[u32; 2]; 10]) -> bool
+pub fn buffs_good(fit: &[u8], pairs: &TablePairs) -> bool
     requires { ⌜ HeldFit (now fit) (now pairs) ⌝ }
     ensures { λ r. ⌜ r ≡ buffsGood (fitOf (now (fit .entry)) (now (pairs .entry))) ⌝ }
 {
@@ -186,7 +187,7 @@ pub fn buffs_good(fit: &[u8], pairs: &[[u32; 2]; 10]) -> bool
     true
 }
 
-pub fn asks_good(fit: &[u8], pairs: &[[u32; 2]; 10]) -> bool
+pub fn asks_good(fit: &[u8], pairs: &TablePairs) -> bool
     requires { ⌜ HeldFit (now fit) (now pairs) ⌝ }
     ensures { λ r. ⌜ r ≡ asksGood (fitOf (now (fit .entry)) (now (pairs .entry))) ⌝ }
 {

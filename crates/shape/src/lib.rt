@@ -3,6 +3,7 @@ use book_tables::attributes_good;
 use book_tables::buff_collections_good;
 use book_tables::effects_good;
 use book_tables::type_effects_good;
+use columns::TablePairs;
 use fit_tables::asks_good;
 use fit_tables::bases_good;
 use fit_tables::buffs_good;
@@ -51,7 +52,7 @@ fn limit_of(t: usize) -> usize
 }
 
 // Whether tables follow in order without gaps, each with at most its most records, up to the end of n bytes.
-fn placed(pairs: &[[u32; 2]; 10], n: usize) -> bool
+fn placed(pairs: &TablePairs, n: usize) -> bool
     ensures { λ r. ⌜ r ≡ every? (rule.placed (now (pairs .entry))) (from 0 10) && eqb (endOf (now (pairs .entry)) 10) n ⌝ }
 {
     let mut end = 100;
@@ -72,7 +73,7 @@ fn placed(pairs: &[[u32; 2]; 10], n: usize) -> bool
     end == n
 }
 
-pub fn header_good(b: &[u8], pairs: &[[u32; 2]; 10]) -> bool
+pub fn header_good(b: &[u8], pairs: &TablePairs) -> bool
     requires { ⌜ 100 ≤ length (now b) ⌝ }
     ensures { λ r. ⌜ r ≡ headerGood (now (b .entry)) (now (pairs .entry)) ⌝ }
 {
@@ -83,7 +84,7 @@ pub fn header_good(b: &[u8], pairs: &[[u32; 2]; 10]) -> bool
 }
 
 // The first bad table of the book.
-pub fn book_shape(book: &[u8], pairs: &[[u32; 2]; 10]) -> Shaped
+pub fn book_shape(book: &[u8], pairs: &TablePairs) -> Shaped
     requires { ⌜ HeldBook (now book) (now pairs) ⌝ }
     ensures { λ r. ⌜ r ≡ shapedOf (bookBad (bookOf (now (book .entry)) (now (pairs .entry)))) ⌝ }
 {
@@ -103,7 +104,7 @@ pub fn book_shape(book: &[u8], pairs: &[[u32; 2]; 10]) -> Shaped
 }
 
 // The first bad table of the fit.
-pub fn fit_shape(fit: &[u8], pairs: &[[u32; 2]; 10]) -> Shaped
+pub fn fit_shape(fit: &[u8], pairs: &TablePairs) -> Shaped
     requires { ⌜ HeldFit (now fit) (now pairs) ⌝ }
     ensures { λ r. ⌜ r ≡ shapedOf (fitBad (fitOf (now (fit .entry)) (now (pairs .entry)))) ⌝ }
 {

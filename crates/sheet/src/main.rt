@@ -1,6 +1,7 @@
 // The program: a sheet on standard input, its listing on standard output (01, "The listing").
 use calculate::Outcome;
 use calculate::dogma_calculate;
+use columns::AttributeRow;
 use libc::STDERR_FILENO;
 use libc::STDIN_FILENO;
 use libc::STDOUT_FILENO;
@@ -50,7 +51,7 @@ fn read_input(buffer: &mut [u8]) -> Input
 }
 
 // Writes the head and then the lines, a block at a time, and says whether all was taken.
-fn print_rows(rows: &[[u32; 6]], values: &[f64], n: usize) -> bool
+fn print_rows(rows: &[AttributeRow], values: &[f64], n: usize) -> bool
     requires { ⌜ (n ≤ length (now rows)) × (n ≤ length (now values)) ⌝ }
 {
     let mut text = io::buffer();
@@ -75,7 +76,7 @@ fn print_refusal(number: u64, place: u64) -> bool {
     io::write_all(STDOUT_FILENO, &text[..end])
 }
 
-fn print(rows: &[[u32; 6]], values: &[f64], answer: Outcome) -> bool
+fn print(rows: &[AttributeRow], values: &[f64], answer: Outcome) -> bool
     requires { ⌜ (answer .rows ≤ length (now rows)) × (answer .rows ≤ length (now values)) ⌝ }
 {
     if answer.number == 0 {

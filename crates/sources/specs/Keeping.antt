@@ -11,13 +11,13 @@ use Rattle.rules.specs.Columns.{sourceNumbers, sourceFloats}
 use Rattle.rules.specs.Value.{World, Mem, ownSources, toSource, note}
 use Rattle.rules.specs.declared.Effect.{Effect}
 use Rattle.rules.specs.declared.Source.{Source}
-use Rattle.sources.specs.declared.Run.{Run}
+use Rattle.sources.specs.declared.Recording.{Recording}
 use Rattle.sources.specs.declared.Noted.{Noted}
 use Rattle.sources.specs.declared.Noted.the-variants.{At, Refused}
 use Rattle.sources.specs.Shown.{shown, first32}
 
 -- what the world says of recording
-pub record RunOf (w : World) (run : Run) : Type 0 where
+pub record RunOf (w : World) (run : Recording) : Type 0 where
   pub room : w .room ≡ run .room
   pub recording : w .recording ≡ run .recording
 

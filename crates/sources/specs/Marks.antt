@@ -9,7 +9,7 @@ use Rattle.laws.specs.Floats.{zeroF}
 use Rattle.rules.specs.Operate.{Copy}
 use Rattle.rules.specs.Value.{noSource}
 use Rattle.rules.specs.declared.Source.{Source}
-use Rattle.sources.specs.declared.Run.{Run}
+use Rattle.sources.specs.declared.Recording.{Recording}
 use Rattle.sources.specs.Shown.{placed}
 
 -- a penalised source row whose penalty is not set yet
@@ -28,5 +28,5 @@ pub data Fresh : List Source → List Copy → Type 0 where
   fresh : {own : List Source} {x : Copy} {l : List Copy} → x .source < length own → Waits (getD own (x .source) noSource) → Away (x .source) l → Fresh own l → Fresh own (x ∷ l)
 
 -- a penalty at place p, if that is in the room and source rows are recorded; the value beside it stays
-abbrev pub penaltyAt : Run → ℕ → Float → List (List Float) → List (List Float)
+abbrev pub penaltyAt : Recording → ℕ → Float → List (List Float) → List (List Float)
 penaltyAt run p x f = cond (run .recording) (placed (run .room) p (getD (getD f p []) 0 nan ∷ x ∷ []) f) f

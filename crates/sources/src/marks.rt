@@ -1,5 +1,6 @@
 // Penalties of source rows: the weight of a copy's position, set when its operator is applied.
-use super::Run;
+use super::Recording;
+use columns::SourceFloats;
 use numbers::weight;
 use operate::buckets::Bucket;
 use operate::buckets::kept;
@@ -16,7 +17,7 @@ ghost use Rattle.sources.specs.Keeping.{RunOf, Begins, Keeping};
 ghost use Rattle.sources.specs.Marks.{Fresh, penaltyAt};
 
 // The penalty of a source row of the row whose places begin at first.
-fn set_penalty(floats: &mut [[f64; 2]], run: Run, first: u32, source: u32, penalty: f64)
+fn set_penalty(floats: &mut [SourceFloats], run: Recording, first: u32, source: u32, penalty: f64)
     requires { ⌜ run .room ≤ length (now floats) ⌝ }
     ensures { λ _. ⌜ now (floats .exit) ≡ penaltyAt run (first + source) penalty (now (floats .entry)) ⌝ }
 {
@@ -33,7 +34,7 @@ fn set_penalty(floats: &mut [[f64; 2]], run: Run, first: u32, source: u32, penal
 }
 
 // The penalties of a bucket's copies, by position; past the eighth they stay 0.0.
-pub fn set_penalties(floats: &mut [[f64; 2]], run: Run, first: u32, b: Bucket)
+pub fn set_penalties(floats: &mut [SourceFloats], run: Recording, first: u32, b: Bucket)
     requires { ⌜ run .room ≤ length (now floats) ⌝ }
     ensures { λ _. ⌜ ((w : World) (counts : List ℕ) (s₀ : List (List ℕ)) (f₀ : List (List Float)) (i : ℕ) (m : Mem) (own used : ℕ) (s : List (List ℕ)) (xs : List Copy) → RunOf w run → Begins counts i first → Keeping counts (w .room) s₀ f₀ i m s (now (floats .entry)) own used → Gathered xs b → (w .recording ≡ true → Fresh (ownSources i m) xs) → (w .recording ≡ false → ownSources i m ≡ []) → Keeping counts (w .room) s₀ f₀ i (withOwn i (marked 0 (sorted xs) (ownSources i m)) m) s (now (floats .exit)) own used) ⌝ }
 {

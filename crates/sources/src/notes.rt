@@ -1,8 +1,10 @@
 // Source rows take room when they arise.
 use super::Noted;
-use super::Run;
+use super::Recording;
 use super::rows::put_source;
 use super::rows::to_source;
+use columns::SourceFloats;
+use columns::SourceRow;
 use rules::Effect;
 use rules::Refusal;
 use rules::Source;
@@ -19,9 +21,9 @@ ghost use Rattle.sources.specs.Keeping.{RunOf, Begins, Keeping, NotedAs,
 
 // A source row more of the row whose places begin at first, where source rows are recorded.
 pub fn note(
-    sources: &mut [[u32; 10]],
-    floats: &mut [[f64; 2]],
-    run: Run,
+    sources: &mut [SourceRow],
+    floats: &mut [SourceFloats],
+    run: Recording,
     first: u32,
     s: Source,
     own: u32,
@@ -44,9 +46,9 @@ pub fn note(
 
 // The same source row so many times.
 fn note_copies(
-    sources: &mut [[u32; 10]],
-    floats: &mut [[f64; 2]],
-    run: Run,
+    sources: &mut [SourceRow],
+    floats: &mut [SourceFloats],
+    run: Recording,
     first: u32,
     s: Source,
     copies: u32,
@@ -83,9 +85,9 @@ fn kept(quantity: u32) -> u32
 
 // The source rows of a penalised entry that runs.
 pub fn note_penalised(
-    sources: &mut [[u32; 10]],
-    floats: &mut [[f64; 2]],
-    run: Run,
+    sources: &mut [SourceRow],
+    floats: &mut [SourceFloats],
+    run: Recording,
     first: u32,
     e: Effect,
     v: f64,

@@ -1,4 +1,7 @@
 // First and count in list 5 of each row of list 2, planned before any value is calculated: how many source rows it gets when they are recorded (pass_3.rs).
+use columns::AttributeRow;
+use columns::EntryRow;
+use columns::States;
 use info::little_endian::index;
 use reading::entries::entry_at;
 use reading::entries::has_penalty;
@@ -32,9 +35,9 @@ fn sources_of(e: Effect, running: bool) -> u32
 
 // How many source rows the entries from first on get.
 fn sources_of_row(
-    entries: &[[u32; 11]],
+    entries: &[EntryRow],
     values: &[f64],
-    states: &[[u32; 2]; 1024],
+    states: &States,
     first: usize,
     count: usize,
 ) -> usize
@@ -67,10 +70,10 @@ fn held(x: usize) -> u32
 
 // First and count in list 5 of the first n rows, whose entries are in list 3.
 pub fn set_sources(
-    rows: &mut [[u32; 6]],
-    entries: &[[u32; 11]],
+    rows: &mut [AttributeRow],
+    entries: &[EntryRow],
     values: &[f64],
-    states: &[[u32; 2]; 1024],
+    states: &States,
     n: usize,
 )
     requires { ⌜ Planning n (now rows) (now entries) (now values) ⌝ }

@@ -1,5 +1,7 @@
 // A source row by value, and its numbers.
-use super::Run;
+use super::Recording;
+use columns::SourceFloats;
+use columns::SourceRow;
 use item::codes::operator_code;
 use numbers::integers::bits;
 use numbers::integers::flag;
@@ -26,7 +28,7 @@ fn from_numbers(s: SourceRef) -> [u32; 2]
     }
 }
 
-fn source_numbers(s: Source) -> [u32; 10]
+fn source_numbers(s: Source) -> SourceRow
     ensures { λ r. ⌜ r ≡ sourceNumbers s ⌝ }
 {
     let from = s.from;
@@ -125,9 +127,9 @@ pub fn to_source(e: Effect, v: f64, applied: bool, quantity: u32, penalised: boo
 
 // A source row goes to its place; what lies past the room is not written.
 pub fn put_source(
-    sources: &mut [[u32; 10]],
-    floats: &mut [[f64; 2]],
-    run: Run,
+    sources: &mut [SourceRow],
+    floats: &mut [SourceFloats],
+    run: Recording,
     place: usize,
     s: Source,
 )

@@ -1,4 +1,7 @@
 // States and max states after collection (Item::collect_effects, PassTwo::pass).
+use columns::StateRow;
+use columns::States;
+use columns::TablePairs;
 use info::header::count_of;
 use info::little_endian::index;
 use info::look_ups::FoundBase;
@@ -17,7 +20,7 @@ use item::locations::Categories;
 use item::locations::is_on_char;
 use item::locations::is_passed;
 use item::locations::is_subsystem;
-use item::states::reach_of;
+use item::states::raises_to;
 use rules::ATTRIBUTE_CAPACITOR_NEED_ID;
 use rules::CATEGORY_STRUCTURE;
 use rules::Item;
@@ -32,7 +35,7 @@ ghost use Rattle.rules.specs.Item.{isItem, isCharge, itemOf, passed, structureF
 ghost use Rattle.rules.specs.States.{collectedStates, statesOf};
 ghost use Rattle.info.specs.Sound.{HeldBook, HeldFit, SoundBook, SoundFit};
 ghost use Rattle.item.specs.Categories.{CategoriesOf};
-ghost use Rattle.states.specs.Raised.{among, both, reachOn, raisedBy, reachedOf, ableOf, ObjectOf, rowsOf};
+ghost use Rattle.states.specs.Raised.{among, both, reachOn, raisedIn, reachedOf, ableOf, ObjectOf, rowsOf};
 
 // The higher and the lower of two states.
 pub fn higher(a: u32, b: u32) -> u32
@@ -56,7 +59,7 @@ pub fn lower(a: u32, b: u32) -> u32
 // Whether one of `count` type effects from `first` on has this one's effect.
 pub fn has_effect(
     book: &[u8],
-    pairs: &[[u32; 2]; 10],
+    pairs: &TablePairs,
     first: usize,
     count: usize,
     t: TypeDogmaEffect,
@@ -88,7 +91,7 @@ fn previous(n: u32) -> usize
 }
 
 // Whether the hull is a structure.
-pub fn is_structure_fit(fit: &[u8], pairs: &[[u32; 2]; 10]) -> bool
+pub fn is_structure_fit(fit: &[u8], pairs: &TablePairs) -> bool
     requires { ⌜ HeldFit (now fit) (now pairs) ⌝ }
     ensures { λ r. ⌜ r ≡ structureFit (fitOf (now (fit .entry)) (now (pairs .entry))) ⌝ }
 {
@@ -102,7 +105,7 @@ pub fn is_structure_fit(fit: &[u8], pairs: &[[u32; 2]; 10]) -> bool
 // Whether an item is passed over, or the item of a charge.
 pub fn is_passed_over(
     fit: &[u8],
-    pairs: &[[u32; 2]; 10],
+    pairs: &TablePairs,
     c: Categories,
     structure: bool,
     o: Item,
@@ -120,7 +123,7 @@ pub fn is_passed_over(
 }
 
 // The states of an object that collection does not pass over, with the max state that it was raised to.
-pub fn collected_states(o: Item, top: u32) -> [u32; 2]
+pub fn collected_states(o: Item, top: u32) -> StateRow
     ensures { λ r. ⌜ ((k : Book) (f : Fit) → top ≡ ableOf k f o → r ≡ both (collectedStates k f o)) ⌝ }
 {
     if is_subsystem(o) {
@@ -131,13 +134,13 @@ pub fn collected_states(o: Item, top: u32) -> [u32; 2]
 }
 
 // The state that one effect lets an object be in.
-fn reach_by(book: &[u8], pairs: &[[u32; 2]; 10], o: Item, t: TypeDogmaEffect) -> u32
+fn reach_by(book: &[u8], pairs: &TablePairs, o: Item, t: TypeDogmaEffect) -> u32
     requires { ⌜ SoundBook (now book) (now pairs) ⌝ }
     ensures { λ r. ⌜ r ≡ reachOn (bookOf (now (book .entry)) (now (pairs .entry))) o t ⌝ }
 {
     let found = get_dogma_effect(book, pairs, t.effect_id);
     match found {
-        FoundEffect::At(e) => reach_of(o, e.category),
+        FoundEffect::At(e) => raises_to(o, e.category),
         FoundEffect::Nothing => 0,
     }
 }
@@ -145,7 +148,7 @@ fn reach_by(book: &[u8], pairs: &[[u32; 2]; 10], o: Item, t: TypeDogmaEffect) ->
 // The max state that type effects raise an object to, but for those that are among its own.
 fn raised(
     book: &[u8],
-    pairs: &[[u32; 2]; 10],
+    pairs: &TablePairs,
     o: Item,
     first: usize,
     count: usize,
@@ -156,7 +159,7 @@ fn raised(
     requires { ⌜ SoundBook (now book) (now pairs) ⌝ }
     requires { ⌜ first + count ≤ countOf (now pairs) 4 ⌝ }
     requires { ⌜ own + owned ≤ countOf (now pairs) 4 ⌝ }
-    ensures { λ r. ⌜ r ≡ raisedBy (bookOf (now (book .entry)) (now (pairs .entry))) o first count own owned start ⌝ }
+    ensures { λ r. ⌜ r ≡ raisedIn (bookOf (now (book .entry)) (now (pairs .entry))) o first count own owned start ⌝ }
 {
     let end = first + count;
     let mut top = start;
@@ -173,7 +176,7 @@ fn raised(
 }
 
 // The max state that all its effects raise an object to: its own type's, then its base's that the type lacks.
-fn reached(book: &[u8], pairs: &[[u32; 2]; 10], o: Item) -> u32
+fn reached(book: &[u8], pairs: &TablePairs, o: Item) -> u32
     requires { ⌜ SoundBook (now book) (now pairs) ⌝ }
     ensures { λ r. ⌜ r ≡ reachedOf (bookOf (now (book .entry)) (now (pairs .entry))) o ⌝ }
 {
@@ -196,7 +199,7 @@ fn reached(book: &[u8], pairs: &[[u32; 2]; 10], o: Item) -> u32
 }
 
 // With attribute 6 it can be Active.
-fn able(book: &[u8], fit: &[u8], pairs: &[[u32; 2]; 10], o: Item) -> u32
+fn able(book: &[u8], fit: &[u8], pairs: &TablePairs, o: Item) -> u32
     requires { ⌜ SoundBook (now book) (now pairs) ⌝ }
     requires { ⌜ SoundFit (now fit) (now pairs) ⌝ }
     requires { ⌜ ObjectOf (fitOf (now fit) (now pairs)) o ⌝ }
@@ -214,7 +217,7 @@ fn able(book: &[u8], fit: &[u8], pairs: &[[u32; 2]; 10], o: Item) -> u32
 fn states_of(
     book: &[u8],
     fit: &[u8],
-    pairs: &[[u32; 2]; 10],
+    pairs: &TablePairs,
     c: Categories,
     structure: bool,
     o: Item,
@@ -240,7 +243,7 @@ fn states_of(
 }
 
 // Every object's states, and zeros past the last.
-fn all_states(book: &[u8], fit: &[u8], pairs: &[[u32; 2]; 10]) -> [[u32; 2]; 1024]
+fn all_states(book: &[u8], fit: &[u8], pairs: &TablePairs) -> [[u32; 2]; 1024]
     requires { ⌜ SoundBook (now book) (now pairs) ⌝ }
     requires { ⌜ SoundFit (now fit) (now pairs) ⌝ }
     ensures { λ r. ⌜ r ≡ rowsOf (bookOf (now (book .entry)) (now (pairs .entry))) (fitOf (now (fit .entry)) (now (pairs .entry))) ⌝ }
@@ -261,12 +264,7 @@ fn all_states(book: &[u8], fit: &[u8], pairs: &[[u32; 2]; 10]) -> [[u32; 2]; 102
 }
 
 // Every object's state and max state after collection.
-pub fn correct_states(
-    states: &mut [[u32; 2]; 1024],
-    book: &[u8],
-    fit: &[u8],
-    pairs: &[[u32; 2]; 10],
-)
+pub fn correct_states(states: &mut States, book: &[u8], fit: &[u8], pairs: &TablePairs)
     requires { ⌜ SoundBook (now book) (now pairs) ⌝ }
     requires { ⌜ SoundFit (now fit) (now pairs) ⌝ }
     ensures { λ r. ⌜ now (states .exit) ≡ rowsOf (bookOf (now (book .entry)) (now (pairs .entry))) (fitOf (now (fit .entry)) (now (pairs .entry))) ⌝ }

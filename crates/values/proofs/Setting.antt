@@ -28,13 +28,13 @@ use Rattle.reading.specs.declared.turns.Turns.{Turns}
 use Rattle.reading.specs.Order.{owned, rowsBelow, projectedEnd}
 use Rattle.reading.proofs.Owners.{rows-owned}
 use Rattle.reading.proofs.Walks.{objects-climb, turns-are}
-use Rattle.sources.specs.declared.Run.{Run}
+use Rattle.sources.specs.declared.Recording.{Recording}
 use Rattle.sources.specs.Keeping.{RunOf}
 use Rattle.sources.specs.Planned.{countsOf}
 use Rattle.sources.specs.Rows.{countsBy, plannedNumbers, Dispatched, Planning}
 use Rattle.sources.proofs.Agreeing.{planned-front}
 use Rattle.sources.proofs.Numbers.{planned-long, planned-held, dispatched-long}
-use Rattle.memory.specs.Holding.{tables, Holds, Told}
+use Rattle.memory.specs.Holding.{tables, Holds, Tells}
 use Rattle.values.specs.Complete.{AllAsked, Ended}
 use Rattle.values.proofs.Asked.{walk-asks}
 use Rattle.values.proofs.Ends.{all-ended}
@@ -56,7 +56,7 @@ module _ (k : Book) (f : Fit) (room : ℕ) where
   unfolding worldOf
   world-rows = refl
 
-module _ (book fit : List ℕ) (pairs : List (List ℕ)) (sb : SoundBook book pairs) (sf : SoundFit fit pairs) (n : ℕ) (run : Run) {st r : List (List ℕ)} {b : List Float} {e : List (List ℕ)} {v : List Float} (h : Listed (bookOf book pairs) (fitOf fit pairs) n run st r b e v) where
+module _ (book fit : List ℕ) (pairs : List (List ℕ)) (sb : SoundBook book pairs) (sf : SoundFit fit pairs) (n : ℕ) (run : Recording) {st r : List (List ℕ)} {b : List Float} {e : List (List ℕ)} {v : List Float} (h : Listed (bookOf book pairs) (fitOf fit pairs) n run st r b e v) where
   abbrev k : Book
   k = bookOf book pairs
 
@@ -117,9 +117,9 @@ module _ (book fit : List ℕ) (pairs : List (List ℕ)) (sb : SoundBook book pa
     is-owned = rows-owned k f (collectedIn k f) (numbered fit pairs)
 
     module _ {s₀ : List (List ℕ)} {g₀ : List (List Float)} (small : run .room ≤ length s₀) (even : run .room ≤ length g₀) where
-      is-told : {x : List (List ℕ)} {l : List ℕ} → Stretched rs x → Limits k l → Told world s₀ g₀ (tables book pairs st x l (take n r′) (take n b) e v) run
+      is-told : {x : List (List ℕ)} {l : List ℕ} → Stretched rs x → Limits k l → Tells world s₀ g₀ (tables book pairs st x l (take n r′) (take n b) e v) run
       is-told {x} {l} s m =
-          subst (λ (i : ℕ). Told world s₀ g₀ (tables book pairs st x l (take i r′) (take i b) e v) run) (sym (h .count))
+          subst (λ (i : ℕ). Tells world s₀ g₀ (tables book pairs st x l (take i r′) (take i b) e v) run) (sym (h .count))
           (told book fit pairs sb sf (run .room) r′ (h .lists) (h .states) (subst (λ (i : ℕ). take i r′ ≡ numbers) (h .count) front) is-run small even s m)
 
       module _ (v₀ : List Float) {v′ : List Float} (u : v′ ≡ replicate n nan ++ drop n v₀) where

@@ -28,10 +28,10 @@ use Rattle.reading.specs.Held.{noRow}
 use Rattle.reading.specs.declared.turns.Turns.{Turns}
 use Rattle.reading.specs.Order.{TurnsOf, walkedAt}
 use Rattle.reading.proofs.Walks.{turns-long, turn-at}
-use Rattle.sources.specs.declared.Run.{Run}
+use Rattle.sources.specs.declared.Recording.{Recording}
 use Rattle.memory.specs.Steps.{rowAt}
 use Rattle.memory.specs.Holding.{Tables, Holds, Ready}
-use Rattle.memory.specs.Answers.{Meets}
+use Rattle.memory.specs.Answers.{Returns}
 use Rattle.memory.specs.declared.apply.Got.the-variants as got
 use Rattle.memory.proofs.Holdings.{ready-on, met, missed}
 use Rattle.values.proofs.Taken.{few-objects}
@@ -58,7 +58,7 @@ pub record Asking (w : World) (s₀ : List (List ℕ)) (f₀ : List (List Float)
   pub is : valued w d (take i starts) m ≡ ok sofar
   pub holds : Holds w s₀ f₀ sofar v s f used
 
-module _ {t : Tables} {run : Run} {v₀ : List Float} {s₁ : List (List ℕ)} {f₁ : List (List Float)} {used₀ : ℕ} (h : Ready t run v₀ s₁ f₁ used₀) (d : ℕ) (starts : List Ask) where
+module _ {t : Tables} {run : Recording} {v₀ : List Float} {s₁ : List (List ℕ)} {f₁ : List (List Float)} {used₀ : ℕ} (h : Ready t run v₀ s₁ f₁ used₀) (d : ℕ) (starts : List Ask) where
   abbrev w : World
   w = h .world
 
@@ -89,12 +89,12 @@ module _ {t : Tables} {run : Run} {v₀ : List Float} {s₁ : List (List ℕ)} {
           ap (λ (l : List Ask). valued w d l (h .mem)) (take-next starts i a inside) ∙ valued-append w d (take i starts) (getD starts i a ∷ []) (h .mem)
           ∙ ap (λ (x : Res Mem). x >>= λ n. valued w d (getD starts i a ∷ []) n) (A .is) ∙ ap (λ (b : Ask). valued w d (b ∷ []) (A .sofar)) (sym a-is)
 
-      pub asking-next : (y : Float) (more : ℕ) → Meets w s₀ f₀ reading (got.Value y more) v′ s′ f′ → Asking w s₀ f₀ d starts (h .mem) (i + 1) v′ s′ f′ more
+      pub asking-next : (y : Float) (more : ℕ) → Returns w s₀ f₀ reading (got.Value y more) v′ s′ f′ → Asking w s₀ f₀ d starts (h .mem) (i + 1) v′ s′ f′ more
       asking-next y more k =
           let q = met w s₀ f₀ v′ s′ f′ reading y more k in
           record { sofar = q .read .mem; is = one-more ∙ ap (λ (x : Res Read). x >>= λ q. ok (q .mem)) (q .is); holds = q .holds }
 
-      pub asking-refused : (z : Refusal) → Meets w s₀ f₀ reading (got.Refused z) v′ s′ f′ → ValuedAs w s₀ f₀ (valued w d starts (h .mem)) (answer.Refused z) v′ s′ f′
+      pub asking-refused : (z : Refusal) → Returns w s₀ f₀ reading (got.Refused z) v′ s′ f′ → ValuedAs w s₀ f₀ (valued w d starts (h .mem)) (answer.Refused z) v′ s′ f′
       asking-refused z k =
           rw (ap (λ (l : List Ask). valued w d l (h .mem)) (sym (take-append-drop (i + 1) starts)) ∙ valued-append w d (take (i + 1) starts) (drop (i + 1) starts) (h .mem)
           ∙ ap (λ (x : Res Mem). x >>= λ n. valued w d (drop (i + 1) starts) n) (one-more ∙ ap (λ (x : Res Read). x >>= λ q. ok (q .mem)) (missed w s₀ f₀ v′ s′ f′ reading z k))) refl

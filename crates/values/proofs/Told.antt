@@ -18,12 +18,12 @@ use Rattle.states.specs.Raised.{rowsOf}
 use Rattle.rows.specs.Parts.{ListsLaid}
 use Rattle.reading.specs.Held.{EntryHeld, RowsHeld, noRow}
 use Rattle.reading.specs.Stretched.{Stretched, Limits}
-use Rattle.sources.specs.declared.Run.{Run}
+use Rattle.sources.specs.declared.Recording.{Recording}
 use Rattle.sources.specs.Planned.{countsOf}
 use Rattle.sources.specs.Keeping.{RunOf}
 use Rattle.sources.specs.Rows.{plannedNumbers}
 use Rattle.sources.proofs.Numbers.{planned-long, planned-first, planned-entries, planned-held}
-use Rattle.memory.specs.Holding.{Tables, tables, RowTold, Told}
+use Rattle.memory.specs.Holding.{Tables, tables, RowTold, Tells}
 use Rattle.values.specs.SoundRows.{SoundRows}
 use Rattle.values.proofs.Entries.{before, allOf, inside-all, flat-at}
 use Rattle.values.proofs.Running.{states-agree}
@@ -84,8 +84,8 @@ module _ (w : World) (book : List ℕ) (pairs st stretches : List (List ℕ)) (l
           good = λ j d m. S .entries i j d h m .good;
         }
 
-  pub told-in : {run : Run} {s₀ : List (List ℕ)} {f₀ : List (List Float)} → SoundBook book pairs → w .book ≡ bookOf book pairs → RunOf w run → w .room ≤ length s₀ → w .room ≤ length f₀ → Stretched (w .rows) stretches
-      → Limits (w .book) limits → ((o : ℕ) → o < 1024 → getD (getD st o []) 0 0 ≡ stateOf w o) → Told w s₀ f₀ (tables book pairs st stretches limits (take (length (w .rows)) r′) (take (length (w .rows)) b) e v) run
+  pub told-in : {run : Recording} {s₀ : List (List ℕ)} {f₀ : List (List Float)} → SoundBook book pairs → w .book ≡ bookOf book pairs → RunOf w run → w .room ≤ length s₀ → w .room ≤ length f₀ → Stretched (w .rows) stretches
+      → Limits (w .book) limits → ((o : ℕ) → o < 1024 → getD (getD st o []) 0 0 ≡ stateOf w o) → Tells w s₀ f₀ (tables book pairs st stretches limits (take (length (w .rows)) r′) (take (length (w .rows)) b) e v) run
   told-in sb k run rs₀ rf₀ s l states =
       record {
         sound = sb;
@@ -102,11 +102,11 @@ module _ (w : World) (book : List ℕ) (pairs st stretches : List (List ℕ)) (l
 
 -- of a sound sheet
 module _ (book fit : List ℕ) (pairs : List (List ℕ)) (sb : SoundBook book pairs) (sf : SoundFit fit pairs) (room : ℕ) where
-  pub told : (r′ : List (List ℕ)) {r₀ r : List (List ℕ)} {b₀ b : List Float} {e₀ e : List (List ℕ)} {v₀ v : List Float} {st stretches : List (List ℕ)} {limits : List ℕ} {run : Run} {s₀ : List (List ℕ)} {f₀ : List (List Float)}
+  pub told : (r′ : List (List ℕ)) {r₀ r : List (List ℕ)} {b₀ b : List Float} {e₀ e : List (List ℕ)} {v₀ v : List Float} {st stretches : List (List ℕ)} {limits : List ℕ} {run : Recording} {s₀ : List (List ℕ)} {f₀ : List (List Float)}
       → ListsLaid (rowsIn (bookOf book pairs) (fitOf fit pairs)) r₀ r b₀ b e₀ e v₀ v → st ≡ rowsOf (bookOf book pairs) (fitOf fit pairs)
       → take (length (rowsIn (bookOf book pairs) (fitOf fit pairs))) r′ ≡ plannedNumbers 0 0 (rowsIn (bookOf book pairs) (fitOf fit pairs)) (countsOf (worldOf (bookOf book pairs) (fitOf fit pairs) room))
       → RunOf (worldOf (bookOf book pairs) (fitOf fit pairs) room) run → room ≤ length s₀ → room ≤ length f₀ → Stretched (rowsIn (bookOf book pairs) (fitOf fit pairs)) stretches → Limits (bookOf book pairs) limits
-      → Told (worldOf (bookOf book pairs) (fitOf fit pairs) room) s₀ f₀
+      → Tells (worldOf (bookOf book pairs) (fitOf fit pairs) room) s₀ f₀
       (tables book pairs st stretches limits (take (length (rowsIn (bookOf book pairs) (fitOf fit pairs))) r′) (take (length (rowsIn (bookOf book pairs) (fitOf fit pairs))) b) e v) run
   unfolding worldOf
   told r′ {st = st} {stretches} {limits} L states P run a c s l =

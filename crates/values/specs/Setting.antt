@@ -17,7 +17,7 @@ use Rattle.rules.specs.Sheet.{Book, Fit}
 use Rattle.rules.specs.Value.{Mem}
 use Rattle.states.specs.Raised.{rowsOf}
 use Rattle.rows.specs.Parts.{ListsLaid}
-use Rattle.sources.specs.declared.Run.{Run}
+use Rattle.sources.specs.declared.Recording.{Recording}
 use Rattle.sources.specs.Rows.{countsBy, plannedNumbers}
 use Rattle.values.specs.Complete.{allSources}
 use Rattle.values.specs.declared.walk.Valued.{Valued}
@@ -29,7 +29,7 @@ plannedRows true n rs st r = plannedNumbers 0 0 rs (countsBy st rs) ++ drop n r
 plannedRows false n rs st r = r
 
 -- the n rows of the sheet are laid, with their entries, over some columns, and its states are there
-pub record Listed (k : Book) (f : Fit) (n : ℕ) (run : Run) (st r : List (List ℕ)) (b : List Float) (e : List (List ℕ)) (v : List Float) : Type 0 where
+pub record Listed (k : Book) (f : Fit) (n : ℕ) (run : Recording) (st r : List (List ℕ)) (b : List Float) (e : List (List ℕ)) (v : List Float) : Type 0 where
   pub rows₀ : List (List ℕ)
   pub bases₀ : List Float
   pub entries₀ : List (List ℕ)

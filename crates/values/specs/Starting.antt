@@ -14,13 +14,13 @@ use Rattle.rules.specs.Sheet.{Book, fitOf}
 use Rattle.rules.specs.Value.{World, Mem}
 use Rattle.reading.specs.Stretched.{Limits}
 use Rattle.reading.specs.Order.{owned}
-use Rattle.sources.specs.declared.Run.{Run}
+use Rattle.sources.specs.declared.Recording.{Recording}
 use Rattle.memory.specs.Holding.{Tables, Holds, Ready}
 use Rattle.values.specs.declared.walk.Valued.{Valued}
 use Rattle.values.specs.declared.walk.Valued.the-variants as valued
 
 -- the columns hold a world whose rows are those of the fit's objects
-pub record Walkable (t : Tables) (run : Run) (v : List Float) (s : List (List ℕ)) (f : List (List Float)) (used : ℕ) (fit : List ℕ) : Type 0 where
+pub record Walkable (t : Tables) (run : Recording) (v : List Float) (s : List (List ℕ)) (f : List (List Float)) (used : ℕ) (fit : List ℕ) : Type 0 where
   pub ready : Ready t run v s f used
   pub own : owned (length (fitOf fit (t .pairs) .objects)) (ready .world .rows) ≡ true
 

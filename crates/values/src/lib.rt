@@ -1,8 +1,14 @@
 // The values and the source rows of a sound sheet, once lists 1 to 4 are made (pass_3.rs).
 use blank::unstarted;
+use columns::AttributeRow;
+use columns::EntryRow;
+use columns::SourceFloats;
+use columns::SourceRow;
+use columns::States;
+use columns::TablePairs;
 use reading::stretches::set_limits;
 use reading::stretches::set_stretches;
-use sources::Run;
+use sources::Recording;
 use sources::plan::set_sources;
 use walk::Valued;
 use walk::calculate_values;
@@ -19,10 +25,10 @@ ghost use Rattle.values.specs.Setting.{plannedRows, Listed, SetAs};
 
 // Where source rows are recorded, first and count in list 5 of the first n rows.
 fn plan_sources(
-    rows: &mut [[u32; 6]],
-    entries: &[[u32; 11]],
+    rows: &mut [AttributeRow],
+    entries: &[EntryRow],
     values: &[f64],
-    states: &[[u32; 2]; 1024],
+    states: &States,
     n: usize,
     recording: bool,
 )
@@ -36,19 +42,19 @@ fn plan_sources(
 
 // The values of the n rows, and their source rows. Where it is refused, the columns that are written may hold anything.
 pub fn set_values(
-    rows: &mut [[u32; 6]],
+    rows: &mut [AttributeRow],
     values: &mut [f64],
-    sources: &mut [[u32; 10]],
-    floats: &mut [[f64; 2]],
+    sources: &mut [SourceRow],
+    floats: &mut [SourceFloats],
     bases: &[f64],
-    entries: &[[u32; 11]],
+    entries: &[EntryRow],
     entry_values: &[f64],
-    states: &[[u32; 2]; 1024],
+    states: &States,
     book: &[u8],
     fit: &[u8],
-    pairs: &[[u32; 2]; 10],
+    pairs: &TablePairs,
     n: usize,
-    run: Run,
+    run: Recording,
 ) -> Valued
     requires { ⌜ SoundBook (now book) (now pairs) ⌝ }
     requires { ⌜ SoundFit (now fit) (now pairs) ⌝ }

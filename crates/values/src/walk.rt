@@ -1,4 +1,12 @@
 // Every value: the asks in their order, then the walk over all rows. Each starts at depth 1 (pass_3.rs).
+use columns::AttributeRow;
+use columns::EntryRow;
+use columns::Limits;
+use columns::SourceFloats;
+use columns::SourceRow;
+use columns::States;
+use columns::Stretches;
+use columns::TablePairs;
 use info::header::count_of;
 use info::header::depth_of;
 use info::records::ask;
@@ -10,7 +18,7 @@ use reading::stretches::is_limited;
 use reading::turns::turns_of;
 use reading::turns::walked;
 use rules::Refusal;
-use sources::Run;
+use sources::Recording;
 ghost use mathlib.Core.Path.{_≡_};
 ghost use mathlib.Core.Bool.{true};
 ghost use mathlib.Core.List.{map};
@@ -23,7 +31,7 @@ ghost use Rattle.info.specs.Sound.{SoundFit};
 ghost use Rattle.reading.specs.Order.{owned};
 ghost use Rattle.memory.specs.Steps.{rowAt};
 ghost use Rattle.memory.specs.Holding.{tables, Ready};
-ghost use Rattle.memory.specs.Answers.{Meets};
+ghost use Rattle.memory.specs.Answers.{Returns};
 ghost use Rattle.values.specs.Complete.{askOf};
 ghost use Rattle.values.specs.Starting.{Walkable, Untouched, ValuedAs};
 
@@ -36,18 +44,18 @@ pub enum Valued {
 // The asks, in their order.
 fn asks(
     values: &mut [f64],
-    sources: &mut [[u32; 10]],
-    floats: &mut [[f64; 2]],
+    sources: &mut [SourceRow],
+    floats: &mut [SourceFloats],
     book: &[u8],
-    pairs: &[[u32; 2]; 10],
-    states: &[[u32; 2]; 1024],
-    stretches: &[[u32; 2]; 1024],
-    limits: &[u32; 1024],
-    rows: &[[u32; 6]],
+    pairs: &TablePairs,
+    states: &States,
+    stretches: &Stretches,
+    limits: &Limits,
+    rows: &[AttributeRow],
     bases: &[f64],
-    entries: &[[u32; 11]],
+    entries: &[EntryRow],
     entry_values: &[f64],
-    run: Run,
+    run: Recording,
     fit: &[u8],
 ) -> Valued
     requires { ⌜ Ready (tables (now book) (now pairs) (now states) (now stretches) (now limits) (now rows) (now bases) (now entries) (now «entry_values»)) run (now values) (now sources) (now floats) 0 ⌝ }
@@ -91,7 +99,7 @@ fn asks(
 }
 
 // Whether a row's value is its base: it has no entries, its attribute has no limit, and depth is left.
-fn untouched(rows: &[[u32; 6]], limits: &[u32; 1024], row: usize, left: u32) -> bool
+fn untouched(rows: &[AttributeRow], limits: &Limits, row: usize, left: u32) -> bool
     requires { ⌜ row < length (now rows) ⌝ }
     ensures { λ r. ⌜ (r ≡ true → Untouched (now (rows .entry)) (now (limits .entry)) row left) ⌝ }
 {
@@ -110,25 +118,25 @@ fn untouched(rows: &[[u32; 6]], limits: &[u32; 1024], row: usize, left: u32) -> 
 // The value of a row on the walk: one that is there and one that is the base take no calculation.
 fn walk_row(
     values: &mut [f64],
-    sources: &mut [[u32; 10]],
-    floats: &mut [[f64; 2]],
+    sources: &mut [SourceRow],
+    floats: &mut [SourceFloats],
     book: &[u8],
-    pairs: &[[u32; 2]; 10],
-    states: &[[u32; 2]; 1024],
-    stretches: &[[u32; 2]; 1024],
-    limits: &[u32; 1024],
-    rows: &[[u32; 6]],
+    pairs: &TablePairs,
+    states: &States,
+    stretches: &Stretches,
+    limits: &Limits,
+    rows: &[AttributeRow],
     bases: &[f64],
-    entries: &[[u32; 11]],
+    entries: &[EntryRow],
     entry_values: &[f64],
-    run: Run,
+    run: Recording,
     row: usize,
     left: u32,
     used: u32,
 ) -> Got
     requires { ⌜ Ready (tables (now book) (now pairs) (now states) (now stretches) (now limits) (now rows) (now bases) (now entries) (now «entry_values»)) run (now values) (now sources) (now floats) used ⌝ }
     requires { ⌜ row < length (now rows) ⌝ }
-    ensures { λ r. ⌜ ((h : Ready (tables (now (book .entry)) (now (pairs .entry)) (now (states .entry)) (now (stretches .entry)) (now (limits .entry)) (now (rows .entry)) (now (bases .entry)) (now (entries .entry)) (now («entry_values» .entry))) run (now (values .entry)) (now (sources .entry)) (now (floats .entry)) used) → Meets (h .world) (h .sources₀) (h .floats₀) (valueOf (h .world) left (rowAt (h .world) row .object) (rowAt (h .world) row .id) (h .mem)) r (now (values .exit)) (now (sources .exit)) (now (floats .exit))) ⌝ }
+    ensures { λ r. ⌜ ((h : Ready (tables (now (book .entry)) (now (pairs .entry)) (now (states .entry)) (now (stretches .entry)) (now (limits .entry)) (now (rows .entry)) (now (bases .entry)) (now (entries .entry)) (now («entry_values» .entry))) run (now (values .entry)) (now (sources .entry)) (now (floats .entry)) used) → Returns (h .world) (h .sources₀) (h .floats₀) (valueOf (h .world) left (rowAt (h .world) row .object) (rowAt (h .world) row .id) (h .mem)) r (now (values .exit)) (now (sources .exit)) (now (floats .exit))) ⌝ }
 {
     let v = values[row];
     if v == v {
@@ -163,18 +171,18 @@ fn walk_row(
 // The walk: ship, projected, mode, char, items and charges, skills, ids ascending.
 fn walk(
     values: &mut [f64],
-    sources: &mut [[u32; 10]],
-    floats: &mut [[f64; 2]],
+    sources: &mut [SourceRow],
+    floats: &mut [SourceFloats],
     book: &[u8],
-    pairs: &[[u32; 2]; 10],
-    states: &[[u32; 2]; 1024],
-    stretches: &[[u32; 2]; 1024],
-    limits: &[u32; 1024],
-    rows: &[[u32; 6]],
+    pairs: &TablePairs,
+    states: &States,
+    stretches: &Stretches,
+    limits: &Limits,
+    rows: &[AttributeRow],
     bases: &[f64],
-    entries: &[[u32; 11]],
+    entries: &[EntryRow],
     entry_values: &[f64],
-    run: Run,
+    run: Recording,
     fit: &[u8],
     before: u32,
 ) -> Valued
@@ -219,18 +227,18 @@ fn walk(
 // All of them.
 pub fn calculate_values(
     values: &mut [f64],
-    sources: &mut [[u32; 10]],
-    floats: &mut [[f64; 2]],
+    sources: &mut [SourceRow],
+    floats: &mut [SourceFloats],
     book: &[u8],
-    pairs: &[[u32; 2]; 10],
-    states: &[[u32; 2]; 1024],
-    stretches: &[[u32; 2]; 1024],
-    limits: &[u32; 1024],
-    rows: &[[u32; 6]],
+    pairs: &TablePairs,
+    states: &States,
+    stretches: &Stretches,
+    limits: &Limits,
+    rows: &[AttributeRow],
     bases: &[f64],
-    entries: &[[u32; 11]],
+    entries: &[EntryRow],
     entry_values: &[f64],
-    run: Run,
+    run: Recording,
     fit: &[u8],
 ) -> Valued
     requires { ⌜ Walkable (tables (now book) (now pairs) (now states) (now stretches) (now limits) (now rows) (now bases) (now entries) (now «entry_values»)) run (now values) (now sources) (now floats) 0 (now fit) ⌝ }

@@ -15,10 +15,10 @@ use mathlib.Core.Path.{refl}
 use mir.Syntax.{w32}
 use mir.Val.{toZ}
 use Rattle.laws.proofs.Windows.{counted-start, counted-end}
-use Rattle.info.proofs.Searches.{Counts, bounds-back, bounds-high, counts-more, key-inside, key-less}
+use Rattle.info.proofs.Searches.{CountedBelow, bounds-back, bounds-high, counts-more, key-inside, key-less}
 
 abbrev Inv-loop : tie.InvT-loop
-Inv-loop b at w n id k₀ end found₀ k found = Counts b at w n (toZ w32 id) k found
+Inv-loop b at w n id k₀ end found₀ k found = CountedBelow b at w n (toZ w32 id) k found
 
 abbrev μ-loop : tie.MeasureT-loop
 μ-loop b at w n id k₀ end found₀ k found = end - k

@@ -13,10 +13,10 @@ use native.Mathlib.Omega.{arith}
 use mathlib.Core.Path.{refl}
 use mir.Syntax.{w32}
 use mir.Val.{toZ, ofZ}
-use Rattle.reading.proofs.Narrows.{Counts, narrowed-back, narrowed-none, counts-start, counts-more, counts-end, told-less}
+use Rattle.reading.proofs.Narrows.{CountedFound, narrowed-back, narrowed-none, counts-start, counts-more, counts-end, told-less}
 
 abbrev Inv-loop : tie.InvT-loop
-Inv-loop rows first end id k₀ last found₀ k found = Counts rows (toZ w32 id) first end k found
+Inv-loop rows first end id k₀ last found₀ k found = CountedFound rows (toZ w32 id) first end k found
 
 abbrev μ-loop : tie.MeasureT-loop
 μ-loop rows first end id k₀ last found₀ k found = last - k
