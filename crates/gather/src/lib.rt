@@ -15,6 +15,7 @@ use rules::Refusal;
 use rules::Step;
 use sources::Noted;
 use sources::Recording;
+use sources::notes::kept;
 use sources::notes::note;
 use sources::notes::note_penalised;
 use sources::rows::to_source;
@@ -189,13 +190,6 @@ fn with_copies(
     }
 }
 
-// How many copies of a quantity are weighed.
-fn copies_of(quantity: u32) -> u32
-    ensures { λ r. ⌜ r ≡ min quantity 8 ⌝ }
-{
-    if quantity < 8 { quantity } else { 8 }
-}
-
 // A penalised entry of strength v, whose simplified value is x.
 fn add_penalised(
     positives: &mut [f64; 8],
@@ -228,7 +222,7 @@ fn add_penalised(
                 p,
                 run.recording,
                 x,
-                copies_of(e.quantity),
+                kept(e.quantity),
             );
             counted(q, own, used)
         }
