@@ -2,7 +2,7 @@
 """Writes the standard input of the program `cases_test`: every sheet of this folder with the text expected of it.
 
 Usage: make_texts.py: writes crates/cases_test/stdin and stdout. make_texts.py --check: says whether they are what it would write.
-Behind the files comes a sheet that is longer than the program's buffer, and sound but for that: case L with unused base attributes.
+Behind the files come two sound sheets, case L with unused base attributes: one that fills the program's buffer, one that is longer.
 For each sheet: the lengths of its name, of the sheet and of the text, 32 bits each, little-endian; then the three, with nothing between.
 """
 import pathlib
@@ -18,15 +18,16 @@ OUT = HERE.parent / "crates" / "cases_test"
 LONGEST = 65536
 
 
-def longer():
-    data = marked.case_l(unused=5500)
-    if reference.listing(reference.answer(data, (4096,) * 5)) != marked.L_TEXT or len(data) <= LONGEST:
-        sys.exit("the longer sheet is not case L, or not longer")
-    return "longer", data, b"refused 1 0\n"
+def sized(name, unused, length, text):
+    data = marked.case_l(unused=unused)
+    if reference.listing(reference.answer(data, (4096,) * 5)) != marked.L_TEXT or len(data) != length:
+        sys.exit(f"{name}: {len(data)} bytes, or not case L")
+    return name, data, text.encode()
 
 
 def main():
-    sheets = [(path.stem, path.read_bytes(), path.with_suffix(".txt").read_bytes()) for path in sorted(HERE.glob("*.sheet"))] + [longer()]
+    sheets = [(path.stem, path.read_bytes(), path.with_suffix(".txt").read_bytes()) for path in sorted(HERE.glob("*.sheet"))]
+    sheets += [sized("full", 5419, LONGEST, marked.L_TEXT), sized("longer", 5420, LONGEST + 12, "refused 1 0\n")]
     made = b"".join(struct.pack("<3I", len(name), len(data), len(text)) + name.encode() + data + text for name, data, text in sheets)
     said = f"{len(sheets)} of {len(sheets)} texts are as expected\n".encode()
     files = {OUT / "stdin": made, OUT / "stdout": said}
