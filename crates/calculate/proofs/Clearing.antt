@@ -17,7 +17,7 @@ use Rattle.rules.specs.declared.Refusal.{Refusal}
 use Rattle.rules.specs.declared.Answer.{Answer}
 use Rattle.rules.specs.declared.Answer.the-variants as answer
 use Rattle.clear.specs.Ends.{cleared}
-use Rattle.clear.specs.declared.Counts as clear
+use Rattle.clear.specs.declared.KeptCounts as clear
 use Rattle.clear.proofs.Columned.{cleared-column, cleared-all, cleared-same}
 use Rattle.promises.specs.Result.{Meets}
 use Rattle.run.specs.Filled.{Columns, lentOf, Filled, RanAs}
@@ -56,7 +56,7 @@ pub record Even (c₀ c : Columns) : Type 0 where
   pub sourceFloats : length (c .sourceFloats) ≡ length (c₀ .sourceFloats)
 
 -- cleared behind the counts
-pub record Cleared (n : clear.Counts) (st : List (List ℕ)) (c : Columns) (st′ : List (List ℕ)) (c′ : Columns) : Type 0 where
+pub record Cleared (n : clear.KeptCounts) (st : List (List ℕ)) (c : Columns) (st′ : List (List ℕ)) (c′ : Columns) : Type 0 where
   pub collected : c′ .collected ≡ cleared (replicate 14 0) (n .collected) (c .collected)
   pub collectedValues : c′ .collectedValues ≡ cleared zeroF (n .collected) (c .collectedValues)
   pub rows : c′ .rows ≡ cleared (replicate 6 0) (n .rows) (c .rows)
@@ -71,7 +71,7 @@ pub record Cleared (n : clear.Counts) (st : List (List ℕ)) (c : Columns) (st�
   pub whole : length st ≡ 1024
 
 -- what the call gives back
-pub record Given (n : clear.Counts) (a : Answer) (o : Outcome) : Type 0 where
+pub record Given (n : clear.KeptCounts) (a : Answer) (o : Outcome) : Type 0 where
   pub number : o .number ≡ number a
   pub place : o .place ≡ place a
   pub collected : o .collected ≡ n .collected
@@ -84,7 +84,7 @@ counts-same : {a b c d e a′ b′ c′ d′ e′ : ℕ} → a ≡ a′ → b �
 counts-same p q r s t = rw (p, q, r, s, t) refl
 
 module _ (b : List ℕ) (c₀ c c′ : Columns) (st st′ : List (List ℕ)) (o : Outcome) where
-  done : (d : Done) (n : clear.Counts) → outcome b (lentOf c₀) ≡ ok d → Filled d n st c₀ c → Cleared n st c st′ c′ → Given n answer.Done o → Meets b (lentOf c₀) (resultOf o st′ c′)
+  done : (d : Done) (n : clear.KeptCounts) → outcome b (lentOf c₀) ≡ ok d → Filled d n st c₀ c → Cleared n st c st′ c′ → Given n answer.Done o → Meets b (lentOf c₀) (resultOf o st′ c′)
   unfolding collectedColumn collectedValueColumn rowColumn baseColumn valueColumn entryColumn entryValueColumn plainColumn sourceColumn sourceFloatColumn stateColumn
   done d n e f k g =
       record {
@@ -139,7 +139,7 @@ module _ (b : List ℕ) (c₀ c c′ : Columns) (st st′ : List (List ℕ)) (o 
   by-both (refused x) (ran.Refused y) e f t k g = not-done y (e ∙ ap refused (sym f)) t k g
 
   -- a run, cleared and given back
-  pub meets : (r : Ran) (n : clear.Counts) (a : Answer) → n ≡ countsGiven r → a ≡ answerGiven r → RanAs (outcome b (lentOf c₀)) r st c₀ c → Even c₀ c → Cleared n st c st′ c′ → Given n a o → Meets b (lentOf c₀) (resultOf o st′ c′)
+  pub meets : (r : Ran) (n : clear.KeptCounts) (a : Answer) → n ≡ countsGiven r → a ≡ answerGiven r → RanAs (outcome b (lentOf c₀)) r st c₀ c → Even c₀ c → Cleared n st c st′ c′ → Given n a o → Meets b (lentOf c₀) (resultOf o st′ c′)
   meets r n a e h f t k g =
-      by-both (outcome b (lentOf c₀)) r refl f t (subst (λ (x : clear.Counts). Cleared x st c st′ c′) e k)
-      (subst (λ (x : Answer). Given (countsGiven r) x o) h (subst (λ (x : clear.Counts). Given x a o) e g))
+      by-both (outcome b (lentOf c₀)) r refl f t (subst (λ (x : clear.KeptCounts). Cleared x st c st′ c′) e k)
+      (subst (λ (x : Answer). Given (countsGiven r) x o) h (subst (λ (x : clear.KeptCounts). Given x a o) e g))

@@ -3,7 +3,7 @@ use Prim.Native.Nat.{ℕ}
 use mathlib.Core.List.{List}
 use Rattle.rules.specs.declared.Answer.{Answer}
 use Rattle.rules.specs.declared.Answer.the-variants as answer
-use Rattle.clear.specs.declared.Counts.{Counts}
+use Rattle.clear.specs.declared.KeptCounts.{KeptCounts}
 use Rattle.promises.specs.Result.{Result}
 use Rattle.run.specs.Filled.{Columns}
 use Rattle.run.specs.declared.Ran.{Ran}
@@ -11,7 +11,7 @@ use Rattle.run.specs.declared.Ran.the-variants as ran
 use Rattle.calculate.specs.declared.Outcome.{Outcome}
 
 -- the counts to keep: none after a refusal
-abbrev pub countsGiven : Ran → Counts
+abbrev pub countsGiven : Ran → KeptCounts
 countsGiven (ran.Done n) = n
 countsGiven (ran.Refused y) = record { objects = 0; collected = 0; rows = 0; entries = 0; plain = 0; sources = 0 }
 

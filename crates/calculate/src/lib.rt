@@ -1,14 +1,21 @@
 // The engine's entry: the bytes of a sheet and lent lists go in, every list, every state and the answer come out (calculate.rs).
 use answers::number_of;
 use answers::place_of;
-use clear::Counts;
+use clear::KeptCounts;
 use clear::clear;
-use outcome::filled;
+use columns::AttributeRow;
+use columns::CollectedRow;
+use columns::EntryRow;
+use columns::PlainRow;
+use columns::SourceFloats;
+use columns::SourceRow;
+use columns::States;
 use rules::Answer;
 use run::Ran;
+use run::outcome::filled;
 ghost use mathlib.Core.Path.{_≡_};
 ghost use Rattle.promises.specs.Result.{Meets};
-ghost use Rattle.run.specs.Filled.{columns, lentOf};
+ghost use Rattle.run.specs.Filled.{lentColumns, lentOf};
 ghost use Rattle.calculate.specs.Given.{countsGiven, answerGiven, resultOf};
 
 // What comes back of a call: 01's number and place, and how many rows each list has.
@@ -24,12 +31,12 @@ pub struct Outcome {
 }
 
 // The counts to keep: none after a refusal.
-fn counts_of(ran: Ran) -> Counts
-    ensures { λ r. ⌜ r ≡ countsGiven ran ⌝ }
+fn counts_of(ran: Ran) -> KeptCounts
+    ensures defined { λ r. ⌜ r ≡ countsGiven ran ⌝ }
 {
     match ran {
         Ran::Done(n) => n,
-        Ran::Refused(_) => Counts {
+        Ran::Refused(_) => KeptCounts {
             objects: 0,
             collected: 0,
             rows: 0,
@@ -40,8 +47,9 @@ fn counts_of(ran: Ran) -> Counts
     }
 }
 
+// The answer without its counts.
 fn answer_of(ran: Ran) -> Answer
-    ensures { λ r. ⌜ r ≡ answerGiven ran ⌝ }
+    ensures defined { λ r. ⌜ r ≡ answerGiven ran ⌝ }
 {
     match ran {
         Ran::Done(_) => Answer::Done,
@@ -49,23 +57,25 @@ fn answer_of(ran: Ran) -> Answer
     }
 }
 
-// Every list, every state and the answer, whatever the bytes are.
+// Every list, every state and the answer, whatever the bytes and whatever the lists: nothing is required.
 #[no_mangle]
 pub extern "C" fn dogma_calculate(
-    states: &mut [[u32; 2]; 1024],
-    collected: &mut [[u32; 14]],
+    states: &mut States,
+    collected: &mut [CollectedRow],
     collected_values: &mut [f64],
-    rows: &mut [[u32; 6]],
+    rows: &mut [AttributeRow],
     bases: &mut [f64],
     values: &mut [f64],
-    entries: &mut [[u32; 11]],
+    entries: &mut [EntryRow],
     entry_values: &mut [f64],
-    plain: &mut [[u32; 2]],
-    sources: &mut [[u32; 10]],
-    source_values: &mut [[f64; 2]],
+    plain: &mut [PlainRow],
+    sources: &mut [SourceRow],
+    source_values: &mut [SourceFloats],
     sheet: &[u8],
 ) -> Outcome
-    ensures { λ r. ⌜ Meets (now (sheet .entry)) (lentOf (columns (now (collected .entry)) (now («collected_values» .entry)) (now (rows .entry)) (now (bases .entry)) (now (values .entry)) (now (entries .entry)) (now («entry_values» .entry)) (now (plain .entry)) (now (sources .entry)) (now («source_values» .entry)))) (resultOf r (now (states .exit)) (columns (now (collected .exit)) (now («collected_values» .exit)) (now (rows .exit)) (now (bases .exit)) (now (values .exit)) (now (entries .exit)) (now («entry_values» .exit)) (now (plain .exit)) (now (sources .exit)) (now («source_values» .exit)))) ⌝ }
+    ensures the_definitions_answer { λ r.
+        let lists = lentColumns collected «collected_values» rows bases values entries «entry_values» plain sources «source_values» in
+        ⌜ Meets (now (sheet .entry)) (lentOf (lists .entry)) (resultOf r (now (states .exit)) (lists .exit)) ⌝ }
 {
     let ran = filled(
         states,
@@ -107,3 +117,5 @@ pub extern "C" fn dogma_calculate(
         sources: counts.sources as u64,
     }
 }
+
+pub mod answers;

@@ -1,3 +1,14 @@
+pub mod Case
+pub mod Gives
+pub mod Inside
+pub mod Resists
+pub mod Seeking
+pub mod Turns
+pub mod Own
 pub mod Neighbours
 pub mod Phases
 pub mod Whole
+pub mod Taking
+pub mod Comes
+pub mod Pointed
+pub mod Bounds

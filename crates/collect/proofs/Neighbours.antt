@@ -12,8 +12,8 @@ use Rattle.info.specs.Sound.{Nth}
 use Rattle.states.proofs.Standing as standing
 use Rattle.info.proofs.Elements.{objects-length}
 use Rattle.rules.specs.Bytes.{countOf}
-use Rattle.standing.proofs.Sheets.{numbered}
-use Rattle.modifiers.specs.Stands.{Stands}
+use Rattle.info.proofs.Sheets.{numbered}
+use Rattle.collect.specs.OfFit.{OfFit}
 
 module _ (f : Fit) {n : ℕ} where
   pub next-there : {i : ℕ} {t : Bool} (x : Item) → Nth (f .objects) i x → i ≡ suc n → t ≡ isCharge x → t ≡ isCharge (object f (suc n))
@@ -23,11 +23,11 @@ module _ (f : Fit) {n : ℕ} where
   next-none h = sym (ap isCharge (List·getD-eq-default (f .objects) noItem h))
 
 -- objects have their places as their numbers
-pub beside-is : (b : List ℕ) (pairs : List (List ℕ)) (o : Item) {x : ℕ} → Stands (fitOf b pairs) o → x ≡ cond (isItem o) (suc (o .number)) (o .number - 1) → x ≡ cond (isItem o) (suc (o .number)) (itemOf (fitOf b pairs) o .number)
+pub beside-is : (b : List ℕ) (pairs : List (List ℕ)) (o : Item) {x : ℕ} → OfFit (fitOf b pairs) o → x ≡ cond (isItem o) (suc (o .number)) (o .number - 1) → x ≡ cond (isItem o) (suc (o .number)) (itemOf (fitOf b pairs) o .number)
 beside-is b pairs o s e =
     e ∙ ap (λ (n : ℕ). cond (isItem o) (suc (o .number)) n) (sym (numbered b pairs (o .number - 1) (omega (arith, s .few))))
 
-pub stands-at : (b : List ℕ) (pairs : List (List ℕ)) (i : ℕ) (o : Item) → i < countOf pairs 6 → Nth (fitOf b pairs .objects) i o → Stands (fitOf b pairs) o
+pub stands-at : (b : List ℕ) (pairs : List (List ℕ)) (i : ℕ) (o : Item) → i < countOf pairs 6 → Nth (fitOf b pairs .objects) i o → OfFit (fitOf b pairs) o
 stands-at b pairs i o h n =
     record {
       few = omega (arith, at, objects-length b pairs);

@@ -6,11 +6,11 @@ use lib.Ieee.{Float}
 use lib.ListN.{length}
 use Rattle.rules.specs.Collect.{Move}
 use Rattle.rules.specs.Outcome as outcome
-use Rattle.moves.specs.declared.Rooms.{Rooms}
-use Rattle.moves.specs.Ran.{Stand, at, ran, ended}
-use Rattle.moves.proofs.Ends.{ran-ended}
+use Rattle.modifier.specs.declared.moves.CollectedRooms.{CollectedRooms}
+use Rattle.modifier.specs.Ran.{Stand, at, ran, ended}
+use Rattle.modifier.proofs.Ends.{ran-ended}
 
-abbrev roomsBy : ℕ → ℕ → Rooms
+abbrev roomsBy : ℕ → ℕ → CollectedRooms
 roomsBy room plain = record { collected = room; plain = plain }
 
 pub whole : (q : outcome.Rooms) (room plain : ℕ) (ms : List Move) (c : List (List ℕ)) (v : List Float) (l : List (List ℕ)) {t : Stand} → q .collected ≡ room → q .plain ≡ plain → room ≤ length c → room ≤ length v → plain ≤ length l → t ≡ ran (roomsBy room plain) ms (at 0 0 c v l) → t ≡ ended (outcome.collected q 0 0 ms) ms c v l

@@ -8,7 +8,7 @@ use Rattle.rules.specs.Sheet.{Book, Fit}
 use Rattle.rules.specs.Item.{isItem, isCharge, isSkill, isProjected, charOf, itemOf, structureFit, passed}
 use Rattle.rules.specs.Collect.{Move, ownMoves, projectedMoves, fittedMoves, buffMoves}
 use Rattle.rules.specs.declared.Item.{Item}
-use Rattle.locations.specs.Categories.{CategoriesOf}
+use Rattle.item.specs.Categories.{CategoriesOf}
 use Rattle.collect.specs.declared.Hull.{Hull}
 use Rattle.collect.specs.declared.Phase.{Phase}
 use Rattle.collect.specs.declared.Phase.the-variants.{Front, Projected, Fitted, Skills}

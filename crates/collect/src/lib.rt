@@ -1,5 +1,5 @@
 // Collection (pass_2.rs up to the dispatch): all objects' effects and the buffs, in order, into lists 1 and 4.
-use locations::Categories;
+use item::locations::Categories;
 
 // What of the fit all its objects go by: the categories of modules, whether the hull is a structure, the char.
 pub struct Hull {
@@ -16,5 +16,10 @@ pub enum Phase {
     Skills,
 }
 
+pub mod buffs;
+pub mod collecting;
+pub mod effects;
 pub mod objects;
 pub mod owners;
+pub mod projected;
+pub mod uses;

@@ -18,15 +18,15 @@ use Rattle.rules.specs.Columns.{entryNumbers}
 use Rattle.rules.specs.declared.Pass2Effect.{Pass2Effect}
 use Rattle.info.specs.Sound.{SoundFit}
 use Rattle.info.proofs.Elements.{objects-length}
-use Rattle.standing.proofs.Sheets.{numbered}
-use Rattle.segments.specs.Strikes.{Strike, arrivals, Segmented}
-use Rattle.segments.proofs.Cutting.{parts-length}
+use Rattle.info.proofs.Sheets.{numbered}
+use Rattle.hits.specs.Strikes.{Strike, arrivals, Segmented}
+use Rattle.hits.proofs.Cutting.{parts-length}
 use Rattle.rows.specs.declared.rows.Laid.{Laid}
 use Rattle.rows.specs.declared.rows.Laid.the-variants.{Rows, Full}
-use Rattle.entries.specs.Effects.{Listing}
-use Rattle.object_lists.specs.Laying.{entriesOf}
-use Rattle.object_lists.specs.Parts.{hitsTo, Parts, Parting, rowsTo, ListsLaid, AllLaid}
-use Rattle.entries.proofs.RowOf.{bases-ascend}
+use Rattle.rows.specs.Effects.{Listing}
+use Rattle.rows.specs.Laying.{entriesOf}
+use Rattle.rows.specs.Parts.{hitsTo, Parts, Parting, rowsTo, ListsLaid, AllLaid}
+use Rattle.rows.proofs.RowOf.{bases-ascend}
 use Rattle.dispatch.specs.Keyed.{isRow}
 use Rattle.dispatch.specs.Whole.{Collection, Collecting, full}
 use Rattle.dispatch.proofs.Parted.{bases-narrow, as-effects, partOf, parts-of, parting-of, rows-are, full-rows, full-not, full-list}

@@ -33,18 +33,19 @@ use Rattle.rules.specs.Dispatch.{Row, Key, sameKey, baseKeys, hitKeys, fullAt, 
 use Rattle.rules.specs.Columns.{rowsNumbers}
 use Rattle.rules.specs.declared.Item.{Item}
 use Rattle.rules.specs.declared.Pass2Effect.{Pass2Effect}
-use Rattle.standing.proofs.Narrow.{signed-narrow}
-use Rattle.segments.specs.Strikes.{Strike, strike, Listed, Listing, arrivals, effectsOn, keyOf, keyNumbers, Segmented}
-use Rattle.segments.proofs.Gathering.{inside?, inside-take}
-use Rattle.segments.proofs.Numbering.{arrivals-inside, arrivals-keys, arrivals-listed}
-use Rattle.segments.proofs.Cutting.{parts-length, parts-few, parts-numbered, parts-hits, parts-placed, parts-ended}
+use Rattle.info.proofs.Narrow.{signed-narrow}
+use Rattle.hits.specs.Strikes.{Strike, strike, Listed, Listing, arrivals, effectsOn, keyOf, keyNumbers, Segmented}
+use Rattle.hits.proofs.Gathering.{inside?, inside-take}
+use Rattle.hits.proofs.Numbering.{arrivals-inside, arrivals-keys, arrivals-listed}
+use Rattle.hits.proofs.Cutting.{parts-length, parts-few, parts-numbered, parts-hits, parts-placed, parts-ended}
 use Rattle.rows.specs.Tallies.{narrow?}
-use Rattle.spread.specs.Entries.{effectAt, Collected, rowFor, rowsFor}
-use Rattle.spread.proofs.Defined.{rows-defined}
+use Rattle.info.specs.Stands.{effectAt}
+use Rattle.rows.specs.Entries.{Collected, rowFor, rowsFor}
+use Rattle.rows.proofs.Defined.{rows-defined}
 use Rattle.rows.proofs.Bounds.{narrow-fits, fits-narrow}
-use Rattle.entries.specs.Effects.{Effects}
-use Rattle.object_lists.specs.Parts.{hitsTo, Parts, Parting, partRows, rowsTo}
-use Rattle.object_lists.proofs.Owned.{numbers-length}
+use Rattle.rows.specs.Effects.{Effects}
+use Rattle.rows.specs.Parts.{hitsTo, Parts, Parting, partRows, rowsTo}
+use Rattle.rows.proofs.Owned.{numbers-length}
 use Rattle.dispatch.specs.Keyed.{isRow}
 use Rattle.dispatch.specs.Whole.{Collection, Collecting, full}
 use Rattle.dispatch.proofs.Rooms.{after, atPast, verdict-rows, verdict-none, verdict-past, full-verdict}

@@ -8,10 +8,10 @@ use lib.ListN.{length, getD}
 use Rattle.rules.specs.Sheet.{Book, Fit}
 use Rattle.rules.specs.Dispatch.{baseKeys, hitKeys, fullAt, rows}
 use Rattle.rules.specs.declared.Pass2Effect.{Pass2Effect}
-use Rattle.standing.specs.Stands.{Pointing, Narrow}
-use Rattle.spread.specs.Entries.{effectAt, Collected}
-use Rattle.object_lists.specs.Laying.{entriesOf}
-use Rattle.object_lists.specs.Parts.{ListsLaid}
+use Rattle.info.specs.Stands.{Pointing, Narrow, effectAt}
+use Rattle.rows.specs.Entries.{Collected}
+use Rattle.rows.specs.Laying.{entriesOf}
+use Rattle.rows.specs.Parts.{ListsLaid}
 use Rattle.dispatch.specs.declared.Dispatched.{Dispatched}
 use Rattle.dispatch.specs.declared.Dispatched.the-variants.{Lists, Full}
 

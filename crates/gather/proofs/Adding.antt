@@ -21,7 +21,7 @@ use Rattle.rules.specs.declared.Refusal.{Refusal}
 use Rattle.rules.specs.declared.Refusal.the-variants.{Number}
 use Rattle.rules.specs.declared.Step.the-variants.{Finite, NotFinite}
 use Rattle.rules.specs.declared.Source.{Source}
-use Rattle.buckets.specs.Held as bucket
+use Rattle.operate.specs.Held as bucket
 use Rattle.operate.specs.SoFar.{RunningOf, copiesFrom, withCopies}
 use Rattle.operate.proofs.Snocs.{kept, step-good, bind-good}
 use Rattle.sources.specs.declared.Noted.the-variants.{At, Refused}

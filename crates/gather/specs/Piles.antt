@@ -11,7 +11,7 @@ use Rattle.rules.specs.Operate.{hasPenalty}
 use Rattle.rules.specs.Value.{World, Mem, Gathered, ownSources, toSource, note, contribute}
 use Rattle.rules.specs.declared.Effect.{Effect}
 use Rattle.rules.specs.declared.EffectOperator.{EffectOperator}
-use Rattle.buckets.specs.Held as bucket
+use Rattle.operate.specs.Held as bucket
 use Rattle.operate.specs.SoFar.{RunningOf}
 use Rattle.sources.specs.Keeping.{Keeping}
 use Rattle.gather.specs.declared.Pile.{Pile}

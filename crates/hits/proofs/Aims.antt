@@ -14,13 +14,13 @@ use Rattle.rules.specs.Dispatch.{carrier, inLocation, inSkillLocation}
 use Rattle.rules.specs.Columns.{yes1}
 use Rattle.rules.specs.declared.Item.{Item}
 use Rattle.hits.specs.declared.Aim.{Aim}
-use Rattle.standing.specs.declared.Spans.{Spans}
+use Rattle.info.specs.declared.standing.Spans.{Spans}
 use Rattle.hits.specs.declared.Test.{Test}
 use Rattle.hits.specs.declared.Test.the-variants.{All, Requiring}
-use Rattle.standing.specs.Stands.{isFitted, Stands}
-use Rattle.reach.specs.Reach.{requiredBits, reachOf}
+use Rattle.info.specs.Stands.{isFitted, Stands}
+use Rattle.hits.specs.Reach.{requiredBits, reachOf}
 use Rattle.hits.specs.Who.{askedOf, passesBy, within, meets, Aims, atLocation, charItems, bySkill, byOwner, alone, nobody}
-use Rattle.standing.proofs.Standing.{either}
+use Rattle.info.proofs.StandingLaws.{either}
 
 -- ---- an aim by a column, and one at a single object
 

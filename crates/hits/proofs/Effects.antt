@@ -21,13 +21,13 @@ use Rattle.rules.specs.declared.Modifier.{Modifier}
 use Rattle.rules.specs.declared.Modifier.the-variants.{LocationRequiredSkillModifier, LocationGroupModifier, LocationModifier, OwnerRequiredSkillModifier, ItemModifier}
 use Rattle.rules.specs.declared.Pass2Effect.{Pass2Effect}
 use Rattle.hits.specs.declared.Aim.{Aim}
-use Rattle.standing.specs.declared.Spans.{Spans}
+use Rattle.info.specs.declared.standing.Spans.{Spans}
 use Rattle.hits.specs.declared.Test.{Test}
 use Rattle.hits.specs.declared.Test.the-variants.{All, OfGroup, Requiring}
-use Rattle.standing.specs.Stands.{Sized, Stands, Narrow}
+use Rattle.info.specs.Stands.{Sized, Stands, Narrow}
 use Rattle.hits.specs.Who.{Aims, atLocation, charItems, bySkill, byOwner, alone, nobody, First, Second}
-use Rattle.hits.proofs.Hits.{meant-itself, meant-buff, meant-effect, first-item, first-group, first-all, first-skill, first-owner, second-group, second-all, second-nobody, no-location}
-use Rattle.standing.proofs.Rows.{origin-at, source-at, func-at, what-at, target-at}
+use Rattle.hits.proofs.HitsLaws.{meant-itself, meant-buff, meant-effect, first-item, first-group, first-all, first-skill, first-owner, second-group, second-all, second-nobody, no-location}
+use Rattle.info.proofs.Rows.{origin-at, source-at, func-at, what-at, target-at}
 
 -- a code that is no other is 0
 other : (m : Modifier) → (getD (modifierNumbers m) 0 0 ≡ 4 → ⊥) → (getD (modifierNumbers m) 0 0 ≡ 1 → ⊥) → (getD (modifierNumbers m) 0 0 ≡ 2 → ⊥) → (getD (modifierNumbers m) 0 0 ≡ 3 → ⊥) → getD (modifierNumbers m) 0 0 ≡ 0

@@ -12,7 +12,7 @@ use Rattle.rules.specs.Sheet.{Book, Fit}
 use Rattle.rules.specs.Item.{object}
 use Rattle.hits.specs.declared.Aim.{Aim}
 use Rattle.hits.specs.declared.Test.{Test}
-use Rattle.reach.specs.Reach.{requiredBits, reachOf, Told}
+use Rattle.hits.specs.Reach.{requiredBits, reachOf, TableOf}
 use Rattle.hits.specs.Who.{asked, passesBy, passes, meets}
 
 module _ (column : ℕ) (x : Test) (r q : List ℕ) where
@@ -28,7 +28,7 @@ module _ (column : ℕ) (x : Test) (r q : List ℕ) where
       ∙ sym (ap (λ (b : Bool). not b && asked x r q) (ne-eqb (getD r column 0) 0 n))
 
 -- what the code tests in tables that tell of the objects is what the aim says of an object
-pub told-meets : (k : Book) (f : Fit) (reach skills : List (List ℕ)) → Told (reachOf k f) f reach → Told (requiredBits f) f skills → (a : Aim) (i : ℕ) → i < length (f .objects) → passes a (getD reach i []) (getD skills i []) ≡ meets k f a (object f i)
+pub told-meets : (k : Book) (f : Fit) (reach skills : List (List ℕ)) → TableOf (reachOf k f) f reach → TableOf (requiredBits f) f skills → (a : Aim) (i : ℕ) → i < length (f .objects) → passes a (getD reach i []) (getD skills i []) ≡ meets k f a (object f i)
 told-meets k f reach skills R S a i h = rw (R i h, S i h) refl
 
 -- the six skills that an object may require, one after another

@@ -11,7 +11,7 @@ use Rattle.rules.specs.Item.{object, isChar, isItem, isCharge, isOwnerModifiabl
 use Rattle.rules.specs.Dispatch.{inLocation, inSkillLocation, hit, byLocation, arrival}
 use Rattle.rules.specs.declared.Item.{Item}
 use Rattle.rules.specs.declared.Pass2Effect.{Pass2Effect}
-use Rattle.reach.specs.Reach.{requiredBits, reachOf}
+use Rattle.hits.specs.Reach.{requiredBits, reachOf}
 use Rattle.hits.specs.declared.Aim.{Aim}
 use Rattle.hits.specs.declared.Test.{Test}
 use Rattle.hits.specs.declared.Test.the-variants.{All, OfGroup, Requiring}

@@ -1,2 +1,10 @@
+pub mod Nans
 pub mod Elements
 pub mod Defaults
+pub mod Searches
+pub mod Finds
+pub mod Bases
+pub mod Narrow
+pub mod StandingLaws
+pub mod Sheets
+pub mod Rows

@@ -6,3 +6,14 @@ pub mod Counting
 pub mod Readings
 pub mod Nanned
 pub mod Codes
+pub mod Applies
+pub mod Holdings
+pub mod Starts
+pub mod Finding
+pub mod Limiting
+pub mod Gathering
+pub mod Taking
+pub mod Operating
+pub mod Falling
+pub mod Evaluating
+pub mod Fitting

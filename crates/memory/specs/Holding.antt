@@ -22,8 +22,8 @@ use Rattle.rules.specs.declared.Effect.{Effect}
 use Rattle.rules.specs.declared.EffectOperator.{EffectOperator}
 use Rattle.info.specs.Sound.{SoundBook}
 use Rattle.reading.specs.Held.{RowsHeld, EntryHeld, Sourced}
-use Rattle.stretches.specs.Stretched.{Stretched, Limits}
-use Rattle.sources.specs.declared.Run.{Run}
+use Rattle.reading.specs.Stretched.{Stretched, Limits}
+use Rattle.sources.specs.declared.Recording.{Recording}
 use Rattle.sources.specs.Shown.{first32}
 use Rattle.sources.specs.Planned.{countsOf, plannedFor, plannedBy}
 use Rattle.sources.specs.Keeping.{RunOf, Keeping}
@@ -74,7 +74,7 @@ pub record RowTold (w : World) (t : Tables) (i : ℕ) : Type 0 where
   pub good : (k : ℕ) (d : Effect) → k < length (rowAt w i .entries) → Good (getD (rowAt w i .entries) k d)
 
 -- the columns that are only read hold the world; s₀ and f₀ are list 5 before the first source row
-pub record Told (w : World) (s₀ : List (List ℕ)) (f₀ : List (List Float)) (t : Tables) (run : Run) : Type 0 where
+pub record Tells (w : World) (s₀ : List (List ℕ)) (f₀ : List (List Float)) (t : Tables) (run : Recording) : Type 0 where
   pub sound : SoundBook (t .book) (t .pairs)
   pub records : w .book ≡ bookOf (t .book) (t .pairs)
   pub recorded : RunOf w run
@@ -95,16 +95,16 @@ pub record Holds (w : World) (s₀ : List (List ℕ)) (f₀ : List (List Float))
   pub clean : (i : ℕ) → valueAt m i ≡ none → ownSources i m ≡ []
 
 -- the columns hold some world and some memory
-pub record Ready (t : Tables) (run : Run) (v : List Float) (s : List (List ℕ)) (f : List (List Float)) (used : ℕ) : Type 0 where
+pub record Ready (t : Tables) (run : Recording) (v : List Float) (s : List (List ℕ)) (f : List (List Float)) (used : ℕ) : Type 0 where
   pub world : World
   pub mem : Mem
   pub sources₀ : List (List ℕ)
   pub floats₀ : List (List Float)
-  pub told : Told world sources₀ floats₀ t run
+  pub told : Tells world sources₀ floats₀ t run
   pub holds : Holds world sources₀ floats₀ mem v s f used
 
 -- and row i is under calculation: it reads as its base, has own source rows, and room for those of the operators to come
-pub record Busy (t : Tables) (run : Run) (v : List Float) (s : List (List ℕ)) (f : List (List Float)) (used : ℕ) (i own : ℕ) (ops : List EffectOperator) : Type 0 where
+pub record Busy (t : Tables) (run : Recording) (v : List Float) (s : List (List ℕ)) (f : List (List Float)) (used : ℕ) (i own : ℕ) (ops : List EffectOperator) : Type 0 where
   pub ready : Ready t run v s f used
   pub within : i < length (ready .world .rows)
   pub begun : valueAt (ready .mem) i ≡ some (rowAt (ready .world) i .base)
@@ -112,7 +112,7 @@ pub record Busy (t : Tables) (run : Run) (v : List Float) (s : List (List ℕ)) 
   pub enough : ready .world .recording ≡ true → own + plannedBy (ready .world) ops (rowAt (ready .world) i .entries) ≤ getD (countsOf (ready .world)) i 0
 
 -- the same while one operator's entries are gathered: the pile holds what the entries before entry k gave
-pub record Piling (t : Tables) (run : Run) (v : List Float) (s : List (List ℕ)) (f : List (List Float)) (i k : ℕ) (high : Bool) (op : EffectOperator) (p : Pile) : Type 0 where
+pub record Piling (t : Tables) (run : Recording) (v : List Float) (s : List (List ℕ)) (f : List (List Float)) (i k : ℕ) (high : Bool) (op : EffectOperator) (p : Pile) : Type 0 where
   pub ready : Ready t run v s f (p .used)
   pub within : i < length (ready .world .rows)
   pub begun : valueAt (ready .mem) i ≡ some (rowAt (ready .world) i .base)

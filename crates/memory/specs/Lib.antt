@@ -1,3 +1,4 @@
 pub mod Memory
 pub mod Steps
 pub mod Holding
+pub mod Answers

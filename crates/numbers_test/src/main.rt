@@ -86,10 +86,10 @@ fn answer(kind: u8, a: u64, b: u64) -> u64 {
     match kind {
         b'^' => of_step(numbers::power(float(a), low(b))),
         b'w' => pattern(numbers::weight(a as usize)),
-        b'c' => integers::bits(integers::cut(float(a))) as u64,
-        b'i' => integers::bits(integers::signed(low(a))) as u64,
+        b'c' => numbers::integers::bits(numbers::integers::cut(float(a))) as u64,
+        b'i' => numbers::integers::bits(numbers::integers::signed(low(a))) as u64,
         b'q' => pattern(numbers::as_float(low(a))),
-        b'h' => of_hundredths(hundredths::in_hundredths(float(a))),
+        b'h' => of_hundredths(numbers::hundredths::in_hundredths(float(a))),
         b'<' => of_test(numbers::is_smaller(float(a), float(b))),
         b'f' => of_test(numbers::is_finite(float(a))),
         _ => of_step(step(kind, float(a), float(b))),

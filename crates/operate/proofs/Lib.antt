@@ -1,5 +1,10 @@
+pub mod Carried
+pub mod Places
+pub mod Sorts
+pub mod Inserts
+pub mod Eights
+pub mod Weighings
 pub mod Snocs
 pub mod Copies
 pub mod Applied
 pub mod PassedOver
-pub mod Entered

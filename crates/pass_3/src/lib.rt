@@ -1,9 +1,19 @@
 // Values: an attribute's value from its base and its entries, with the memory of those already valued (pass_3.rs).
 // `calculate_value` and `calculated_value` call each other; each calculation that starts leaves one row fewer that is not started.
-use apply::Got;
-use apply::Part;
-use apply::apply;
-use apply::held_to;
+use columns::AttributeRow;
+use columns::ENTRY_OPERATOR;
+use columns::EntryRow;
+use columns::Limits;
+use columns::ROW_ATTRIBUTE;
+use columns::ROW_ENTRY_COUNT;
+use columns::ROW_FIRST_ENTRY;
+use columns::ROW_FIRST_SOURCE;
+use columns::ROW_OBJECT;
+use columns::SourceFloats;
+use columns::SourceRow;
+use columns::States;
+use columns::Stretches;
+use columns::TablePairs;
 use gather::Growing;
 use gather::Stop;
 use gather::add_entry;
@@ -11,24 +21,28 @@ use gather::counted;
 use gather::empty;
 use gather::grown;
 use gather::stopped;
-use integers::signed;
+use info::look_ups::get_dogma_attribute;
 use item::codes::operator_code;
-use look_ups::get_dogma_attribute;
+use memory::apply::Got;
+use memory::apply::Part;
+use memory::apply::apply;
+use memory::apply::held_to;
+use numbers::integers::signed;
 use numbers::product;
 use reading::entries::entry_at;
 use reading::entries::is_running;
 use reading::entries::operator_of;
 use reading::entries::operators_in;
 use reading::rows::Found;
+use reading::stretches::find;
+use reading::stretches::is_limited;
 use rules::Effect;
 use rules::EffectOperator;
 use rules::OptionalId;
 use rules::Origin;
 use rules::Refusal;
 use rules::Step;
-use sources::Run;
-use stretches::find;
-use stretches::is_limited;
+use sources::Recording;
 ghost use mathlib.Core.Path.{_≡_};
 ghost use mathlib.Core.Bool.{Bool, cond};
 ghost use mathlib.Core.List.{List, [], _∷_};
@@ -39,36 +53,44 @@ ghost use lib.ListN.{length};
 ghost use Rattle.laws.specs.Floats.{finite};
 ghost use Rattle.rules.specs.Codes.{operators};
 ghost use Rattle.rules.specs.Dispatch.{Row};
+ghost use Rattle.rules.specs.Info.{getDogmaAttribute, highIsGood};
+ghost use Rattle.rules.specs.Operate.{Values, applied};
+ghost use Rattle.rules.specs.Sheet.{bookOf};
+ghost use Rattle.info.specs.Sound.{SoundBook};
 ghost use Rattle.rules.specs.Value.{valueOf, operate, gather, clamped};
 ghost use Rattle.rules.specs.Value as defined;
 ghost use Rattle.memory.specs.Steps.{rowAt, entryAt, strengthOf, evaluation};
-ghost use Rattle.memory.specs.Holding.{tables, highAt, Good, Ready, Busy, Piling, PileMeets};
-ghost use Rattle.gather.specs.Piles.{whole, Eights};
-ghost use Rattle.apply.specs.Answers.{Meets, PartMeets, heldBy};
+ghost use Rattle.memory.specs.Holding.{Good};
+ghost use Rattle.memory.specs.Answers.{heldBy};
+ghost use Rattle.gather.specs.Piles.{Eights};
+ghost use Rattle.pass_3.specs.Calls.{isAssign, lent, read, ReadyNow, BusyNow, Gives, BusyGives, PartGives, GivesOn, Piling, PileGives, pileOf, piled, EightsAt};
 
 // The value of an attribute of an object: its row's, or the default where it has none.
 pub fn calculated_value(
     values: &mut [f64],
-    sources: &mut [[u32; 10]],
-    floats: &mut [[f64; 2]],
+    sources: &mut [SourceRow],
+    floats: &mut [SourceFloats],
     book: &[u8],
-    pairs: &[[u32; 2]; 10],
-    states: &[[u32; 2]; 1024],
-    stretches: &[[u32; 2]; 1024],
-    limits: &[u32; 1024],
-    rows: &[[u32; 6]],
+    pairs: &TablePairs,
+    states: &States,
+    stretches: &Stretches,
+    limits: &Limits,
+    rows: &[AttributeRow],
     bases: &[f64],
-    entries: &[[u32; 11]],
+    entries: &[EntryRow],
     entry_values: &[f64],
-    run: Run,
+    run: Recording,
     object: u32,
     attribute: i32,
     left: u32,
     used: u32,
 ) -> Got
-    requires { ⌜ Ready (tables (now book) (now pairs) (now states) (now stretches) (now limits) (now rows) (now bases) (now entries) (now «entry_values»)) run (now values) (now sources) (now floats) used ⌝ }
-    requires { ⌜ object < 1024 ⌝ }
-    ensures { λ r. ⌜ ((h : Ready (tables (now (book .entry)) (now (pairs .entry)) (now (states .entry)) (now (stretches .entry)) (now (limits .entry)) (now (rows .entry)) (now (bases .entry)) (now (entries .entry)) (now («entry_values» .entry))) run (now (values .entry)) (now (sources .entry)) (now (floats .entry)) used) → Meets (h .world) (h .sources₀) (h .floats₀) (valueOf (h .world) left object attribute (h .mem)) r (now (values .exit)) (now (sources .exit)) (now (floats .exit))) ⌝ }
+    requires holding { let t = lent book pairs states stretches limits rows bases entries «entry_values» in
+        ⌜ ReadyNow t values sources floats run used ⌝ }
+    requires an_object { ⌜ object < 1024 ⌝ }
+    ensures defined { λ r.
+        let t = read book pairs states stretches limits rows bases entries «entry_values» in
+        ⌜ Gives t values sources floats run used r (λ w. valueOf w left object attribute) ⌝ }
 {
     let found = find(rows, stretches, object, attribute);
     match found {
@@ -100,32 +122,35 @@ pub fn calculated_value(
 // The value of a row: the one in the column where the row is started or done.
 pub fn calculate_value(
     values: &mut [f64],
-    sources: &mut [[u32; 10]],
-    floats: &mut [[f64; 2]],
+    sources: &mut [SourceRow],
+    floats: &mut [SourceFloats],
     book: &[u8],
-    pairs: &[[u32; 2]; 10],
-    states: &[[u32; 2]; 1024],
-    stretches: &[[u32; 2]; 1024],
-    limits: &[u32; 1024],
-    rows: &[[u32; 6]],
+    pairs: &TablePairs,
+    states: &States,
+    stretches: &Stretches,
+    limits: &Limits,
+    rows: &[AttributeRow],
     bases: &[f64],
-    entries: &[[u32; 11]],
+    entries: &[EntryRow],
     entry_values: &[f64],
-    run: Run,
+    run: Recording,
     row: usize,
     left: u32,
     used: u32,
 ) -> Got
-    requires { ⌜ Ready (tables (now book) (now pairs) (now states) (now stretches) (now limits) (now rows) (now bases) (now entries) (now «entry_values»)) run (now values) (now sources) (now floats) used ⌝ }
-    requires { ⌜ row < length (now rows) ⌝ }
-    ensures { λ r. ⌜ ((h : Ready (tables (now (book .entry)) (now (pairs .entry)) (now (states .entry)) (now (stretches .entry)) (now (limits .entry)) (now (rows .entry)) (now (bases .entry)) (now (entries .entry)) (now («entry_values» .entry))) run (now (values .entry)) (now (sources .entry)) (now (floats .entry)) used) → Meets (h .world) (h .sources₀) (h .floats₀) (valueOf (h .world) left (rowAt (h .world) row .object) (rowAt (h .world) row .id) (h .mem)) r (now (values .exit)) (now (sources .exit)) (now (floats .exit))) ⌝ }
+    requires holding { let t = lent book pairs states stretches limits rows bases entries «entry_values» in
+        ⌜ ReadyNow t values sources floats run used ⌝ }
+    requires within { ⌜ row < length (now rows) ⌝ }
+    ensures defined { λ r.
+        let t = read book pairs states stretches limits rows bases entries «entry_values» in
+        ⌜ Gives t values sources floats run used r (λ w. valueOf w left (rowAt w row .object) (rowAt w row .id)) ⌝ }
 {
     let v = values[row];
     if v == v {
         return Got::Value(v, used);
     }
     if left == 0 {
-        let object = rows[row][0];
+        let object = rows[row][ROW_OBJECT];
         return Got::Refused(Refusal::Depth(object));
     }
     let base = bases[row];
@@ -157,42 +182,40 @@ pub fn calculate_value(
     }
 }
 
-// The value of a row under calculation: its operators, then min, then max.
+// The value of a row under calculation: its operators, then min, then max. Its record is looked up where it may have a limit.
 fn evaluated(
     values: &mut [f64],
-    sources: &mut [[u32; 10]],
-    floats: &mut [[f64; 2]],
+    sources: &mut [SourceRow],
+    floats: &mut [SourceFloats],
     book: &[u8],
-    pairs: &[[u32; 2]; 10],
-    states: &[[u32; 2]; 1024],
-    stretches: &[[u32; 2]; 1024],
-    limits: &[u32; 1024],
-    rows: &[[u32; 6]],
+    pairs: &TablePairs,
+    states: &States,
+    stretches: &Stretches,
+    limits: &Limits,
+    rows: &[AttributeRow],
     bases: &[f64],
-    entries: &[[u32; 11]],
+    entries: &[EntryRow],
     entry_values: &[f64],
-    run: Run,
+    run: Recording,
     row: usize,
     left: u32,
     used: u32,
 ) -> Got
-    requires { ⌜ Busy (tables (now book) (now pairs) (now states) (now stretches) (now limits) (now rows) (now bases) (now entries) (now «entry_values»)) run (now values) (now sources) (now floats) used row 0 operators ⌝ }
-    ensures { λ r. ⌜ ((h : Busy (tables (now (book .entry)) (now (pairs .entry)) (now (states .entry)) (now (stretches .entry)) (now (limits .entry)) (now (rows .entry)) (now (bases .entry)) (now (entries .entry)) (now («entry_values» .entry))) run (now (values .entry)) (now (sources .entry)) (now (floats .entry)) used row 0 operators) → Meets (h .ready .world) (h .ready .sources₀) (h .ready .floats₀) (evaluation (h .ready .world) (valueOf (h .ready .world) left) row (rowAt (h .ready .world) row) (h .ready .mem)) r (now (values .exit)) (now (sources .exit)) (now (floats .exit))) ⌝ }
+    requires begun { let t = lent book pairs states stretches limits rows bases entries «entry_values» in
+        ⌜ BusyNow t values sources floats run used row 0 operators ⌝ }
+    ensures defined { λ r.
+        let t = read book pairs states stretches limits rows bases entries «entry_values» in
+        ⌜ BusyGives t values sources floats run used row r (λ w. evaluation w (valueOf w left) row (rowAt w row)) ⌝ }
 {
-    let id = signed(rows[row][1]);
-    let count = rows[row][3];
+    let id = signed(rows[row][ROW_ATTRIBUTE]);
+    let count = rows[row][ROW_ENTRY_COUNT];
+    let has_limits = is_limited(limits, id);
     if count == 0 {
-        let limited = is_limited(limits, id);
-        if !limited {
+        if !has_limits {
             let base = bases[row];
             return Got::Value(base, used);
         }
     }
-    let record = get_dogma_attribute(book, pairs, id);
-    let high = record.flags / 2 == 1;
-    let min = record.min_attribute_id;
-    let max = record.max_attribute_id;
-    let object = rows[row][0];
     let got = operated(
         values,
         sources,
@@ -208,13 +231,19 @@ fn evaluated(
         entry_values,
         run,
         row,
-        high,
         left,
         used,
     );
+    if !has_limits {
+        return got;
+    }
     let Got::Value(v, u) = got else {
         return got;
     };
+    let record = get_dogma_attribute(book, pairs, id);
+    let min = record.min_attribute_id;
+    let max = record.max_attribute_id;
+    let object = rows[row][ROW_OBJECT];
     let low = limited(
         values,
         sources,
@@ -265,18 +294,18 @@ fn evaluated(
 // A value held to a limit that is read off the same object; 0 means none.
 fn limited(
     values: &mut [f64],
-    sources: &mut [[u32; 10]],
-    floats: &mut [[f64; 2]],
+    sources: &mut [SourceRow],
+    floats: &mut [SourceFloats],
     book: &[u8],
-    pairs: &[[u32; 2]; 10],
-    states: &[[u32; 2]; 1024],
-    stretches: &[[u32; 2]; 1024],
-    limits: &[u32; 1024],
-    rows: &[[u32; 6]],
+    pairs: &TablePairs,
+    states: &States,
+    stretches: &Stretches,
+    limits: &Limits,
+    rows: &[AttributeRow],
     bases: &[f64],
-    entries: &[[u32; 11]],
+    entries: &[EntryRow],
     entry_values: &[f64],
-    run: Run,
+    run: Recording,
     object: u32,
     limit: i32,
     least: bool,
@@ -284,9 +313,13 @@ fn limited(
     left: u32,
     used: u32,
 ) -> Got
-    requires { ⌜ Ready (tables (now book) (now pairs) (now states) (now stretches) (now limits) (now rows) (now bases) (now entries) (now «entry_values»)) run (now values) (now sources) (now floats) used ⌝ }
-    requires { ⌜ (object < 1024) × T (finite v) ⌝ }
-    ensures { λ r. ⌜ ((h : Ready (tables (now (book .entry)) (now (pairs .entry)) (now (states .entry)) (now (stretches .entry)) (now (limits .entry)) (now (rows .entry)) (now (bases .entry)) (now (entries .entry)) (now («entry_values» .entry))) run (now (values .entry)) (now (sources .entry)) (now (floats .entry)) used) → Meets (h .world) (h .sources₀) (h .floats₀) (clamped object (valueOf (h .world) left) (heldBy least) limit (record { value = v; mem = h .mem })) r (now (values .exit)) (now (sources .exit)) (now (floats .exit))) ⌝ }
+    requires holding { let t = lent book pairs states stretches limits rows bases entries «entry_values» in
+        ⌜ ReadyNow t values sources floats run used ⌝ }
+    requires within { ⌜ (object < 1024) × T (finite v) ⌝ }
+    ensures defined { λ r.
+        let t = read book pairs states stretches limits rows bases entries «entry_values» in
+        ⌜ Gives t values sources floats run used r
+        (λ w m. clamped object (valueOf w left) (heldBy least) limit (record { value = v; mem = m })) ⌝ }
 {
     if limit == 0 {
         return Got::Value(v, used);
@@ -319,29 +352,31 @@ fn limited(
 // The base value of a row with its operators applied in their order; one that no entry has is passed over.
 fn operated(
     values: &mut [f64],
-    sources: &mut [[u32; 10]],
-    floats: &mut [[f64; 2]],
+    sources: &mut [SourceRow],
+    floats: &mut [SourceFloats],
     book: &[u8],
-    pairs: &[[u32; 2]; 10],
-    states: &[[u32; 2]; 1024],
-    stretches: &[[u32; 2]; 1024],
-    limits: &[u32; 1024],
-    rows: &[[u32; 6]],
+    pairs: &TablePairs,
+    states: &States,
+    stretches: &Stretches,
+    limits: &Limits,
+    rows: &[AttributeRow],
     bases: &[f64],
-    entries: &[[u32; 11]],
+    entries: &[EntryRow],
     entry_values: &[f64],
-    run: Run,
+    run: Recording,
     row: usize,
-    high: bool,
     left: u32,
     used: u32,
 ) -> Got
-    requires { ⌜ Busy (tables (now book) (now pairs) (now states) (now stretches) (now limits) (now rows) (now bases) (now entries) (now «entry_values»)) run (now values) (now sources) (now floats) used row 0 operators ⌝ }
-    requires { ⌜ high ≡ highAt (tables (now book) (now pairs) (now states) (now stretches) (now limits) (now rows) (now bases) (now entries) (now «entry_values»)) row ⌝ }
-    ensures { λ r. ⌜ ((h : Busy (tables (now (book .entry)) (now (pairs .entry)) (now (states .entry)) (now (stretches .entry)) (now (limits .entry)) (now (rows .entry)) (now (bases .entry)) (now (entries .entry)) (now («entry_values» .entry))) run (now (values .entry)) (now (sources .entry)) (now (floats .entry)) used row 0 operators) → Meets (h .ready .world) (h .ready .sources₀) (h .ready .floats₀) (operate (h .ready .world) row (rowAt (h .ready .world) row) (valueOf (h .ready .world) left) operators (record { value = rowAt (h .ready .world) row .base; mem = h .ready .mem })) r (now (values .exit)) (now (sources .exit)) (now (floats .exit))) ⌝ }
+    requires begun { let t = lent book pairs states stretches limits rows bases entries «entry_values» in
+        ⌜ BusyNow t values sources floats run used row 0 operators ⌝ }
+    ensures defined { λ r.
+        let t = read book pairs states stretches limits rows bases entries «entry_values» in
+        ⌜ BusyGives t values sources floats run used row r
+        (λ w m. operate w row (rowAt w row) (valueOf w left) operators (record { value = rowAt w row .base; mem = m })) ⌝ }
 {
-    let first = rows[row][2] as usize;
-    let end = first + rows[row][3] as usize;
+    let first = rows[row][ROW_FIRST_ENTRY] as usize;
+    let end = first + rows[row][ROW_ENTRY_COUNT] as usize;
     let marks = operators_in(entries, first, end);
     let mut value = bases[row];
     let mut own: u32 = 0;
@@ -368,7 +403,6 @@ fn operated(
                 run,
                 row,
                 operator,
-                high,
                 left,
                 value,
                 own,
@@ -387,35 +421,70 @@ fn operated(
     Got::Value(value, u)
 }
 
+// Whether an operator assigns.
+fn is_assign(operator: EffectOperator) -> bool
+    ensures { λ r. ⌜ r ≡ isAssign operator ⌝ }
+{
+    match operator {
+        EffectOperator::PreAssign => true,
+        EffectOperator::PreMul => false,
+        EffectOperator::PreDiv => false,
+        EffectOperator::ModAdd => false,
+        EffectOperator::ModSub => false,
+        EffectOperator::PostMul => false,
+        EffectOperator::PostDiv => false,
+        EffectOperator::PostPercent => false,
+        EffectOperator::PostAssign => true,
+    }
+}
+
+// Whether high is good of an attribute; only an operator that assigns asks its record.
+fn is_high(book: &[u8], pairs: &TablePairs, operator: EffectOperator, id: i32) -> bool
+    requires sound { ⌜ SoundBook (now book) (now pairs) ⌝ }
+    ensures asked { λ r.
+        let high = highIsGood (getDogmaAttribute (bookOf (now (book .entry)) (now (pairs .entry))) id) in
+        ⌜ ((v : Float) (g : Values) → applied r operator v g ≡ applied high operator v g) ⌝ }
+{
+    let assigns = is_assign(operator);
+    if !assigns {
+        return false;
+    }
+    let record = get_dogma_attribute(book, pairs, id);
+    record.flags / 2 == 1
+}
+
 // One operator: all its entries are gathered, then they are applied.
 fn gathered(
     values: &mut [f64],
-    sources: &mut [[u32; 10]],
-    floats: &mut [[f64; 2]],
+    sources: &mut [SourceRow],
+    floats: &mut [SourceFloats],
     book: &[u8],
-    pairs: &[[u32; 2]; 10],
-    states: &[[u32; 2]; 1024],
-    stretches: &[[u32; 2]; 1024],
-    limits: &[u32; 1024],
-    rows: &[[u32; 6]],
+    pairs: &TablePairs,
+    states: &States,
+    stretches: &Stretches,
+    limits: &Limits,
+    rows: &[AttributeRow],
     bases: &[f64],
-    entries: &[[u32; 11]],
+    entries: &[EntryRow],
     entry_values: &[f64],
-    run: Run,
+    run: Recording,
     row: usize,
     operator: EffectOperator,
-    high: bool,
     left: u32,
     found: f64,
     own: u32,
     used: u32,
 ) -> Part
-    requires { ⌜ Busy (tables (now book) (now pairs) (now states) (now stretches) (now limits) (now rows) (now bases) (now entries) (now «entry_values»)) run (now values) (now sources) (now floats) used row own (operator ∷ []) ⌝ }
-    requires { ⌜ T (finite found) ⌝ }
-    requires { ⌜ high ≡ highAt (tables (now book) (now pairs) (now states) (now stretches) (now limits) (now rows) (now bases) (now entries) (now «entry_values»)) row ⌝ }
-    ensures { λ r. ⌜ ((h : Busy (tables (now (book .entry)) (now (pairs .entry)) (now (states .entry)) (now (stretches .entry)) (now (limits .entry)) (now (rows .entry)) (now (bases .entry)) (now (entries .entry)) (now («entry_values» .entry))) run (now (values .entry)) (now (sources .entry)) (now (floats .entry)) used row own (operator ∷ [])) → PartMeets (h .ready .world) (h .ready .sources₀) (h .ready .floats₀) row (operate (h .ready .world) row (rowAt (h .ready .world) row) (valueOf (h .ready .world) left) (operator ∷ []) (record { value = found; mem = h .ready .mem })) r (now (values .exit)) (now (sources .exit)) (now (floats .exit))) ⌝ }
+    requires begun { let t = lent book pairs states stretches limits rows bases entries «entry_values» in
+        ⌜ (BusyNow t values sources floats run used row own (operator ∷ [])) × T (finite found) ⌝ }
+    ensures defined { λ r.
+        let t = read book pairs states stretches limits rows bases entries «entry_values» in
+        ⌜ PartGives t values sources floats run used row own operator r
+        (λ w m. operate w row (rowAt w row) (valueOf w left) (operator ∷ []) (record { value = found; mem = m })) ⌝ }
 {
-    let count = rows[row][3] as usize;
+    let count = rows[row][ROW_ENTRY_COUNT] as usize;
+    let id = signed(rows[row][ROW_ATTRIBUTE]);
+    let high = is_high(book, pairs, operator, id);
     let mut positives = [0.0; 8];
     let mut positive_sources = [0u32; 8];
     let mut negatives = [0.0; 8];
@@ -455,8 +524,8 @@ fn gathered(
             Stop::Because(y) => return Part::Refused(y),
         }
     }
-    let object = rows[row][0];
-    let first = rows[row][4];
+    let object = rows[row][ROW_OBJECT];
+    let first = rows[row][ROW_FIRST_SOURCE];
     let pile = grown(positives, positive_sources, negatives, negative_sources, p);
     apply(floats, run, first, object, pile)
 }
@@ -464,22 +533,22 @@ fn gathered(
 // Entry k of a row goes to the pile, if it is of the operator and runs or is recorded.
 fn with_entry(
     values: &mut [f64],
-    sources: &mut [[u32; 10]],
-    floats: &mut [[f64; 2]],
+    sources: &mut [SourceRow],
+    floats: &mut [SourceFloats],
     positives: &mut [f64; 8],
     positive_sources: &mut [u32; 8],
     negatives: &mut [f64; 8],
     negative_sources: &mut [u32; 8],
     book: &[u8],
-    pairs: &[[u32; 2]; 10],
-    states: &[[u32; 2]; 1024],
-    stretches: &[[u32; 2]; 1024],
-    limits: &[u32; 1024],
-    rows: &[[u32; 6]],
+    pairs: &TablePairs,
+    states: &States,
+    stretches: &Stretches,
+    limits: &Limits,
+    rows: &[AttributeRow],
     bases: &[f64],
-    entries: &[[u32; 11]],
+    entries: &[EntryRow],
     entry_values: &[f64],
-    run: Run,
+    run: Recording,
     row: usize,
     k: usize,
     operator: EffectOperator,
@@ -487,13 +556,18 @@ fn with_entry(
     left: u32,
     p: Growing,
 ) -> Growing
-    requires { ⌜ Piling (tables (now book) (now pairs) (now states) (now stretches) (now limits) (now rows) (now bases) (now entries) (now «entry_values»)) run (now values) (now sources) (now floats) row k high operator (whole (now positives) (now «positive_sources») (now negatives) (now «negative_sources») p) ⌝ }
-    requires { ⌜ Eights (now positives) (now «positive_sources») (now negatives) (now «negative_sources») ⌝ }
-    ensures { λ r. ⌜ ((h : Piling (tables (now (book .entry)) (now (pairs .entry)) (now (states .entry)) (now (stretches .entry)) (now (limits .entry)) (now (rows .entry)) (now (bases .entry)) (now (entries .entry)) (now («entry_values» .entry))) run (now (values .entry)) (now (sources .entry)) (now (floats .entry)) row k high operator (whole (now (positives .entry)) (now («positive_sources» .entry)) (now (negatives .entry)) (now («negative_sources» .entry)) p)) → PileMeets (h .ready .world) (h .ready .sources₀) (h .ready .floats₀) row high operator (h .found) (gather (h .ready .world) row (rowAt (h .ready .world) row) (valueOf (h .ready .world) left) operator (entryAt (h .ready .world) row k ∷ []) (record { mem = h .ready .mem; values = h .values })) (whole (now (positives .exit)) (now («positive_sources» .exit)) (now (negatives .exit)) (now («negative_sources» .exit)) r) (now (values .exit)) (now (sources .exit)) (now (floats .exit))) ⌝ }
-    ensures { λ _. ⌜ Eights (now (positives .exit)) (now («positive_sources» .exit)) (now (negatives .exit)) (now («negative_sources» .exit)) ⌝ }
+    requires piling { let t = lent book pairs states stretches limits rows bases entries «entry_values» in
+        ⌜ Piling t values sources floats run row k high operator (pileOf positives «positive_sources» negatives «negative_sources» p) ⌝ }
+    requires eights { ⌜ EightsAt positives «positive_sources» negatives «negative_sources» ⌝ }
+    ensures defined { λ r.
+        let t = read book pairs states stretches limits rows bases entries «entry_values» in
+        let pile = piled positives «positive_sources» negatives «negative_sources» p r in
+        ⌜ PileGives t values sources floats pile run row k high operator
+        (λ w m v. gather w row (rowAt w row) (valueOf w left) operator (entryAt w row k ∷ []) (record { mem = m; values = v })) ⌝ }
+    ensures eights { λ _. ⌜ Eights (now (positives .exit)) (now («positive_sources» .exit)) (now (negatives .exit)) (now («negative_sources» .exit)) ⌝ }
 {
-    let at = rows[row][2] as usize + k;
-    let code = entries[at][6];
+    let at = rows[row][ROW_FIRST_ENTRY] as usize + k;
+    let code = entries[at][ENTRY_OPERATOR];
     if code != operator_code(operator) {
         return p;
     }
@@ -503,8 +577,8 @@ fn with_entry(
     if !(runs | run.recording) {
         return p;
     }
-    let object = rows[row][0];
-    let first = rows[row][4];
+    let object = rows[row][ROW_OBJECT];
+    let first = rows[row][ROW_FIRST_SOURCE];
     let got = strength(
         values,
         sources,
@@ -551,26 +625,29 @@ fn with_entry(
 // The strength of an entry: a buff's own, or an attribute of its source, held against the ship's resistance.
 fn strength(
     values: &mut [f64],
-    sources: &mut [[u32; 10]],
-    floats: &mut [[f64; 2]],
+    sources: &mut [SourceRow],
+    floats: &mut [SourceFloats],
     book: &[u8],
-    pairs: &[[u32; 2]; 10],
-    states: &[[u32; 2]; 1024],
-    stretches: &[[u32; 2]; 1024],
-    limits: &[u32; 1024],
-    rows: &[[u32; 6]],
+    pairs: &TablePairs,
+    states: &States,
+    stretches: &Stretches,
+    limits: &Limits,
+    rows: &[AttributeRow],
     bases: &[f64],
-    entries: &[[u32; 11]],
+    entries: &[EntryRow],
     entry_values: &[f64],
-    run: Run,
+    run: Recording,
     object: u32,
     e: Effect,
     left: u32,
     used: u32,
 ) -> Got
-    requires { ⌜ Ready (tables (now book) (now pairs) (now states) (now stretches) (now limits) (now rows) (now bases) (now entries) (now «entry_values»)) run (now values) (now sources) (now floats) used ⌝ }
-    requires { ⌜ Good e ⌝ }
-    ensures { λ r. ⌜ ((h : Ready (tables (now (book .entry)) (now (pairs .entry)) (now (states .entry)) (now (stretches .entry)) (now (limits .entry)) (now (rows .entry)) (now (bases .entry)) (now (entries .entry)) (now («entry_values» .entry))) run (now (values .entry)) (now (sources .entry)) (now (floats .entry)) used) (i : ℕ) (row : Row) → row .object ≡ object → Meets (h .world) (h .sources₀) (h .floats₀) (strengthOf (h .world) (valueOf (h .world) left) i row e (e .origin) (h .mem)) r (now (values .exit)) (now (sources .exit)) (now (floats .exit))) ⌝ }
+    requires holding { let t = lent book pairs states stretches limits rows bases entries «entry_values» in
+        ⌜ ReadyNow t values sources floats run used ⌝ }
+    requires good { ⌜ Good e ⌝ }
+    ensures defined { λ r.
+        let t = read book pairs states stretches limits rows bases entries «entry_values» in
+        ⌜ GivesOn t values sources floats run used object r (λ w i row. strengthOf w (valueOf w left) i row e (e .origin)) ⌝ }
 {
     let origin = e.origin;
     let resistance = e.resistance;
@@ -582,75 +659,48 @@ fn strength(
             source_category: _,
             attribute_id,
         } => {
-            let found = find(rows, stretches, source, attribute_id);
-            match found {
-                Found::At(row) => {
-                    let got = calculate_value(
-                        values,
-                        sources,
-                        floats,
-                        book,
-                        pairs,
-                        states,
-                        stretches,
-                        limits,
-                        rows,
-                        bases,
-                        entries,
-                        entry_values,
-                        run,
-                        row,
-                        left,
-                        used,
-                    );
-                    let Got::Value(v, u) = got else {
-                        return got;
-                    };
-                    resisted(
-                        values,
-                        sources,
-                        floats,
-                        book,
-                        pairs,
-                        states,
-                        stretches,
-                        limits,
-                        rows,
-                        bases,
-                        entries,
-                        entry_values,
-                        run,
-                        object,
-                        resistance,
-                        v,
-                        left,
-                        u,
-                    )
-                }
-                Found::Nothing => {
-                    let record = get_dogma_attribute(book, pairs, attribute_id);
-                    resisted(
-                        values,
-                        sources,
-                        floats,
-                        book,
-                        pairs,
-                        states,
-                        stretches,
-                        limits,
-                        rows,
-                        bases,
-                        entries,
-                        entry_values,
-                        run,
-                        object,
-                        resistance,
-                        record.default_value,
-                        left,
-                        used,
-                    )
-                }
-            }
+            let got = calculated_value(
+                values,
+                sources,
+                floats,
+                book,
+                pairs,
+                states,
+                stretches,
+                limits,
+                rows,
+                bases,
+                entries,
+                entry_values,
+                run,
+                source,
+                attribute_id,
+                left,
+                used,
+            );
+            let Got::Value(v, u) = got else {
+                return got;
+            };
+            resisted(
+                values,
+                sources,
+                floats,
+                book,
+                pairs,
+                states,
+                stretches,
+                limits,
+                rows,
+                bases,
+                entries,
+                entry_values,
+                run,
+                object,
+                resistance,
+                v,
+                left,
+                u,
+            )
         }
     }
 }
@@ -658,27 +708,31 @@ fn strength(
 // A strength times the ship's resistance, where one is named.
 fn resisted(
     values: &mut [f64],
-    sources: &mut [[u32; 10]],
-    floats: &mut [[f64; 2]],
+    sources: &mut [SourceRow],
+    floats: &mut [SourceFloats],
     book: &[u8],
-    pairs: &[[u32; 2]; 10],
-    states: &[[u32; 2]; 1024],
-    stretches: &[[u32; 2]; 1024],
-    limits: &[u32; 1024],
-    rows: &[[u32; 6]],
+    pairs: &TablePairs,
+    states: &States,
+    stretches: &Stretches,
+    limits: &Limits,
+    rows: &[AttributeRow],
     bases: &[f64],
-    entries: &[[u32; 11]],
+    entries: &[EntryRow],
     entry_values: &[f64],
-    run: Run,
+    run: Recording,
     object: u32,
     resistance: OptionalId,
     v: f64,
     left: u32,
     used: u32,
 ) -> Got
-    requires { ⌜ Ready (tables (now book) (now pairs) (now states) (now stretches) (now limits) (now rows) (now bases) (now entries) (now «entry_values»)) run (now values) (now sources) (now floats) used ⌝ }
-    requires { ⌜ T (finite v) ⌝ }
-    ensures { λ r. ⌜ ((h : Ready (tables (now (book .entry)) (now (pairs .entry)) (now (states .entry)) (now (stretches .entry)) (now (limits .entry)) (now (rows .entry)) (now (bases .entry)) (now (entries .entry)) (now («entry_values» .entry))) run (now (values .entry)) (now (sources .entry)) (now (floats .entry)) used) (i : ℕ) (row : Row) → row .object ≡ object → Meets (h .world) (h .sources₀) (h .floats₀) (defined.resisted (h .world) i row (valueOf (h .world) left) resistance (record { value = v; mem = h .mem })) r (now (values .exit)) (now (sources .exit)) (now (floats .exit))) ⌝ }
+    requires holding { let t = lent book pairs states stretches limits rows bases entries «entry_values» in
+        ⌜ ReadyNow t values sources floats run used ⌝ }
+    requires number { ⌜ T (finite v) ⌝ }
+    ensures defined { λ r.
+        let t = read book pairs states stretches limits rows bases entries «entry_values» in
+        ⌜ GivesOn t values sources floats run used object r
+        (λ w i row m. defined.resisted w i row (valueOf w left) resistance (record { value = v; mem = m })) ⌝ }
 {
     match resistance {
         OptionalId::Absent => Got::Value(v, used),

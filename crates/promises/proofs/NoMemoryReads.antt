@@ -41,7 +41,7 @@ keeps-same vs = record { long = refl; valued = λ j e. e }
 pub keeps-on : {us vs ws : List (Option Float)} → Keeps us vs → Keeps vs ws → Keeps us ws
 keeps-on g h = record { long = h .long ∙ g .long; valued = λ j e. h .valued j (g .valued j e) }
 
-keeps-set : (vs : List (Option Float)) (i : ℕ) (v : Float) → i < length vs → Keeps vs (set vs i (some v))
+pub keeps-set : (vs : List (Option Float)) (i : ℕ) (v : Float) → i < length vs → Keeps vs (set vs i (some v))
 keeps-set vs i v l =
     record {
       long = length-set vs i (some v);
@@ -114,7 +114,7 @@ module _ (w : World) where
 
   module _ (free : NoLoop w) where
     -- the memory has each row, and the busy ones lead to a
-    pub record Ready (Busy : ℕ → Type 0) (a : Key) (m : Mem) : Type 0 where
+    pub record ReadyFor (Busy : ℕ → Type 0) (a : Key) (m : Mem) : Type 0 where
       pub leading : (j : ℕ) → Busy j → Leads w (keyAt w j) a
       pub long : length (m .values) ≡ length (w .rows)
       pub right : Right Busy (m .values)
@@ -126,14 +126,14 @@ module _ (w : World) where
         got : (x : Res Float) → Goes Same (ok (getDogmaAttribute (w .book) (a .id) .«default_value»)) x → x ≡ ok (getDogmaAttribute (w .book) (a .id) .«default_value»)
         got x (goes e) = ap ok (sym e)
 
-    reads-known : (Busy : ℕ → Type 0) (a : Key) (m m′ : Mem) (v : Float) → Ready Busy a m → freshAt a ≡ ok v
+    reads-known : (Busy : ℕ → Type 0) (a : Key) (m m′ : Mem) (v : Float) → ReadyFor Busy a m → freshAt a ≡ ok v
         → ((f : Found) → findRow (a .object) (a .id) 0 (w .rows) ≡ some f → there? (getD (m .values) (f .index) none) ≡ true)
         → Goes (Reading Busy a m) (ok (record { value = v; mem = m })) (forgets (a .object) (a .id) m′)
     reads-known Busy a m m′ v r e h =
         subst (λ (x : Res Float). Goes (Reading Busy a m) (ok (record { value = v; mem = m })) (x >>= λ u. ok (record { value = u; mem = m′ }))) (sym e)
         (goes (record { value = refl; right = r .right; keeps = keeps-same (m .values); has = h }))
 
-    module _ (Busy : ℕ → Type 0) (a : Key) (f : Found) (found : findRow (a .object) (a .id) 0 (w .rows) ≡ some f) (m m′ : Mem) (r : Ready Busy a m) where
+    module _ (Busy : ℕ → Type 0) (a : Key) (f : Found) (found : findRow (a .object) (a .id) 0 (w .rows) ≡ some f) (m m′ : Mem) (r : ReadyFor Busy a m) where
       -- what holds while the row is calculated
       abbrev Inside : List (Option Float) → Type 0
       Inside vs = Right (And Busy (f .index)) vs × Keeps (m .values) vs
@@ -145,7 +145,7 @@ module _ (w : World) where
       inside-start b = (right-start Busy (m .values) (f .index) b (r .right), keeps-set (m .values) (f .index) b here)
 
       -- a need of the row: it is ready to be read
-      need-ready : (b : Key) (n : Mem) → Needs w a b → Inside (n .values) → Ready (And Busy (f .index)) b n
+      need-ready : (b : Key) (n : Mem) → Needs w a b → Inside (n .values) → ReadyFor (And Busy (f .index)) b n
       need-ready b n h v = record { leading = way; long = v .1 .long ∙ r .long; right = v .0 }
         where
           way : (j : ℕ) → And Busy (f .index) j → Leads w (keyAt w j) b
@@ -184,7 +184,7 @@ module _ (w : World) where
 
     -- ---- an attribute that is absent, has a value, or is to be calculated
 
-    reads-by : (Busy : ℕ → Type 0) (a : Key) (m m′ : Mem) (start : ℕ → Row → Mem → Res Read) → Ready Busy a m
+    reads-by : (Busy : ℕ → Type 0) (a : Key) (m m′ : Mem) (start : ℕ → Row → Mem → Res Read) → ReadyFor Busy a m
         → ((f : Found) → findRow (a .object) (a .id) 0 (w .rows) ≡ some f → Goes (Reading Busy a m) (start (f .index) (f .row) m) (forgets (a .object) (a .id) m′))
         → Goes (Reading Busy a m) (calculatedValue w start (a .object) (a .id) m) (forgets (a .object) (a .id) m′)
     unfolding calculatedValue
@@ -216,7 +216,7 @@ module _ (w : World) where
             nowhere f q = let z : _≡_ {A = ℕ} 0 1 = cc in absurd (omega arith)
         by (some f) e = valued f e (getD (m .values) (f .index) none) refl
 
-    pub reads : (d : ℕ) (Busy : ℕ → Type 0) (a : Key) (m m′ : Mem) → Ready Busy a m → Goes (Reading Busy a m) (valueOf w d (a .object) (a .id) m) (forgets (a .object) (a .id) m′)
+    pub reads : (d : ℕ) (Busy : ℕ → Type 0) (a : Key) (m m′ : Mem) → ReadyFor Busy a m → Goes (Reading Busy a m) (valueOf w d (a .object) (a .id) m) (forgets (a .object) (a .id) m′)
     unfolding valueOf
     reads zero Busy a m m′ r = reads-by Busy a m m′ (λ i row n. refused (Depth (a .object))) r (λ f e. stops)
     reads (suc d) Busy a m m′ r =

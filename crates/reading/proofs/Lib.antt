@@ -2,3 +2,14 @@ pub mod Orders
 pub mod Finds
 pub mod Decodes
 pub mod Ascends
+pub mod Laying
+pub mod Limiting
+pub mod Narrows
+pub mod Sorted
+pub mod Ranks
+pub mod Shifted
+pub mod Objects
+pub mod Walks
+pub mod Bounds
+pub mod Passing
+pub mod Owners

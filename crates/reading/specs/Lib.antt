@@ -1,1 +1,3 @@
 pub mod Held
+pub mod Stretched
+pub mod Order

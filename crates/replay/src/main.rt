@@ -2,10 +2,18 @@
 // Standard input is cases/kept.bin; cases/make_kept.py says how it is read.
 use calculate::Outcome;
 use calculate::dogma_calculate;
+use columns::AttributeRow;
+use columns::CollectedRow;
+use columns::EntryRow;
+use columns::PlainRow;
+use columns::SourceFloats;
+use columns::SourceRow;
+use columns::StateRow;
+use columns::States;
+use info::little_endian::index;
+use info::little_endian::u32_at;
 use libc::STDIN_FILENO;
 use libc::STDOUT_FILENO;
-use little_endian::index;
-use little_endian::u32_at;
 use std::num::wrapping_add_u64;
 use std::num::wrapping_add_usize;
 ghost use Prim.Native.Nat.{_<_, _≤_};
@@ -118,11 +126,11 @@ fn see_2(seen: Seen, data: &[u8], column: &[[u32; 2]], count: usize) -> Seen {
     so_far
 }
 
-fn see_row_6(seen: Seen, data: &[u8], row: [u32; 6], kept: bool) -> Seen {
+fn see_row_6(seen: Seen, data: &[u8], row: AttributeRow, kept: bool) -> Seen {
     see_row(seen, data, &row, kept)
 }
 
-fn see_6(seen: Seen, data: &[u8], column: &[[u32; 6]], count: usize) -> Seen {
+fn see_6(seen: Seen, data: &[u8], column: &[AttributeRow], count: usize) -> Seen {
     let mut so_far = seen;
     let mut i = 0;
     while i < column.len() {
@@ -133,11 +141,11 @@ fn see_6(seen: Seen, data: &[u8], column: &[[u32; 6]], count: usize) -> Seen {
     so_far
 }
 
-fn see_row_10(seen: Seen, data: &[u8], row: [u32; 10], kept: bool) -> Seen {
+fn see_row_10(seen: Seen, data: &[u8], row: SourceRow, kept: bool) -> Seen {
     see_row(seen, data, &row, kept)
 }
 
-fn see_10(seen: Seen, data: &[u8], column: &[[u32; 10]], count: usize) -> Seen {
+fn see_10(seen: Seen, data: &[u8], column: &[SourceRow], count: usize) -> Seen {
     let mut so_far = seen;
     let mut i = 0;
     while i < column.len() {
@@ -148,11 +156,11 @@ fn see_10(seen: Seen, data: &[u8], column: &[[u32; 10]], count: usize) -> Seen {
     so_far
 }
 
-fn see_row_11(seen: Seen, data: &[u8], row: [u32; 11], kept: bool) -> Seen {
+fn see_row_11(seen: Seen, data: &[u8], row: EntryRow, kept: bool) -> Seen {
     see_row(seen, data, &row, kept)
 }
 
-fn see_11(seen: Seen, data: &[u8], column: &[[u32; 11]], count: usize) -> Seen {
+fn see_11(seen: Seen, data: &[u8], column: &[EntryRow], count: usize) -> Seen {
     let mut so_far = seen;
     let mut i = 0;
     while i < column.len() {
@@ -163,11 +171,11 @@ fn see_11(seen: Seen, data: &[u8], column: &[[u32; 11]], count: usize) -> Seen {
     so_far
 }
 
-fn see_row_14(seen: Seen, data: &[u8], row: [u32; 14], kept: bool) -> Seen {
+fn see_row_14(seen: Seen, data: &[u8], row: CollectedRow, kept: bool) -> Seen {
     see_row(seen, data, &row, kept)
 }
 
-fn see_14(seen: Seen, data: &[u8], column: &[[u32; 14]], count: usize) -> Seen {
+fn see_14(seen: Seen, data: &[u8], column: &[CollectedRow], count: usize) -> Seen {
     let mut so_far = seen;
     let mut i = 0;
     while i < column.len() {
@@ -189,7 +197,7 @@ fn see_floats(seen: Seen, data: &[u8], column: &[f64], count: usize) -> Seen {
     so_far
 }
 
-fn see_pairs(seen: Seen, data: &[u8], column: &[[f64; 2]], count: usize) -> Seen {
+fn see_pairs(seen: Seen, data: &[u8], column: &[SourceFloats], count: usize) -> Seen {
     let mut so_far = seen;
     let mut i = 0;
     while i < column.len() {
@@ -223,16 +231,16 @@ fn held(n: usize, most: usize) -> usize
 
 // The lent lengths as they are in the head.
 fn see_lent(
-    collected: &[[u32; 14]],
+    collected: &[CollectedRow],
     collected_values: &[f64],
-    rows: &[[u32; 6]],
+    rows: &[AttributeRow],
     bases: &[f64],
     values: &[f64],
-    entries: &[[u32; 11]],
+    entries: &[EntryRow],
     entry_values: &[f64],
-    plain: &[[u32; 2]],
-    sources: &[[u32; 10]],
-    source_values: &[[f64; 2]],
+    plain: &[PlainRow],
+    sources: &[SourceRow],
+    source_values: &[SourceFloats],
     data: &[u8],
     seen: Seen,
 ) -> Seen {
@@ -250,16 +258,16 @@ fn see_lent(
 
 // Every element of every column.
 fn see_columns(
-    collected: &[[u32; 14]],
+    collected: &[CollectedRow],
     collected_values: &[f64],
-    rows: &[[u32; 6]],
+    rows: &[AttributeRow],
     bases: &[f64],
     values: &[f64],
-    entries: &[[u32; 11]],
+    entries: &[EntryRow],
     entry_values: &[f64],
-    plain: &[[u32; 2]],
-    sources: &[[u32; 10]],
-    source_values: &[[f64; 2]],
+    plain: &[PlainRow],
+    sources: &[SourceRow],
+    source_values: &[SourceFloats],
     data: &[u8],
     at: usize,
     seen: Seen,
@@ -290,17 +298,17 @@ fn behind(start: usize, length: usize) -> usize {
 
 // Everything that came back, and that no kept number lies outside what was read.
 fn see_all(
-    states: &[[u32; 2]],
-    collected: &[[u32; 14]],
+    states: &[StateRow],
+    collected: &[CollectedRow],
     collected_values: &[f64],
-    rows: &[[u32; 6]],
+    rows: &[AttributeRow],
     bases: &[f64],
     values: &[f64],
-    entries: &[[u32; 11]],
+    entries: &[EntryRow],
     entry_values: &[f64],
-    plain: &[[u32; 2]],
-    sources: &[[u32; 10]],
-    source_values: &[[f64; 2]],
+    plain: &[PlainRow],
+    sources: &[SourceRow],
+    source_values: &[SourceFloats],
     data: &[u8],
     at: usize,
     found: Outcome,
@@ -359,17 +367,17 @@ fn cut_off(data: &[u8]) -> Seen {
 
 // The case at a place, calculated and compared.
 fn calculated(
-    states: &mut [[u32; 2]; 1024],
-    collected: &mut [[u32; 14]],
+    states: &mut States,
+    collected: &mut [CollectedRow],
     collected_values: &mut [f64],
-    rows: &mut [[u32; 6]],
+    rows: &mut [AttributeRow],
     bases: &mut [f64],
     values: &mut [f64],
-    entries: &mut [[u32; 11]],
+    entries: &mut [EntryRow],
     entry_values: &mut [f64],
-    plain: &mut [[u32; 2]],
-    sources: &mut [[u32; 10]],
-    source_values: &mut [[f64; 2]],
+    plain: &mut [PlainRow],
+    sources: &mut [SourceRow],
+    source_values: &mut [SourceFloats],
     data: &[u8],
     at: usize,
 ) -> Seen {
@@ -416,17 +424,17 @@ fn calculated(
 
 // Lends as many rows of each column as the case says.
 fn lent(
-    states: &mut [[u32; 2]; 1024],
-    collected: &mut [[u32; 14]],
+    states: &mut States,
+    collected: &mut [CollectedRow],
     collected_values: &mut [f64],
-    rows: &mut [[u32; 6]],
+    rows: &mut [AttributeRow],
     bases: &mut [f64],
     values: &mut [f64],
-    entries: &mut [[u32; 11]],
+    entries: &mut [EntryRow],
     entry_values: &mut [f64],
-    plain: &mut [[u32; 2]],
-    sources: &mut [[u32; 10]],
-    source_values: &mut [[f64; 2]],
+    plain: &mut [PlainRow],
+    sources: &mut [SourceRow],
+    source_values: &mut [SourceFloats],
     data: &[u8],
     at: usize,
 ) -> Seen {

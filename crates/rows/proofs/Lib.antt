@@ -7,3 +7,14 @@ pub mod Hits
 pub mod BaseRows
 pub mod Sounds
 pub mod Objects
+pub mod Tallied
+pub mod Placing
+pub mod Spreads
+pub mod Starts
+pub mod Defined
+pub mod Written
+pub mod Begins
+pub mod RowOf
+pub mod Filling
+pub mod Owned
+pub mod Together

@@ -1,1 +1,6 @@
 pub mod Tallies
+pub mod Entries
+pub mod Effects
+pub mod Laying
+pub mod Parts
+pub mod At

@@ -15,6 +15,7 @@ use Rattle.rules.specs.declared.EffectCategory.{EffectCategory}
 use Rattle.rules.specs.declared.ItemState.{ItemState}
 use Rattle.rules.specs.declared.ItemState.the-variants as state
 
+-- "objects' state and max state are fixed room"
 pub record States : Type 0 where
   pub state : ℕ
   pub maxState : ℕ
@@ -24,13 +25,13 @@ codeOr0 none = 0
 codeOr0 (some s) = stateCode s
 
 -- the state that an effect of the category lets its object be in; the last four raise nothing
-abbrev pub reachOf : Item → Option EffectCategory → ℕ
-reachOf o none = 0
-reachOf o (some c) = codeOr0 (requiredState (categoryOn o c))
+abbrev pub raisedTo : Item → Option EffectCategory → ℕ
+raisedTo o none = 0
+raisedTo o (some c) = codeOr0 (requiredState (categoryOn o c))
 
-abbrev pub reachBy : Item → Option DogmaEffect → ℕ
-reachBy o none = 0
-reachBy o (some e) = reachOf o (categoryAt (e .category))
+abbrev pub raisedBy : Item → Option DogmaEffect → ℕ
+raisedBy o none = 0
+raisedBy o (some e) = raisedTo o (categoryAt (e .category))
 
 -- "Find the highest state an item can be in": every effect found counts, in use or not
 abbrev pub highest : ℕ → List ℕ → ℕ
@@ -40,12 +41,13 @@ highest m (n ∷ r) = highest (max m n) r
 -- then attribute 6 lets it be Active, a subsystem is always Online, and state is at most max state
 unfoldable pub collectedStates : Book → Fit → Item → States
 collectedStates k f o =
-    let reached = highest (o .«max_state») (map (λ t. reachBy o (getDogmaEffect k (t .«effect_id»))) (effectsOf k o)) in
+    let reached = highest (o .«max_state») (map (λ t. raisedBy o (getDogmaEffect k (t .«effect_id»))) (effectsOf k o)) in
     let able = cond (some? (λ r. eqZ (r .«attribute_id») capacitorNeed) (basesOf f o)) (max reached (stateCode state.Active)) reached in
     let online = stateCode state.Online in
     cond (isSubsystem o) (record { state = online; maxState = online }) (record { state = min (o .state) able; maxState = able })
 
 -- projected objects, passed items and their charges stay as they are, but that a structure fit's implants are Passive
+-- "A sheet holds items as loading leaves them"
 unfoldable pub statesOf : Book → Fit → Item → States
 statesOf k f o =
     let stay : States = record { state = o .state; maxState = o .«max_state» } in

@@ -14,13 +14,13 @@ use Rattle.rules.specs.declared.Refusal.{Refusal}
 use Rattle.info.specs.Sound.{SoundFit}
 use Rattle.info.proofs.Elements.{objects-length}
 use Rattle.states.specs.Raised.{rowsOf}
-use Rattle.lists.specs.Listing.{listsIn, RoomsOf, Lent, CountsOf, AllLaid, ListedAs, RowsWithin}
-use Rattle.lists.specs.declared.Counts as lists
-use Rattle.lists.specs.declared.Rooms as given
-use Rattle.lists.specs.declared.Listed.{Listed}
-use Rattle.lists.specs.declared.Listed.the-variants as listed
-use Rattle.prepared.proofs.Taken.{few-objects}
-use Rattle.walk.specs.declared.Valued.{Valued}
+use Rattle.run.specs.Listing.{listsIn, RoomsOf, RoomsLent, CountsOf, ListsHeld, ListedAs, RowsWithin}
+use Rattle.run.specs.declared.lists.ListCounts as lists
+use Rattle.run.specs.declared.lists.ListRooms as given
+use Rattle.run.specs.declared.lists.Listed.{Listed}
+use Rattle.run.specs.declared.lists.Listed.the-variants as listed
+use Rattle.values.proofs.Taken.{few-objects}
+use Rattle.values.specs.declared.walk.Valued.{Valued}
 use Rattle.values.specs.Setting as values
 use Rattle.values.specs.Setting.{SetAs}
 use Rattle.run.specs.Filled.{Columns, lentOf, RanAs, ranBy}
@@ -49,18 +49,18 @@ counted-one : (a n : ℕ) → n ≡ counted (min a a) → counted a ≡ n
 counted-one a n e = omega (arith, e)
 
 -- each room is of the shortest column that was lent
-pub record Measured (c : Columns) (s : given.Rooms) : Type 0 where
+pub record Measured (c : Columns) (s : given.ListRooms) : Type 0 where
   pub collected : s .collected ≡ counted (min (length (c .collected)) (length (c .collectedValues)))
   pub rows : s .rows ≡ counted (min (length (c .rows)) (min (length (c .bases)) (length (c .values))))
   pub entries : s .entries ≡ counted (min (length (c .entries)) (length (c .entryValues)))
   pub plain : s .plain ≡ counted (min (length (c .plain)) (length (c .plain)))
 
-module _ (c : Columns) (s : given.Rooms) (m : Measured c s) where
+module _ (c : Columns) (s : given.ListRooms) (m : Measured c s) where
   pub rooms-of : RoomsOf (roomsOf (lentOf c)) s
   rooms-of =
       record { collected = sym (m .collected); rows = sym (m .rows); entries = sym (m .entries); plain = counted-one (length (c .plain)) (s .plain) (m .plain) }
 
-  pub lent : Lent s (c .collected) (c .collectedValues) (c .rows) (c .bases) (c .entries) (c .entryValues) (c .plain)
+  pub lent : RoomsLent s (c .collected) (c .collectedValues) (c .rows) (c .bases) (c .entries) (c .entryValues) (c .plain)
   lent =
       record {
         collected = counted-left (length (c .collected)) (length (c .collectedValues)) (s .collected) (m .collected);
@@ -76,7 +76,7 @@ module _ (c : Columns) (s : given.Rooms) (m : Measured c s) where
         plain = counted-left (length (c .plain)) (length (c .plain)) (s .plain) (m .plain);
       }
 
-  pub values-lent : {l : Listed} {n : lists.Counts} → l ≡ listed.Done n → RowsWithin (s .rows) l → (n .rows ≤ length (c .values)) × (n .rows < 2 ^ 32)
+  pub values-lent : {l : Listed} {n : lists.ListCounts} → l ≡ listed.Done n → RowsWithin (s .rows) l → (n .rows ≤ length (c .values)) × (n .rows < 2 ^ 32)
   values-lent {n = n} e h =
       let few : n .rows ≤ s .rows = subst (λ (l : Listed). RowsWithin (s .rows) l) e h in (
         omega (arith, few, min-right (length (c .bases)) (length (c .values)) (s .rows) (counted-right (length (c .rows)) (min (length (c .bases)) (length (c .values))) (s .rows) (m .rows))),
@@ -96,7 +96,7 @@ pub recorded : (b : List ℕ) (p : List (List ℕ)) {n : ℕ} → n ≡ u32At b 
 unfolding fitOf
 recorded b p e = ap (λ (x : ℕ). eqb x 1) e
 
-module _ (b : List ℕ) (p : List (List ℕ)) (sf : SoundFit b p) (c₀ c : Columns) (s : given.Rooms) (m : Measured c₀ s) (r st : List (List ℕ)) (l : Listed) where
+module _ (b : List ℕ) (p : List (List ℕ)) (sf : SoundFit b p) (c₀ c : Columns) (s : given.ListRooms) (m : Measured c₀ s) (r st : List (List ℕ)) (l : Listed) where
   abbrev k : Book
   k = bookOf b p
 
@@ -110,12 +110,12 @@ module _ (b : List ℕ) (p : List (List ℕ)) (sf : SoundFit b p) (c₀ c : Colu
   pub not-listed : {x : Refusal} → l ≡ listed.Refused x → Lists l → RanAs (run k f (roomsOf (lentOf c₀))) (ran.Refused x) st c₀ c
   not-listed e h = refused-as st c₀ c (lists-refused k f (roomsOf (lentOf c₀)) (subst Lists e h (roomsOf (lentOf c₀)) (rooms-of c₀ s m)))
 
-  module _ {n : lists.Counts} (e : l ≡ listed.Done n) (h : Lists l) (S : st ≡ rowsOf k f) where
-    abbrev by-lists : (listsIn k f (roomsOf (lentOf c₀)) ≡ ok tt) × CountsOf n k f × AllLaid k f (c₀ .collected) (c .collected) (c₀ .collectedValues) (c .collectedValues) (c₀ .rows) r (c₀ .bases) (c .bases) (c₀ .entries) (c .entries) (c₀ .entryValues) (c .entryValues) (c₀ .plain) (c .plain)
+  module _ {n : lists.ListCounts} (e : l ≡ listed.Done n) (h : Lists l) (S : st ≡ rowsOf k f) where
+    abbrev by-lists : (listsIn k f (roomsOf (lentOf c₀)) ≡ ok tt) × CountsOf n k f × ListsHeld k f (c₀ .collected) (c .collected) (c₀ .collectedValues) (c .collectedValues) (c₀ .rows) r (c₀ .bases) (c .bases) (c₀ .entries) (c .entries) (c₀ .entryValues) (c .entryValues) (c₀ .plain) (c .plain)
     by-lists = subst Lists e h (roomsOf (lentOf c₀)) (rooms-of c₀ s m)
 
     -- what the values ask for
-    abbrev pub listed-as : (recording : Bool) (room : ℕ) → recording ≡ eqb (f .recording) 1 → values.Listed k f (n .rows) (record { room = room; recording = recording }) st r (c .bases) (c .entries) (c .entryValues)
+    abbrev pub listed-as : (recording : Bool) (room : ℕ) → recording ≡ eqb (f .recording) 1 → values.RowsListed k f (n .rows) (record { room = room; recording = recording }) st r (c .bases) (c .entries) (c .entryValues)
     listed-as recording room t =
         record {
           rows₀ = c₀ .rows;

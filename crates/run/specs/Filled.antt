@@ -5,16 +5,19 @@ use mathlib.Core.List.{List, [], _∷_, map}
 use mathlib.Core.Option.{Option, Option·getD}
 use lib.Ieee.{Float}
 use lib.ListN.{length, replicate}
+use denote.Ref.{now}
+use denote.Triple.Both.{Both}
+use Rattle.columns.specs.Lending.{LentColumn}
 use Rattle.laws.specs.Columns.{Col, column}
 use Rattle.laws.specs.Floats.{zeroF}
 use Rattle.laws.specs.Lists.{flat}
 use Rattle.rules.specs.Answer.{Res, ok, refused}
 use Rattle.rules.specs.Columns.{collectedNumbers, rowsNumbers, entryNumbers, originValue, plainNumbers, sourceNumbers, sourceFloats}
 use Rattle.rules.specs.Outcome.{Lent, Done}
-use Rattle.clear.specs.declared.Counts.{Counts}
-use Rattle.lists.specs.declared.Counts as lists
-use Rattle.walk.specs.declared.Valued.{Valued}
-use Rattle.walk.specs.declared.Valued.the-variants as valued
+use Rattle.clear.specs.declared.KeptCounts.{KeptCounts}
+use Rattle.run.specs.declared.lists.ListCounts as lists
+use Rattle.values.specs.declared.walk.Valued.{Valued}
+use Rattle.values.specs.declared.walk.Valued.the-variants as valued
 use Rattle.run.specs.declared.Ran.{Ran}
 use Rattle.run.specs.declared.Ran.the-variants as ran
 
@@ -46,6 +49,15 @@ columns c v r b x e w p s g =
       sourceFloats = g;
     }
 
+-- as they were lent, and as they come back
+abbrev pub lentColumns : LentColumn (List ℕ) → LentColumn Float → LentColumn (List ℕ) → LentColumn Float → LentColumn Float → LentColumn (List ℕ) → LentColumn Float → LentColumn (List ℕ) → LentColumn (List ℕ) → LentColumn (List Float) → Both Columns Columns
+lentColumns c v r b x e w p s g =
+    record {
+      entry = columns (now (c .entry)) (now (v .entry)) (now (r .entry)) (now (b .entry)) (now (x .entry)) (now (e .entry)) (now (w .entry)) (now (p .entry)) (now (s .entry)) (now (g .entry));
+      exit = columns (now (c .exit)) (now (v .exit)) (now (r .exit)) (now (b .exit)) (now (x .exit)) (now (e .exit)) (now (w .exit)) (now (p .exit)) (now (s .exit)) (now (g .exit));
+    }
+
+-- the rooms that are lent
 abbrev pub lentOf : Columns → Lent
 lentOf c =
     record {
@@ -62,7 +74,7 @@ lentOf c =
     }
 
 -- the columns c, which were c₀, and the states hold what is done, counted
-pub record Filled (d : Done) (n : Counts) (st : List (List ℕ)) (c₀ c : Columns) : Type 0 where
+pub record Filled (d : Done) (n : KeptCounts) (st : List (List ℕ)) (c₀ c : Columns) : Type 0 where
   pub objects : n .objects ≡ length (d .states)
   pub few : length (d .states) ≤ 1024
   pub n-collected : n .collected ≡ length (d .collected)
@@ -91,7 +103,7 @@ RanAs (refused x) (ran.Done n) st c₀ c = ⊥
 RanAs (refused x) (ran.Refused y) st c₀ c = y ≡ x
 
 -- the answer once the lists are counted, by what the values gave
-abbrev pub ranBy : Valued → lists.Counts → ℕ → Ran
+abbrev pub ranBy : Valued → lists.ListCounts → ℕ → Ran
 ranBy (valued.At used) n objects =
     ran.Done (record { objects = objects; collected = n .collected; rows = n .rows; entries = n .entries; plain = n .plain; sources = used })
 ranBy (valued.Refused y) n objects = ran.Refused y

@@ -1,31 +1,41 @@
 // A run over a sound sheet: states, lists 1 to 4, then values and source rows, into the lent columns (calculate.rs).
-use clear::Counts;
+use clear::KeptCounts;
+use columns::AttributeRow;
+use columns::CollectedRow;
+use columns::EntryRow;
+use columns::PlainRow;
+use columns::SourceFloats;
+use columns::SourceRow;
+use columns::States;
+use columns::TABLE_OBJECTS;
+use columns::TablePairs;
 use info::header::count_of;
 use info::header::recording_of;
+use lists::ListCounts;
+use lists::ListRooms;
 use lists::Listed;
-use lists::Rooms;
 use lists::set_lists;
 use rules::Refusal;
-use sources::Run;
+use sources::Recording;
 use states::correct_states;
 use values::set_values;
-use walk::Valued;
+use values::walk::Valued;
 ghost use mathlib.Core.Path.{_≡_};
 ghost use Prim.Native.Nat.{min};
 ghost use Rattle.rules.specs.Outcome as outcome;
 ghost use Rattle.rules.specs.Sheet.{bookOf, fitOf};
 ghost use Rattle.info.specs.Sound.{SoundBook, SoundFit};
-ghost use Rattle.run.specs.Filled.{columns, lentOf, RanAs, ranBy};
+ghost use Rattle.run.specs.Filled.{lentColumns, lentOf, RanAs, ranBy};
 
 // The counts of a run that is done; or why it is refused.
 pub enum Ran {
-    Done(Counts),
+    Done(KeptCounts),
     Refused(Refusal),
 }
 
 // A list's room is its shortest column, at most what 32 bits count.
 fn room_of(a: usize, b: usize) -> u32
-    ensures { λ r. ⌜ r ≡ outcome.counted (min a b) ⌝ }
+    ensures defined { λ r. ⌜ r ≡ outcome.counted (min a b) ⌝ }
 {
     let least = least_of(a, b);
     if least < 4294967295 {
@@ -34,19 +44,20 @@ fn room_of(a: usize, b: usize) -> u32
     4294967295
 }
 
+// The lesser of two.
 fn least_of(a: usize, b: usize) -> usize
-    ensures { λ r. ⌜ r ≡ min a b ⌝ }
+    ensures defined { λ r. ⌜ r ≡ min a b ⌝ }
 {
     if a < b { a } else { b }
 }
 
 // The answer once the lists are counted.
-fn ran_of(valued: Valued, n: lists::Counts, objects: usize) -> Ran
-    ensures { λ r. ⌜ r ≡ ranBy valued n objects ⌝ }
+fn ran_of(valued: Valued, n: ListCounts, objects: usize) -> Ran
+    ensures defined { λ r. ⌜ r ≡ ranBy valued n objects ⌝ }
 {
     match valued {
         Valued::At(used) => {
-            Ran::Done(Counts {
+            Ran::Done(KeptCounts {
                 objects: objects,
                 collected: n.collected,
                 rows: n.rows,
@@ -61,32 +72,36 @@ fn ran_of(valued: Valued, n: lists::Counts, objects: usize) -> Ran
 
 // A sound sheet: states, lists 1 to 4, then values and source rows.
 pub fn fill(
-    states: &mut [[u32; 2]; 1024],
-    collected: &mut [[u32; 14]],
+    states: &mut States,
+    collected: &mut [CollectedRow],
     collected_values: &mut [f64],
-    rows: &mut [[u32; 6]],
+    rows: &mut [AttributeRow],
     bases: &mut [f64],
     values: &mut [f64],
-    entries: &mut [[u32; 11]],
+    entries: &mut [EntryRow],
     entry_values: &mut [f64],
-    plain: &mut [[u32; 2]],
-    sources: &mut [[u32; 10]],
-    source_values: &mut [[f64; 2]],
+    plain: &mut [PlainRow],
+    sources: &mut [SourceRow],
+    source_values: &mut [SourceFloats],
     sheet: &[u8],
-    pairs: &[[u32; 2]; 10],
+    pairs: &TablePairs,
 ) -> Ran
-    requires { ⌜ SoundBook (now sheet) (now pairs) ⌝ }
-    requires { ⌜ SoundFit (now sheet) (now pairs) ⌝ }
-    ensures { λ r. ⌜ RanAs (outcome.run (bookOf (now (sheet .entry)) (now (pairs .entry))) (fitOf (now (sheet .entry)) (now (pairs .entry))) (outcome.roomsOf (lentOf (columns (now (collected .entry)) (now («collected_values» .entry)) (now (rows .entry)) (now (bases .entry)) (now (values .entry)) (now (entries .entry)) (now («entry_values» .entry)) (now (plain .entry)) (now (sources .entry)) (now («source_values» .entry)))))) r (now (states .exit)) (columns (now (collected .entry)) (now («collected_values» .entry)) (now (rows .entry)) (now (bases .entry)) (now (values .entry)) (now (entries .entry)) (now («entry_values» .entry)) (now (plain .entry)) (now (sources .entry)) (now («source_values» .entry))) (columns (now (collected .exit)) (now («collected_values» .exit)) (now (rows .exit)) (now (bases .exit)) (now (values .exit)) (now (entries .exit)) (now («entry_values» .exit)) (now (plain .exit)) (now (sources .exit)) (now («source_values» .exit))) ⌝ }
+    requires sound_book { ⌜ SoundBook (now sheet) (now pairs) ⌝ }
+    requires sound_fit { ⌜ SoundFit (now sheet) (now pairs) ⌝ }
+    ensures defined { λ r.
+        let lists = lentColumns collected «collected_values» rows bases values entries «entry_values» plain sources «source_values» in
+        let k = bookOf (now (sheet .entry)) (now (pairs .entry)) in
+        let f = fitOf (now (sheet .entry)) (now (pairs .entry)) in
+        ⌜ RanAs (outcome.run k f (outcome.roomsOf (lentOf (lists .entry)))) r (now (states .exit)) (lists .entry) (lists .exit) ⌝ }
 {
     correct_states(states, sheet, sheet, pairs);
-    let rooms = Rooms {
+    let rooms = ListRooms {
         collected: room_of(collected.len(), collected_values.len()) as usize,
         rows: room_of(rows.len(), least_of(bases.len(), values.len())) as usize,
         entries: room_of(entries.len(), entry_values.len()) as usize,
         plain: room_of(plain.len(), plain.len()) as usize,
     };
-    let run = Run {
+    let run = Recording {
         room: room_of(sources.len(), source_values.len()),
         recording: recording_of(sheet) == 1,
     };
@@ -120,8 +135,11 @@ pub fn fill(
                 n.rows,
                 run,
             );
-            ran_of(valued, n, count_of(pairs, 6))
+            ran_of(valued, n, count_of(pairs, TABLE_OBJECTS))
         }
         Listed::Refused(x) => Ran::Refused(x),
     }
 }
+
+pub mod lists;
+pub mod outcome;

@@ -16,7 +16,7 @@ use Rattle.info.specs.Sound.{Nth, Held, HeldBook, HeldFit}
 use Rattle.laws.proofs.Bools.{and-left, and-right, and-assoc}
 use Rattle.laws.proofs.Every.{every-at}
 use Rattle.laws.proofs.From.{from-at}
-use Rattle.book_tables.proofs.Scans.{scan, Scan, scan-all, scan-next, scan-failed}
+use Rattle.shape.proofs.Scans.{scan, Scan, scan-all, scan-next, scan-failed}
 
 nth : {t : ℕ} → t < 10 → Nth (from 0 10) t t
 nth {t} h d = sym (from-at 0 10 t d h ∙ zero-add t)

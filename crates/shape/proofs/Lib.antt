@@ -1,2 +1,5 @@
+pub mod Scans
+pub mod BookScans
+pub mod FitScans
 pub mod Headers
 pub mod Shapes

@@ -3,6 +3,7 @@ use book_tables::attributes_good;
 use book_tables::buff_collections_good;
 use book_tables::effects_good;
 use book_tables::type_effects_good;
+use columns::TablePairs;
 use fit_tables::asks_good;
 use fit_tables::bases_good;
 use fit_tables::buffs_good;
@@ -19,9 +20,9 @@ ghost use lib.Dec.{eqb};
 ghost use lib.ListN.{length};
 ghost use Rattle.laws.specs.Lists.{from, every?};
 ghost use Rattle.rules.specs.Bytes.{widthOf, limitOf};
-ghost use Rattle.rules.specs.Sheet.{bookOf, fitOf};
 ghost use Rattle.rules.specs.Shape.{endOf, headerGood, bookBad, fitBad, badShape};
 ghost use Rattle.rules.specs.Shape as rule;
+ghost use Rattle.info.specs.At.{bookAt, fitAt};
 ghost use Rattle.info.specs.Sound.{HeldBook, HeldFit};
 ghost use Rattle.shape.specs.Shaped.{shapedOf};
 
@@ -51,7 +52,7 @@ fn limit_of(t: usize) -> usize
 }
 
 // Whether tables follow in order without gaps, each with at most its most records, up to the end of n bytes.
-fn placed(pairs: &[[u32; 2]; 10], n: usize) -> bool
+fn placed(pairs: &TablePairs, n: usize) -> bool
     ensures { λ r. ⌜ r ≡ every? (rule.placed (now (pairs .entry))) (from 0 10) && eqb (endOf (now (pairs .entry)) 10) n ⌝ }
 {
     let mut end = 100;
@@ -72,9 +73,10 @@ fn placed(pairs: &[[u32; 2]; 10], n: usize) -> bool
     end == n
 }
 
-pub fn header_good(b: &[u8], pairs: &[[u32; 2]; 10]) -> bool
-    requires { ⌜ 100 ≤ length (now b) ⌝ }
-    ensures { λ r. ⌜ r ≡ headerGood (now (b .entry)) (now (pairs .entry)) ⌝ }
+// Whether the header is good: tables in order up to the end, depth and recording in their ranges.
+pub fn header_good(b: &[u8], pairs: &TablePairs) -> bool
+    requires a_header { ⌜ 100 ≤ length (now b) ⌝ }
+    ensures defined { λ r. ⌜ r ≡ headerGood (now (b .entry)) (now (pairs .entry)) ⌝ }
 {
     let tables = placed(pairs, b.len());
     let depth = depth_of(b);
@@ -83,9 +85,9 @@ pub fn header_good(b: &[u8], pairs: &[[u32; 2]; 10]) -> bool
 }
 
 // The first bad table of the book.
-pub fn book_shape(book: &[u8], pairs: &[[u32; 2]; 10]) -> Shaped
-    requires { ⌜ HeldBook (now book) (now pairs) ⌝ }
-    ensures { λ r. ⌜ r ≡ shapedOf (bookBad (bookOf (now (book .entry)) (now (pairs .entry)))) ⌝ }
+pub fn book_shape(book: &[u8], pairs: &TablePairs) -> Shaped
+    requires held_book { ⌜ HeldBook (now book) (now pairs) ⌝ }
+    ensures defined { λ r. ⌜ r ≡ shapedOf (bookBad (bookAt book pairs)) ⌝ }
 {
     if !attributes_good(book, pairs) {
         return Shaped::Bad(1);
@@ -103,9 +105,9 @@ pub fn book_shape(book: &[u8], pairs: &[[u32; 2]; 10]) -> Shaped
 }
 
 // The first bad table of the fit.
-pub fn fit_shape(fit: &[u8], pairs: &[[u32; 2]; 10]) -> Shaped
-    requires { ⌜ HeldFit (now fit) (now pairs) ⌝ }
-    ensures { λ r. ⌜ r ≡ shapedOf (fitBad (fitOf (now (fit .entry)) (now (pairs .entry)))) ⌝ }
+pub fn fit_shape(fit: &[u8], pairs: &TablePairs) -> Shaped
+    requires held_fit { ⌜ HeldFit (now fit) (now pairs) ⌝ }
+    ensures defined { λ r. ⌜ r ≡ shapedOf (fitBad (fitAt fit pairs)) ⌝ }
 {
     if !objects_good(fit, pairs) {
         return Shaped::Bad(6);
@@ -124,7 +126,7 @@ pub fn fit_shape(fit: &[u8], pairs: &[[u32; 2]; 10]) -> Shaped
 
 // The first bad table of a sheet, 0 for the header.
 pub fn shape(b: &[u8]) -> Shaped
-    ensures { λ r. ⌜ r ≡ shapedOf (badShape (now (b .entry))) ⌝ }
+    ensures defined { λ r. ⌜ r ≡ shapedOf (badShape (now (b .entry))) ⌝ }
 {
     if b.len() < 100 {
         return Shaped::Bad(0);
@@ -139,3 +141,6 @@ pub fn shape(b: &[u8]) -> Shaped
         Shaped::Sound => fit_shape(b, &pairs),
     }
 }
+
+pub mod book_tables;
+pub mod fit_tables;

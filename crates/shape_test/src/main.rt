@@ -1,9 +1,9 @@
 // Judges the shape of kept sheets, sound and damaged, and counts the verdicts that are as expected.
 // Standard input has the steps that make them, from cases/make_damaged.py, which says how.
+use info::little_endian::index;
+use info::little_endian::u32_at;
 use libc::STDIN_FILENO;
 use libc::STDOUT_FILENO;
-use little_endian::index;
-use little_endian::u32_at;
 use shape::Shaped;
 use shape::shape;
 use std::num::wrapping_add_u32;

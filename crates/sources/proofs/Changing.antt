@@ -19,11 +19,11 @@ use Rattle.rules.specs.Number.{weight}
 use Rattle.rules.specs.Operate.{Copy, sorted}
 use Rattle.rules.specs.Value.{World, Mem, ownSources, noSource, withPenalty, withOwn, marked}
 use Rattle.rules.specs.declared.Source.{Source}
-use Rattle.buckets.specs.declared.Bucket.{Bucket}
-use Rattle.buckets.specs.Held.{pairs, held, copy, Gathered}
-use Rattle.buckets.proofs.Inserts.{pairs-length, held-kept}
-use Rattle.buckets.proofs.Weighings.{pairs-at}
-use Rattle.sources.specs.declared.Run.{Run}
+use Rattle.operate.specs.declared.buckets.Bucket.{Bucket}
+use Rattle.operate.specs.Held.{pairs, held, copy, Gathered}
+use Rattle.operate.proofs.Inserts.{pairs-length, held-kept}
+use Rattle.operate.proofs.Weighings.{pairs-at}
+use Rattle.sources.specs.declared.Recording.{Recording}
 use Rattle.sources.specs.Shown.{filled, shown, placed, firstOf, first32}
 use Rattle.sources.specs.Keeping.{RunOf, Begins, Keeping}
 use Rattle.sources.specs.Marks.{Waits, Away, Fresh, fresh, penaltyAt}
@@ -72,7 +72,7 @@ same-numbers r x e =
     ap (λ (t : Bool). fromNumbers (r .«from») ++ optionalNumbers (r .«effect_id») ++ optionalNumbers (r .«source_attribute_id»)
     ++ (operatorCode (r .operator) ∷ r .quantity ∷ yes1 t ∷ yes1 (r .applied) ∷ [])) (sym e)
 
-module _ (run : Run) (w : World) (counts : List ℕ) (s₀ : List (List ℕ)) (f₀ : List (List Float)) (i : ℕ) (m : Mem) {s : List (List ℕ)} {f : List (List Float)} {own used : ℕ}
+module _ (run : Recording) (w : World) (counts : List ℕ) (s₀ : List (List ℕ)) (f₀ : List (List Float)) (i : ℕ) (m : Mem) {s : List (List ℕ)} {f : List (List Float)} {own used : ℕ}
     (k : Keeping counts (w .room) s₀ f₀ i m s f own used) {first : ℕ} (t : RunOf w run) (b : Begins counts i first) (small : w .room ≤ 4294967295) (wide : w .room ≤ length f)
     (on : w .recording ≡ true) (j : ℕ) (there : j < length (ownSources i m)) (is : getD (ownSources i m) j noSource .penalised ≡ true) (x : Float) where
   abbrev old : Source
@@ -151,7 +151,7 @@ module _ (w : World) (counts : List ℕ) (s₀ : List (List ℕ)) (f₀ : List (
     unfolding marked
     done h = rw (c .same, drop-of-length-le l h, own-same i (c .mem)) (c .keeping)
 
-    module _ (run : Run) {first : ℕ} (t : RunOf w run) (b : Begins counts i first) (small : w .room ≤ 4294967295) (wide : w .room ≤ length f) (d x : Copy) (h : p < length l) (at : getD l p d ≡ x) where
+    module _ (run : Recording) {first : ℕ} (t : RunOf w run) (b : Begins counts i first) (small : w .room ≤ 4294967295) (wide : w .room ≤ length f) (d x : Copy) (h : p < length l) (at : getD l p d ≡ x) where
       here : drop p l ≡ x ∷ drop (suc p) l
       here = drop-cons l p d h ∙ ap (λ (y : Copy). y ∷ drop (suc p) l) at
 
@@ -191,7 +191,7 @@ module _ (w : World) (counts : List ℕ) (s₀ : List (List ℕ)) (f₀ : List (
       ])
 
 -- the copies of a bucket with these sources, of every world that the columns hold, as a loop keeps it
-abbrev pub AllMarked : Run → ℕ → List ℕ → ℕ → List (List Float) → ℕ → List (List Float) → Type 0
+abbrev pub AllMarked : Recording → ℕ → List ℕ → ℕ → List (List Float) → ℕ → List (List Float) → Type 0
 AllMarked run first sources n f₁ p f =
     (w : World) (counts : List ℕ) (s₀ : List (List ℕ)) (f₀ : List (List Float)) (i : ℕ) (m : Mem) (own used : ℕ) (s : List (List ℕ)) (values : List Float) → RunOf w run → Begins counts i first
     → Keeping counts (w .room) s₀ f₀ i m s f₁ own used → length values ≡ 8 → (w .recording ≡ true → Fresh (ownSources i m) (take n (pairs values sources))) → (w .recording ≡ false → ownSources i m ≡ [])
@@ -205,7 +205,7 @@ module _ (a : List Float) (b : List ℕ) (la : length a ≡ 8) (lb : length b �
   held-at {p} h = getD-take n (pairs a b) p (copy nan 0) h ∙ pairs-at p a b (la ∙ sym lb)
 
 -- one turn
-pub turn : {run : Run} {first : ℕ} (b : List ℕ) {n p : ℕ} {f₁ f f′ : List (List Float)} {v : Float} → AllMarked run first b n f₁ p f → length b ≡ 8 → n ≤ 8 → p < n → run .room ≤ 4294967295 → run .room ≤ length f
+pub turn : {run : Recording} {first : ℕ} (b : List ℕ) {n p : ℕ} {f₁ f f′ : List (List Float)} {v : Float} → AllMarked run first b n f₁ p f → length b ≡ 8 → n ≤ 8 → p < n → run .room ≤ 4294967295 → run .room ≤ length f
     → f′ ≡ penaltyAt run (first + getD b p 0) v f → v ≡ weight p → AllMarked run first b n f₁ (p + 1) f′
 turn {run} b {n} {p} c lb few h small wide e g w counts s₀ f₀ i m own used s a t k l la u off =
     again w counts s₀ f₀ i m own used s (take n (pairs a b)) (c w counts s₀ f₀ i m own used s a t k l la u off) run t k (omega (arith, t .room, small)) (omega (arith, t .room, wide)) (copy nan 0)
@@ -229,7 +229,7 @@ module _ (b : Bucket) (la : length (b .values) ≡ 8) (lb : length (b .sources) 
       none e = rw e (marked-none 0 (sorted xs) ∙ sym (marked-none 0 (take 8 (sorted xs))))
 
   -- all of them, said of what was gathered
-  pub whole : {run : Run} {first p : ℕ} {f₁ f : List (List Float)} → AllMarked run first (b .sources) n f₁ p f → n ≤ p
+  pub whole : {run : Recording} {first p : ℕ} {f₁ f : List (List Float)} → AllMarked run first (b .sources) n f₁ p f → n ≤ p
       → (w : World) (counts : List ℕ) (s₀ : List (List ℕ)) (f₀ : List (List Float)) (i : ℕ) (m : Mem) (own used : ℕ) (s : List (List ℕ)) → RunOf w run → Begins counts i first
       → Keeping counts (w .room) s₀ f₀ i m s f₁ own used → (w .recording ≡ true → Fresh (ownSources i m) xs) → (w .recording ≡ false → ownSources i m ≡ [])
       → Keeping counts (w .room) s₀ f₀ i (withOwn i (marked 0 (sorted xs) (ownSources i m)) m) s f own used

@@ -14,7 +14,7 @@ use Rattle.rules.specs.declared.Source.{Source}
 use Rattle.rules.specs.declared.Refusal.{Refusal}
 use Rattle.sources.specs.declared.Noted.{Noted}
 use Rattle.sources.specs.declared.Noted.the-variants.{At, Refused}
-use Rattle.sources.specs.declared.Run.{Run}
+use Rattle.sources.specs.declared.Recording.{Recording}
 use Rattle.sources.specs.Keeping.{RunOf, Begins, Keeping, NotedAs, Advanced, moreOf, notes, penalisedNotes}
 
 -- an answer says how the definition went
@@ -48,7 +48,7 @@ module _ (w : World) (counts : List ℕ) (s₀ : List (List ℕ)) (f₀ : List (
       whole = omega arith
 
   module _ {n : ℕ} {s : List (List ℕ)} {f : List (List Float)} {own used : ℕ} (c : Copied n s f own used) where
-    pub free : n < copies → w .recording ≡ true → length (ownSources i (c .mem)) < getD counts i 0
+    pub free : n < copies → w .recording ≡ true → length (ownSources i (c .mem)) + 1 ≤ getD counts i 0
     free h e = omega (arith, h, c .fit e)
 
     next : n < copies → notes w i row copies r m ≡ (note w i row r (c .mem) >>= λ m′. notes w i row (copies - (n + 1)) r m′)
@@ -86,7 +86,7 @@ module _ (w : World) (counts : List ℕ) (s₀ : List (List ℕ)) (f₀ : List (
         none = rw zero-left refl
 
 -- the same of every world that the columns hold, as a loop keeps it
-abbrev pub AllCopied : Run → ℕ → Source → ℕ → List (List ℕ) → List (List Float) → ℕ → ℕ → ℕ → List (List ℕ) → List (List Float) → ℕ → ℕ → Type 0
+abbrev pub AllCopied : Recording → ℕ → Source → ℕ → List (List ℕ) → List (List Float) → ℕ → ℕ → ℕ → List (List ℕ) → List (List Float) → ℕ → ℕ → Type 0
 AllCopied run first r copies s₁ f₁ own₁ used₁ n s f own used =
     (w : World) (counts : List ℕ) (s₀ : List (List ℕ)) (f₀ : List (List Float)) (i : ℕ) (row : Row) (m : Mem) → RunOf w run → Begins counts i first
     → Keeping counts (w .room) s₀ f₀ i m s₁ f₁ own₁ used₁ → (w .recording ≡ true → length (ownSources i m) + copies ≤ getD counts i 0) → Copied w counts s₀ f₀ i row r copies m n s f own used

@@ -1,4 +1,3 @@
-pub mod Results
 pub mod Showing
 pub mod Noting
 pub mod Copying
@@ -6,3 +5,7 @@ pub mod Written
 pub mod Marking
 pub mod Changing
 pub mod Planning
+pub mod Counting
+pub mod Numbers
+pub mod Setting
+pub mod Agreeing

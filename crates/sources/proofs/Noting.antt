@@ -18,7 +18,7 @@ use Rattle.rules.specs.Columns.{sourceNumbers, sourceFloats}
 use Rattle.rules.specs.Value.{World, Mem, ownSources, note}
 use Rattle.rules.specs.declared.Source.{Source}
 use Rattle.rules.specs.declared.Refusal.the-variants.{Room}
-use Rattle.sources.specs.declared.Run.{Run}
+use Rattle.sources.specs.declared.Recording.{Recording}
 use Rattle.sources.specs.declared.Noted.the-variants.{At, Refused}
 use Rattle.sources.specs.Shown.{filled, shown, placed, firstOf, first32}
 use Rattle.sources.specs.Keeping.{RunOf, Begins, Keeping, NotedAs}

@@ -2,3 +2,5 @@ pub mod Shown
 pub mod Keeping
 pub mod Marks
 pub mod Planned
+pub mod Ranged
+pub mod Rows

@@ -2,7 +2,7 @@
 use rules::Refusal;
 
 // What a run goes by: the room of list 5, and whether source rows are recorded.
-pub struct Run {
+pub struct Recording {
     pub room: u32,
     pub recording: bool,
 }
@@ -15,4 +15,5 @@ pub enum Noted {
 
 pub mod marks;
 pub mod notes;
+pub mod plan;
 pub mod rows;

@@ -9,7 +9,7 @@ use Rattle.laws.specs.Lists.{put, keep, every?, some?, span}
 use Rattle.laws.proofs.Keep.{keep-all}
 use Rattle.laws.proofs.Maps.{map-append}
 use Rattle.laws.proofs.Spans.{span-left, span-end}
-use Rattle.rules.specs.States.{highest, reachBy, reachOf}
+use Rattle.rules.specs.States.{highest, raisedBy, raisedTo}
 use Rattle.rules.specs.Bytes.{countOf}
 use Rattle.rules.specs.Sheet.{Book, bookOf}
 use Rattle.rules.specs.Info.{getDogmaEffect, getDogmaEffects}
@@ -17,16 +17,16 @@ use Rattle.rules.specs.Item.{mutated, effectsOf}
 use Rattle.rules.specs.declared.Item.{Item}
 use Rattle.rules.specs.declared.TypeDogmaEffect.{TypeDogmaEffect}
 use Rattle.rules.specs.declared.DogmaEffect.{DogmaEffect}
-use Rattle.look_ups.specs.LookUps.{effectFound, Stretch}
+use Rattle.info.specs.LookUps.{effectFound, Stretch}
 use lib.IntN.{ℤ}
-use Rattle.look_ups.specs.declared.FoundEffect.{FoundEffect}
-use Rattle.look_ups.specs.declared.FoundEffect.the-variants as effect
+use Rattle.info.specs.declared.look_ups.FoundEffect.{FoundEffect}
+use Rattle.info.specs.declared.look_ups.FoundEffect.the-variants as effect
 use mir.Syntax.{w32}
 use mir.Val.{SFits, toZ, ofZ}
 use mir.ValLaws.{toZ-ofZ}
 use Rattle.rules.specs.Codes.{categoryAt}
 use Rattle.info.proofs.Elements.{type-effects-length}
-use Rattle.states.specs.Raised.{among, reachOn, raisedBy, raisedOver, reachedOf}
+use Rattle.states.specs.Raised.{among, reachOn, raisedIn, raisedOver, reachedOf}
 
 -- count places from first on, as those up to the end
 span-ended : {A : Type 0} (first count : ℕ) (l : List A) → span first count l ≡ span first (first + count - first) l
@@ -93,7 +93,7 @@ module _ (k : Book) (o : Item) where
   own-raised : (m : ℕ) (l : List TypeDogmaEffect) → raisedOver k o [] m l ≡ highest m (map (reachOn k o) l)
   own-raised m l = ap (λ (q : List TypeDogmaEffect). highest m (map (reachOn k o) q)) (keep-all (λ t. true) l (every-true l))
 
-  module _ (first count : ℕ) {top : ℕ} (own : getDogmaEffects k (o .«type_id») ≡ span first count (k .typeEffects)) (t : top ≡ raisedBy k o first count 0 0 (o .«max_state»)) where
+  module _ (first count : ℕ) {top : ℕ} (own : getDogmaEffects k (o .«type_id») ≡ span first count (k .typeEffects)) (t : top ≡ raisedIn k o first count 0 0 (o .«max_state»)) where
     own-top : top ≡ highest (o .«max_state») (map (reachOn k o) (getDogmaEffects k (o .«type_id»)))
     own-top = t ∙ own-raised (o .«max_state») (span first count (k .typeEffects)) ∙ rw own refl
 
@@ -101,7 +101,7 @@ module _ (k : Book) (o : Item) where
     unfolding reachedOf effectsOf
     reached-own h = rw h own-top
 
-    pub reached-base : (start many : ℕ) {r : ℕ} → mutated o ≡ true → getDogmaEffects k (o .«mutation_base») ≡ span start many (k .typeEffects) → r ≡ raisedBy k o start many first count top → r ≡ reachedOf k o
+    pub reached-base : (start many : ℕ) {r : ℕ} → mutated o ≡ true → getDogmaEffects k (o .«mutation_base») ≡ span start many (k .typeEffects) → r ≡ raisedIn k o start many first count top → r ≡ reachedOf k o
     unfolding reachedOf effectsOf
     reached-base start many h base e = rw h (e ∙ rw (← own, ← base, own-top, map-append, highest-append) refl)
 
@@ -115,8 +115,8 @@ module _ (k : Book) (o : Item) (t : TypeDogmaEffect) (f : FoundEffect) (s : SFit
   looked-up : effectFound f ≡ getDogmaEffect k (t .«effect_id»)
   looked-up = e ∙ ap (getDogmaEffect k) (toZ-ofZ w32 (t .«effect_id») s)
 
-  pub reach-found : (x : DogmaEffect) {r : ℕ} → f ≡ effect.At x → r ≡ reachOf o (categoryAt (x .category)) → r ≡ reachOn k o t
-  reach-found x a h = h ∙ ap (reachBy o) (ap effectFound (sym a) ∙ looked-up)
+  pub reach-found : (x : DogmaEffect) {r : ℕ} → f ≡ effect.At x → r ≡ raisedTo o (categoryAt (x .category)) → r ≡ reachOn k o t
+  reach-found x a h = h ∙ ap (raisedBy o) (ap effectFound (sym a) ∙ looked-up)
 
   pub reach-missing : f ≡ effect.Nothing → 0 ≡ reachOn k o t
-  reach-missing a = ap (reachBy o) (ap effectFound (sym a) ∙ looked-up)
+  reach-missing a = ap (raisedBy o) (ap effectFound (sym a) ∙ looked-up)

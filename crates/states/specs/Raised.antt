@@ -10,7 +10,7 @@ use Rattle.rules.specs.Codes.{stateCode}
 use Rattle.rules.specs.Sheet.{Book, Fit, basesOf}
 use Rattle.rules.specs.Info.{getDogmaEffect}
 use Rattle.rules.specs.Item.{effectsOf}
-use Rattle.rules.specs.States.{States, reachBy, highest, statesOf}
+use Rattle.rules.specs.States.{States, raisedBy, highest, statesOf}
 use Rattle.rules.specs.declared.Item.{Item}
 use Rattle.rules.specs.declared.TypeDogmaEffect.{TypeDogmaEffect}
 use Rattle.rules.specs.declared.ItemState.the-variants.{Active}
@@ -30,15 +30,15 @@ abbrev pub among : List TypeDogmaEffect → TypeDogmaEffect → Bool
 among own t = some? (λ e. eqZ (e .«effect_id») (t .«effect_id»)) own
 
 abbrev pub reachOn : Book → Item → TypeDogmaEffect → ℕ
-reachOn k o t = reachBy o (getDogmaEffect k (t .«effect_id»))
+reachOn k o t = raisedBy o (getDogmaEffect k (t .«effect_id»))
 
 -- the max state, by the type effects that own lacks
 abbrev pub raisedOver : Book → Item → List TypeDogmaEffect → ℕ → List TypeDogmaEffect → ℕ
 raisedOver k o own m l = highest m (map (reachOn k o) (keep (λ t. not (among own t)) l))
 
 -- the same by places in the table
-abbrev pub raisedBy : Book → Item → ℕ → ℕ → ℕ → ℕ → ℕ → ℕ
-raisedBy k o first count own owned m = raisedOver k o (span own owned (k .typeEffects)) m (span first count (k .typeEffects))
+abbrev pub raisedIn : Book → Item → ℕ → ℕ → ℕ → ℕ → ℕ → ℕ
+raisedIn k o first count own owned m = raisedOver k o (span own owned (k .typeEffects)) m (span first count (k .typeEffects))
 
 -- by all its effects
 unfoldable pub reachedOf : Book → Item → ℕ

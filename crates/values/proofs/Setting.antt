@@ -21,31 +21,31 @@ use Rattle.rules.specs.Sheet.{Book, Fit, bookOf, fitOf}
 use Rattle.rules.specs.Value.{World, Mem}
 use Rattle.info.specs.Sound.{SoundBook, SoundFit}
 use Rattle.rules.proofs.Verdicts.{objects-good}
-use Rattle.standing.proofs.Sheets.{numbered}
+use Rattle.info.proofs.Sheets.{numbered}
 use Rattle.reading.specs.Held.{RowsHeld}
-use Rattle.stretches.specs.Stretched.{Stretched, Limits}
-use Rattle.turns.specs.declared.Turns.{Turns}
-use Rattle.turns.specs.Order.{owned, rowsBelow, projectedEnd}
-use Rattle.turns.proofs.Owners.{rows-owned}
-use Rattle.turns.proofs.Walks.{objects-climb, turns-are}
-use Rattle.sources.specs.declared.Run.{Run}
+use Rattle.reading.specs.Stretched.{Stretched, Limits}
+use Rattle.reading.specs.declared.turns.Turns.{Turns}
+use Rattle.reading.specs.Order.{owned, rowsBelow, projectedEnd}
+use Rattle.reading.proofs.Owners.{rows-owned}
+use Rattle.reading.proofs.Walks.{objects-climb, turns-are}
+use Rattle.sources.specs.declared.Recording.{Recording}
 use Rattle.sources.specs.Keeping.{RunOf}
 use Rattle.sources.specs.Planned.{countsOf}
-use Rattle.plan.specs.Rows.{countsBy, plannedNumbers, Dispatched, Planning}
-use Rattle.plan.proofs.Agreeing.{planned-front}
-use Rattle.plan.proofs.Numbers.{planned-long, planned-held, dispatched-long}
-use Rattle.memory.specs.Holding.{tables, Holds, Told}
-use Rattle.whole.specs.Complete.{AllAsked, Ended}
-use Rattle.whole.proofs.Asked.{walk-asks}
-use Rattle.whole.proofs.Ends.{all-ended}
-use Rattle.prepared.proofs.Blank.{held-at-first}
-use Rattle.prepared.proofs.Planning.{dispatched, planned-off, planned-on}
-use Rattle.prepared.proofs.Sheets.{sound-rows}
-use Rattle.prepared.proofs.Told.{told}
-use Rattle.walk.specs.declared.Valued.{Valued}
-use Rattle.walk.specs.declared.Valued.the-variants as answer
-use Rattle.walk.specs.Starting.{Walkable, ValuedAs}
-use Rattle.values.specs.Setting.{plannedRows, Listed, Set, SetAs}
+use Rattle.sources.specs.Rows.{countsBy, plannedNumbers, DispatchedRows, Planning}
+use Rattle.sources.proofs.Agreeing.{planned-front}
+use Rattle.sources.proofs.Numbers.{planned-long, planned-held, dispatched-long}
+use Rattle.memory.specs.Holding.{tables, Holds, Tells}
+use Rattle.values.specs.Complete.{AllAsked, Ended}
+use Rattle.values.proofs.Asked.{walk-asks}
+use Rattle.values.proofs.Ends.{all-ended}
+use Rattle.values.proofs.PreparedBlankLaws.{held-at-first}
+use Rattle.values.proofs.Planning.{dispatched, planned-off, planned-on}
+use Rattle.values.proofs.Sheets.{sound-rows}
+use Rattle.values.proofs.Told.{told}
+use Rattle.values.specs.declared.walk.Valued.{Valued}
+use Rattle.values.specs.declared.walk.Valued.the-variants as answer
+use Rattle.values.specs.Starting.{Walkable, ValuedAs}
+use Rattle.values.specs.Setting.{plannedRows, RowsListed, Set, SetAs}
 
 -- where nothing is recorded the rows stay, and where it is they are planned
 pub planned-is : (t u : Bool) → t ≡ u → (n : ℕ) (rs : List Row) (st r : List (List ℕ)) {r′ : List (List ℕ)} → r′ ≡ plannedRows u n rs st r → r′ ≡ plannedRows t n rs st r
@@ -56,7 +56,7 @@ module _ (k : Book) (f : Fit) (room : ℕ) where
   unfolding worldOf
   world-rows = refl
 
-module _ (book fit : List ℕ) (pairs : List (List ℕ)) (sb : SoundBook book pairs) (sf : SoundFit fit pairs) (n : ℕ) (run : Run) {st r : List (List ℕ)} {b : List Float} {e : List (List ℕ)} {v : List Float} (h : Listed (bookOf book pairs) (fitOf fit pairs) n run st r b e v) where
+module _ (book fit : List ℕ) (pairs : List (List ℕ)) (sb : SoundBook book pairs) (sf : SoundFit fit pairs) (n : ℕ) (run : Recording) {st r : List (List ℕ)} {b : List Float} {e : List (List ℕ)} {v : List Float} (h : RowsListed (bookOf book pairs) (fitOf fit pairs) n run st r b e v) where
   abbrev k : Book
   k = bookOf book pairs
 
@@ -72,7 +72,7 @@ module _ (book fit : List ℕ) (pairs : List (List ℕ)) (sb : SoundBook book pa
   abbrev numbers : List (List ℕ)
   numbers = plannedNumbers 0 0 rs (countsOf world)
 
-  pub is-dispatched : Dispatched (rowsIn (bookOf book pairs) (fitOf fit pairs)) n r e v
+  pub is-dispatched : DispatchedRows (rowsIn (bookOf book pairs) (fitOf fit pairs)) n r e v
   is-dispatched = dispatched book fit pairs sf n (h .count) (h .lists)
 
   pub is-planning : Planning n r e v
@@ -117,9 +117,9 @@ module _ (book fit : List ℕ) (pairs : List (List ℕ)) (sb : SoundBook book pa
     is-owned = rows-owned k f (collectedIn k f) (numbered fit pairs)
 
     module _ {s₀ : List (List ℕ)} {g₀ : List (List Float)} (small : run .room ≤ length s₀) (even : run .room ≤ length g₀) where
-      is-told : {x : List (List ℕ)} {l : List ℕ} → Stretched rs x → Limits k l → Told world s₀ g₀ (tables book pairs st x l (take n r′) (take n b) e v) run
+      is-told : {x : List (List ℕ)} {l : List ℕ} → Stretched rs x → Limits k l → Tells world s₀ g₀ (tables book pairs st x l (take n r′) (take n b) e v) run
       is-told {x} {l} s m =
-          subst (λ (i : ℕ). Told world s₀ g₀ (tables book pairs st x l (take i r′) (take i b) e v) run) (sym (h .count))
+          subst (λ (i : ℕ). Tells world s₀ g₀ (tables book pairs st x l (take i r′) (take i b) e v) run) (sym (h .count))
           (told book fit pairs sb sf (run .room) r′ (h .lists) (h .states) (subst (λ (i : ℕ). take i r′ ≡ numbers) (h .count) front) is-run small even s m)
 
       module _ (v₀ : List Float) {v′ : List Float} (u : v′ ≡ replicate n nan ++ drop n v₀) where

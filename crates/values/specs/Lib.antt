@@ -1,1 +1,4 @@
+pub mod Complete
+pub mod SoundRows
+pub mod Starting
 pub mod Setting

@@ -1,9 +1,15 @@
 // The values and the source rows of a sound sheet, once lists 1 to 4 are made (pass_3.rs).
 use blank::unstarted;
-use plan::set_sources;
-use sources::Run;
-use stretches::set_limits;
-use stretches::set_stretches;
+use columns::AttributeRow;
+use columns::EntryRow;
+use columns::SourceFloats;
+use columns::SourceRow;
+use columns::States;
+use columns::TablePairs;
+use reading::stretches::set_limits;
+use reading::stretches::set_stretches;
+use sources::Recording;
+use sources::plan::set_sources;
 use walk::Valued;
 use walk::calculate_values;
 ghost use mathlib.Core.Path.{_≡_};
@@ -14,20 +20,22 @@ ghost use Rattle.rules.specs.Sheet.{bookOf, fitOf};
 ghost use Rattle.rules.specs.Dispatch.{Row};
 ghost use Rattle.rules.specs.Outcome.{blank, rowsIn, startsOf, valued, worldOf};
 ghost use Rattle.info.specs.Sound.{SoundBook, SoundFit};
-ghost use Rattle.plan.specs.Rows.{Dispatched, Planning};
-ghost use Rattle.values.specs.Setting.{plannedRows, Listed, SetAs};
+ghost use Rattle.sources.specs.Rows.{DispatchedRows, Planning};
+ghost use Rattle.values.specs.Setting.{plannedRows, RowsListed, SetGives};
 
 // Where source rows are recorded, first and count in list 5 of the first n rows.
 fn plan_sources(
-    rows: &mut [[u32; 6]],
-    entries: &[[u32; 11]],
+    rows: &mut [AttributeRow],
+    entries: &[EntryRow],
     values: &[f64],
-    states: &[[u32; 2]; 1024],
+    states: &States,
     n: usize,
     recording: bool,
 )
-    requires { ⌜ Planning n (now rows) (now entries) (now values) ⌝ }
-    ensures { λ _. ⌜ ((rs : List Row) → Dispatched rs n (now (rows .entry)) (now (entries .entry)) (now (values .entry)) → now (rows .exit) ≡ plannedRows recording n rs (now (states .entry)) (now (rows .entry))) ⌝ }
+    requires planning { ⌜ Planning n (now rows) (now entries) (now values) ⌝ }
+    ensures defined { λ _.
+        ⌜ ((rs : List Row) → DispatchedRows rs n (now (rows .entry)) (now (entries .entry)) (now (values .entry))
+        → now (rows .exit) ≡ plannedRows recording n rs (now (states .entry)) (now (rows .entry))) ⌝ }
 {
     if recording {
         set_sources(rows, entries, values, states, n);
@@ -36,26 +44,31 @@ fn plan_sources(
 
 // The values of the n rows, and their source rows. Where it is refused, the columns that are written may hold anything.
 pub fn set_values(
-    rows: &mut [[u32; 6]],
+    rows: &mut [AttributeRow],
     values: &mut [f64],
-    sources: &mut [[u32; 10]],
-    floats: &mut [[f64; 2]],
+    sources: &mut [SourceRow],
+    floats: &mut [SourceFloats],
     bases: &[f64],
-    entries: &[[u32; 11]],
+    entries: &[EntryRow],
     entry_values: &[f64],
-    states: &[[u32; 2]; 1024],
+    states: &States,
     book: &[u8],
     fit: &[u8],
-    pairs: &[[u32; 2]; 10],
+    pairs: &TablePairs,
     n: usize,
-    run: Run,
+    run: Recording,
 ) -> Valued
-    requires { ⌜ SoundBook (now book) (now pairs) ⌝ }
-    requires { ⌜ SoundFit (now fit) (now pairs) ⌝ }
-    requires { ⌜ Listed (bookOf (now book) (now pairs)) (fitOf (now fit) (now pairs)) n run (now states) (now rows) (now bases) (now entries) (now «entry_values») ⌝ }
-    requires { ⌜ (n ≤ length (now values)) × (n < 2 ^ 32) ⌝ }
-    requires { ⌜ (run .room ≤ length (now sources)) × (run .room ≤ length (now floats)) × (run .room ≤ 4294967295) ⌝ }
-    ensures { λ r. ⌜ ((h : Listed (bookOf (now (book .entry)) (now (pairs .entry))) (fitOf (now (fit .entry)) (now (pairs .entry))) n run (now (states .entry)) (now (rows .entry)) (now (bases .entry)) (now (entries .entry)) (now («entry_values» .entry))) → SetAs (rowsIn (bookOf (now (book .entry)) (now (pairs .entry))) (fitOf (now (fit .entry)) (now (pairs .entry)))) (valued (worldOf (bookOf (now (book .entry)) (now (pairs .entry))) (fitOf (now (fit .entry)) (now (pairs .entry))) (run .room)) (fitOf (now (fit .entry)) (now (pairs .entry)) .depth) (startsOf (fitOf (now (fit .entry)) (now (pairs .entry))) (rowsIn (bookOf (now (book .entry)) (now (pairs .entry))) (fitOf (now (fit .entry)) (now (pairs .entry))))) (blank (rowsIn (bookOf (now (book .entry)) (now (pairs .entry))) (fitOf (now (fit .entry)) (now (pairs .entry)))))) r (h .rows₀) (now (rows .exit)) (now (values .entry)) (now (values .exit)) (now (sources .entry)) (now (sources .exit)) (now (floats .entry)) (now (floats .exit))) ⌝ }
+    requires sound_book { ⌜ SoundBook (now book) (now pairs) ⌝ }
+    requires sound_fit { ⌜ SoundFit (now fit) (now pairs) ⌝ }
+    requires listed { ⌜ RowsListed (bookOf (now book) (now pairs)) (fitOf (now fit) (now pairs)) n run
+        (now states) (now rows) (now bases) (now entries) (now «entry_values») ⌝ }
+    requires few { ⌜ (n ≤ length (now values)) × (n < 2 ^ 32) ⌝ }
+    requires roomy { ⌜ (run .room ≤ length (now sources)) × (run .room ≤ length (now floats)) × (run .room ≤ 4294967295) ⌝ }
+    ensures defined { λ r.
+        let k = bookOf (now (book .entry)) (now (pairs .entry)) in
+        let f = fitOf (now (fit .entry)) (now (pairs .entry)) in
+        ⌜ SetGives k f n run states bases entries «entry_values» rows values sources floats r
+        (valued (worldOf k f (run .room)) (f .depth) (startsOf f (rowsIn k f)) (blank (rowsIn k f))) ⌝ }
 {
     plan_sources(rows, entries, entry_values, states, n, run.recording);
     unstarted(values, n);
@@ -78,3 +91,6 @@ pub fn set_values(
         fit,
     )
 }
+
+pub mod blank;
+pub mod walk;

@@ -29,4 +29,4 @@ clear-spec =
     (λ c. search needs)
     (λ c. search needs)
     (λ c. search needs)
-    (λ c. (c .before .before .before .before .before .before .before .before .before .before .before .before .before .before .before .before .before .before .before .before .before .before .before .before .before .before .before .before .before .before .before .before .before .before .zero-14 .ensures, (c .before .before .before .before .before .before .before .before .before .before .before .before .before .before .before .before .before .before .before .before .before .before .before .before .before .before .before .before .before .before .before .zero-floats .ensures, (c .before .before .before .before .before .before .before .before .before .before .before .before .before .before .before .before .before .before .before .before .before .before .before .before .before .before .before .zero-6 .ensures, (c .before .before .before .before .before .before .before .before .before .before .before .before .before .before .before .before .before .before .before .before .before .before .before .before .zero-floats2 .ensures, (c .before .before .before .before .before .before .before .before .before .before .before .before .before .before .before .before .before .before .before .before .zero-floats3 .ensures, (c .before .before .before .before .before .before .before .before .before .before .before .before .before .before .before .before .zero-11 .ensures, (c .before .before .before .before .before .before .before .before .before .before .before .before .before .zero-floats4 .ensures, (c .before .before .before .before .before .before .before .before .before .zero-2 .ensures, (c .before .before .before .before .before .before .zero-10 .ensures, (c .before .before .before .zero-pairs .ensures, c .zero-states .ensures))))))))))))
+    (λ c. (c .before .before .before .before .before .before .before .before .before .before .before .before .before .before .before .before .before .before .before .before .before .before .before .before .before .before .before .before .before .before .before .before .before .before .zero-collected .ensures, (c .before .before .before .before .before .before .before .before .before .before .before .before .before .before .before .before .before .before .before .before .before .before .before .before .before .before .before .before .before .before .before .zero-values .ensures, (c .before .before .before .before .before .before .before .before .before .before .before .before .before .before .before .before .before .before .before .before .before .before .before .before .before .before .before .zero-rows .ensures, (c .before .before .before .before .before .before .before .before .before .before .before .before .before .before .before .before .before .before .before .before .before .before .before .before .zero-values2 .ensures, (c .before .before .before .before .before .before .before .before .before .before .before .before .before .before .before .before .before .before .before .before .zero-values3 .ensures, (c .before .before .before .before .before .before .before .before .before .before .before .before .before .before .before .before .zero-entries .ensures, (c .before .before .before .before .before .before .before .before .before .before .before .before .before .zero-values4 .ensures, (c .before .before .before .before .before .before .before .before .before .zero-plain .ensures, (c .before .before .before .before .before .before .zero-sources .ensures, (c .before .before .before .zero-source-values .ensures, c .zero-states .ensures))))))))))))

@@ -7,7 +7,7 @@ use Rattle.gather.proofs.empty.Reads as reads
 use Rattle.gather.proofs.empty.Lts as lts
 use Rattle.operate.proofs.start.Reads as start-reads
 use mathlib.Core.Path.{refl}
-use Rattle.buckets.proofs.Inserts as inserts
+use Rattle.operate.proofs.Inserts as inserts
 
 start-requires : tie.Need-start-requires
 start-requires c κs = search needs

@@ -5,9 +5,9 @@ use Rattle.hits.proofs.skill_of.Statement.{statement}
 use Rattle.hits.proofs.skill_of.Tie as tie
 use Rattle.hits.proofs.skill_of.Reads as reads
 use Rattle.hits.proofs.skill_of.Lts as lts
-use Rattle.little_endian.proofs.index.Reads as index-reads
+use Rattle.info.proofs.little_endian.index.Reads as index-reads
 use Rattle.info.proofs.records.object.Reads as object-reads
-use Rattle.integers.proofs.bits.Reads as bits-reads
+use Rattle.numbers.proofs.integers.bits.Reads as bits-reads
 use mathlib.Core.Path.{ap, _∙_}
 use native.Mathlib.Omega.{arith}
 use borrow.Author.Needs.{sfits-of}

@@ -7,7 +7,7 @@ use Rattle.listing.proofs.put_integer.Reads as reads
 use Rattle.listing.proofs.put_integer.Lts as lts
 use Rattle.listing.proofs.put_byte.Reads as put-byte-reads
 use Rattle.listing.proofs.put_natural.Reads as put-natural-reads
-use Rattle.integers.proofs.bits.Reads as bits-reads
+use Rattle.numbers.proofs.integers.bits.Reads as bits-reads
 use Prim.Native.Nat.{_-_}
 use mathlib.Core.Path.{_∙_}
 use mathlib.Core.List.{[], _∷_}

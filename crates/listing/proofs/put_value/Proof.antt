@@ -6,7 +6,7 @@ use Rattle.listing.proofs.put_value.Tie as tie
 use Rattle.listing.proofs.put_value.Reads as reads
 use Rattle.listing.proofs.put_value.Lts as lts
 use Rattle.listing.proofs.put_hundredths.Reads as put-hundredths-reads
-use Rattle.hundredths.proofs.in_hundredths.Reads as in-hundredths-reads
+use Rattle.numbers.proofs.hundredths.in_hundredths.Reads as in-hundredths-reads
 use mathlib.Core.Path.{ap}
 use Rattle.rules.specs.Number.{hundredthsOf}
 use Rattle.rules.specs.Listing.{decimals}

@@ -3,7 +3,7 @@
 use borrow.Author.Needs.{needs}
 use Rattle.numbers_test.proofs.pattern.Statement.{statement}
 use Rattle.numbers_test.proofs.pattern.Tie as tie
-use Rattle.hundredths.proofs.Hundredths.{no-nan}
+use Rattle.numbers.proofs.HundredthsLaws.{no-nan}
 
 pub pattern-spec : {M : Type 1} → statement M
 pattern-spec =

@@ -5,7 +5,7 @@ use Rattle.operate.proofs.finished.Statement.{statement}
 use Rattle.operate.proofs.finished.Tie as tie
 use Rattle.operate.proofs.finished.Reads as reads
 use Rattle.operate.proofs.finished.Lts as lts
-use Rattle.buckets.proofs.Bucket.weigh.Reads as weigh-reads
+use Rattle.operate.proofs.buckets.Bucket.weigh.Reads as weigh-reads
 use Rattle.operate.proofs.step_so_far.Reads as step-so-far-reads
 use mathlib.Core.Path.{sym, _∙_}
 use Rattle.operate.proofs.Applied.{not-plain, not-positive, whole}

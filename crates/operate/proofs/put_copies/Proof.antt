@@ -4,12 +4,12 @@ use Rattle.operate.proofs.put_copies.Statement.{statement}
 use Rattle.operate.proofs.put_copies.Tie as tie
 use Rattle.operate.proofs.put_copies.Reads as reads
 use Rattle.operate.proofs.put_copies.Lts as lts
-use Rattle.buckets.proofs.insert.Reads as insert-reads
+use Rattle.operate.proofs.buckets.insert.Reads as insert-reads
 use borrow.Author.Needs.{needs}
 use Prim.Native.Nat.{_-_}
 use lib.ListN.{length}
 use mathlib.Core.Path.{_≡_, _∙_}
-use Rattle.buckets.specs.Held.{bucket}
+use Rattle.operate.specs.Held.{bucket}
 use Rattle.operate.proofs.Copies.{Put, none-put, room, one-put, all-put}
 
 abbrev Inv-loop : tie.InvT-loop

@@ -6,7 +6,7 @@ use Rattle.run.proofs.ran_of.Tie as tie
 use Rattle.run.proofs.ran_of.Reads as reads
 use Rattle.run.proofs.ran_of.Lts as lts
 use mathlib.Core.Path.{sym, ap}
-use Rattle.walk.specs.declared.Valued.{Valued}
+use Rattle.values.specs.declared.walk.Valued.{Valued}
 use Rattle.run.specs.Filled.{ranBy}
 
 enum-known-valued : tie.Need-enum-known-valued

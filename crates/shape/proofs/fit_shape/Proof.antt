@@ -4,7 +4,7 @@ use borrow.Author.Needs.{needs}
 use Rattle.shape.proofs.fit_shape.Statement.{statement}
 use Rattle.shape.proofs.fit_shape.Tie as tie
 use Rattle.rules.specs.Shape.{fitBad}
-use Rattle.book_tables.proofs.Scans.{passed, failed}
+use Rattle.shape.proofs.Scans.{passed, failed}
 
 pub fit-shape-spec : {M : Type 1} → statement M
 unfolding fitBad

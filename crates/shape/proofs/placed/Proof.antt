@@ -5,7 +5,7 @@ use Rattle.shape.proofs.placed.Tie as tie
 use borrow.Author.Needs.{needs}
 use native.Mathlib.Omega.{arith}
 use Prim.Native.Nat.{_-_}
-use Rattle.book_tables.proofs.Scans.{scan-done}
+use Rattle.shape.proofs.Scans.{scan-done}
 use Rattle.shape.proofs.Headers.{Placed, placed-start, too-many, elsewhere, small, placed-next}
 
 abbrev Inv-loop : tie.InvT-loop

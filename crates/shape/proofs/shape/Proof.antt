@@ -3,7 +3,7 @@
 use borrow.Author.Needs.{needs}
 use Rattle.shape.proofs.shape.Statement.{statement}
 use Rattle.shape.proofs.shape.Tie as tie
-use Rattle.book_tables.proofs.Scans.{passed, failed}
+use Rattle.shape.proofs.Scans.{passed, failed}
 use Rattle.shape.proofs.Headers.{held-book, held-fit}
 use Rattle.shape.proofs.Shapes.{too-short, header-bad, book-bad, book-good}
 

@@ -4,9 +4,9 @@ use borrow.Author.Needs.{needs}
 use Rattle.states.proofs.able.Statement.{statement}
 use Rattle.states.proofs.able.Tie as tie
 use mathlib.Core.Path.{sym, ap, _∙_}
-use Rattle.look_ups.specs.LookUps.{baseFound}
+use Rattle.info.specs.LookUps.{baseFound}
 use Rattle.states.proofs.Standing.{able-found, able-none, number-inside}
-use Rattle.look_ups.proofs.Bases.{based}
+use Rattle.info.proofs.Bases.{based}
 use Rattle.rules.specs.Sheet.{bookOf, fitOf}
 
 pub able-spec : {M : Type 1} → statement M

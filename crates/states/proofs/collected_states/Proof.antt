@@ -6,7 +6,7 @@ use Rattle.states.proofs.collected_states.Tie as tie
 use Rattle.states.proofs.collected_states.Reads as reads
 use Rattle.states.proofs.collected_states.Lts as lts
 use Rattle.states.proofs.lower.Reads as lower-reads
-use Rattle.locations.proofs.is_subsystem.Reads as is-subsystem-reads
+use Rattle.item.proofs.locations.is_subsystem.Reads as is-subsystem-reads
 use mathlib.Core.Path.{sym, _∙_}
 use Rattle.states.proofs.Standing.{subsystem-stands, collected-stands}
 

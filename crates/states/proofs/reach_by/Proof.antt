@@ -15,5 +15,5 @@ reach-by-spec =
     (λ c. search needs)
     (λ c κs. search needs)
     (λ c. search needs)
-    (λ c. reach-found (bookOf (c .before .before .before .before .before .before .before .args .book .now) (c .before .before .before .before .before .before .before .args .pairs .now)) (c .before .before .before .before .before .before .before .args .o) (c .before .before .before .before .before .before .before .args .t) _ (sfits-of (c .before .before .before .before .before .struct-told .given .1 .0 .1)) (c .before .before .before .before .get-dogma-effect .ensures) _ (c .before .before .found .given .1) (c .reach-of .ensures))
+    (λ c. reach-found (bookOf (c .before .before .before .before .before .before .before .args .book .now) (c .before .before .before .before .before .before .before .args .pairs .now)) (c .before .before .before .before .before .before .before .args .o) (c .before .before .before .before .before .before .before .args .t) _ (sfits-of (c .before .before .before .before .before .struct-told .given .1 .0 .1)) (c .before .before .before .before .get-dogma-effect .ensures) _ (c .before .before .found .given .1) (c .raises-to .ensures))
     (λ c. reach-missing (bookOf (c .before .before .before .before .before .args .book .now) (c .before .before .before .before .before .args .pairs .now)) (c .before .before .before .before .before .args .o) (c .before .before .before .before .before .args .t) _ (sfits-of (c .before .before .before .struct-told .given .1 .0 .1)) (c .before .before .get-dogma-effect .ensures) (c .enum-told .given .1)))

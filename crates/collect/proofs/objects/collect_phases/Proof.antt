@@ -4,8 +4,8 @@ use borrow.Author.Needs.{needs}
 use Rattle.collect.proofs.objects.collect_phases.Statement.{statement}
 use Rattle.collect.proofs.objects.collect_phases.Tie as tie
 use mathlib.Core.Path.{sym, _∙_}
-use Rattle.moves.proofs.Runs.{answered, was-refused}
-use Rattle.effects.proofs.Turns.{in-turn, stopped-first, all-lent-kept}
+use Rattle.modifier.proofs.Runs.{answered, was-refused}
+use Rattle.collect.proofs.Turns.{in-turn, stopped-first, all-lent-kept}
 
 pub collect-phases-spec : {M : Type 1} → statement M
 collect-phases-spec =

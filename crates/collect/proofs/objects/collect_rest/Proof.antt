@@ -4,8 +4,8 @@ use borrow.Author.Needs.{needs}
 use Rattle.collect.proofs.objects.collect_rest.Statement.{statement}
 use Rattle.collect.proofs.objects.collect_rest.Tie as tie
 use mathlib.Core.Path.{refl, sym, _∙_}
-use Rattle.moves.proofs.Runs.{answered, was-refused}
-use Rattle.effects.proofs.Turns.{in-turn, stopped-first, all-lent-kept}
+use Rattle.modifier.proofs.Runs.{answered, was-refused}
+use Rattle.collect.proofs.Turns.{in-turn, stopped-first, all-lent-kept}
 
 pub collect-rest-spec : {M : Type 1} → statement M
 collect-rest-spec =
@@ -18,7 +18,7 @@ collect-rest-spec =
     (λ c. search needs)
     (λ c. search needs)
     (λ c. search needs)
-    (λ c. in-turn _ _ _ _ _ _ (sym (answered (c .before .before .before .before .before .before .before .before .before .got .given .1) _ _ _) ∙ c .before .before .before .before .before .before .before .before .before .before .before .before .before .before .collect-buffs .ensures (c .before .before .before .before .before .before .before .before .before .before .before .before .before .before .before .before .before .before .before .before .args .l .now)) (c .before .before .before .before .collect-phases .ensures))
+    (λ c. in-turn _ _ _ _ _ _ (sym (answered (c .before .before .before .before .before .before .before .before .before .got .given .1) _ _ _) ∙ c .before .before .before .before .before .before .before .before .before .before .before .before .before .before .collect-buffs .ensures (c .before .before .before .before .before .before .before .before .before .before .before .before .before .before .before .before .before .before .before .before .args .plain .now)) (c .before .before .before .before .collect-phases .ensures))
     (λ c. search needs)
     (λ c. search needs)
-    (λ c. stopped-first _ _ _ _ _ (sym (was-refused (c .before .got2 .given .1) _ _ _) ∙ c .before .before .before .before .before .before .collect-buffs .ensures (c .before .before .before .before .before .before .before .before .before .before .before .before .args .l .now))))
+    (λ c. stopped-first _ _ _ _ _ (sym (was-refused (c .before .got2 .given .1) _ _ _) ∙ c .before .before .before .before .before .before .collect-buffs .ensures (c .before .before .before .before .before .before .before .before .before .before .before .before .args .plain .now))))

@@ -5,7 +5,7 @@ use Rattle.item.proofs.states.category_on.Statement.{statement}
 use Rattle.item.proofs.states.category_on.Tie as tie
 use Rattle.item.proofs.states.category_on.Reads as reads
 use Rattle.item.proofs.states.category_on.Lts as lts
-use Rattle.locations.proofs.is_rig.Reads as is-rig-reads
+use Rattle.item.proofs.locations.is_rig.Reads as is-rig-reads
 use Rattle.item.proofs.states.is_passive.Reads as is-passive-reads
 
 is-rig-requires : tie.Need-is-rig-requires

@@ -4,7 +4,7 @@ use Rattle.reading.proofs.entries.operators_in.Statement.{statement}
 use Rattle.reading.proofs.entries.operators_in.Tie as tie
 use Rattle.reading.proofs.entries.operators_in.Reads as reads
 use Rattle.reading.proofs.entries.operators_in.Lts as lts
-use Rattle.little_endian.proofs.index.Reads as index-reads
+use Rattle.info.proofs.little_endian.index.Reads as index-reads
 use borrow.Author.Needs.{needs}
 use Prim.Native.Nat.{_-_}
 use Rattle.reading.proofs.Decodes.{Marks, marks-none, marks-past, marks-on, marks-all}

@@ -4,7 +4,7 @@ use borrow.Author.Needs.{needs}
 use Rattle.sources.proofs.rows.from_numbers.Statement.{statement}
 use Rattle.sources.proofs.rows.from_numbers.Tie as tie
 use mathlib.Core.Path.{refl}
-use Rattle.integers.proofs.Signs.{stored}
+use Rattle.numbers.proofs.Signs.{stored}
 
 pub from-numbers-spec : {M : Type 1} → statement M
 from-numbers-spec =

@@ -1,0 +1,60 @@
+// The modifiers of an effect or a buff, in order.
+use columns::CollectedRow;
+use columns::TablePairs;
+use info::little_endian::index;
+use info::records::modifier;
+use modifier::causes::Cause;
+use modifier::causes::move_of;
+use modifier::moves::CollectedRooms;
+use modifier::moves::Counted;
+use modifier::moves::put;
+ghost use mathlib.Core.Path.{_≡_};
+ghost use Prim.Native.Nat.{_+_, _≤_};
+ghost use Rattle.laws.specs.Lists.{flat, span};
+ghost use Rattle.rules.specs.Bytes.{countOf};
+ghost use Rattle.rules.specs.Sheet.{Fit};
+ghost use Rattle.info.specs.At.{bookAt};
+ghost use Rattle.info.specs.Sound.{HeldBook};
+ghost use Rattle.modifier.specs.Causes.{CauseOf, causeMoves};
+ghost use Rattle.modifier.specs.Ran.{Lent, RunsCollected};
+
+// The modifiers of a run, in order, each by what it is collected for.
+pub fn collect_modifiers(
+    collected: &mut [CollectedRow],
+    collected_values: &mut [f64],
+    book: &[u8],
+    pairs: &TablePairs,
+    rooms: CollectedRooms,
+    used: usize,
+    used_plain: usize,
+    cause: Cause,
+    first: u32,
+    count: u32,
+) -> Counted
+    requires lent { ⌜ Lent rooms (now collected) (now «collected_values») ⌝ }
+    requires held_book { ⌜ HeldBook (now book) (now pairs) ⌝ }
+    requires inside { ⌜ first + count ≤ countOf (now pairs) 3 ⌝ }
+    ensures defined { λ r.
+        let modifiers = span first count (bookAt book pairs .modifiers) in
+        ⌜ ((f : Fit) → CauseOf f cause
+        → RunsCollected rooms r used «used_plain» (flat (causeMoves (bookAt book pairs) f cause) modifiers) collected «collected_values») ⌝ }
+{
+    let mut a = used;
+    let mut b = used_plain;
+    let mut i = index(first);
+    let end = i + index(count);
+    while i < end {
+        let m = modifier(book, pairs, i);
+        i += 1;
+        let x = move_of(cause, m);
+        let got = put(collected, collected_values, rooms, a, b, x);
+        match got {
+            Counted::At(k, l) => {
+                a = k;
+                b = l;
+            }
+            Counted::Refused(y) => return Counted::Refused(y),
+        }
+    }
+    Counted::At(a, b)
+}

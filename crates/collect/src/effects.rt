@@ -1,0 +1,295 @@
+// The effects of an object: its type's own, then its base's (pass_2.rs, the inside of collection).
+use super::collecting::collect_modifiers;
+use super::uses::is_used;
+use columns::CollectedRow;
+use columns::PlainRow;
+use columns::TablePairs;
+use info::look_ups::FoundEffect;
+use info::look_ups::TypeEffects;
+use info::look_ups::get_dogma_effect;
+use info::look_ups::get_dogma_effects;
+use info::records::type_effect;
+use item::CategoryFound;
+use item::codes::category_at;
+use item::kinds::mutated;
+use item::states::category_on;
+use modifier::causes::Cause;
+use modifier::codes::Owner;
+use modifier::moves::CollectedRooms;
+use modifier::moves::Counted;
+use modifier::moves::push_plain;
+use rules::DogmaEffect;
+use rules::Refusal;
+use rules::TypeDogmaEffect;
+use states::has_effect;
+ghost use Prim.Native.Nat.{_+_, _≤_};
+ghost use Rattle.laws.specs.Lists.{flat};
+ghost use Rattle.rules.specs.Bytes.{countOf};
+ghost use Rattle.rules.specs.Sheet.{fitOf};
+ghost use Rattle.rules.specs.Collect.{foundMoves, effectMoves, ownMoves};
+ghost use Rattle.info.specs.At.{bookAt, fitAt};
+ghost use Rattle.info.specs.Sound.{HeldBook, SoundBook, SoundFit};
+ghost use Rattle.modifier.specs.Tests.{OwnerOf};
+ghost use Rattle.modifier.specs.Ran.{AllLent, Runs};
+ghost use Rattle.collect.specs.At.{runAt};
+ghost use Rattle.collect.specs.OfFit.{OfFit};
+ghost use Rattle.collect.specs.New.{newMoves};
+
+// The category is tested for every effect found. An effect with no modifiers goes to the plain list.
+fn collect_found(
+    collected: &mut [CollectedRow],
+    collected_values: &mut [f64],
+    plain: &mut [PlainRow],
+    book: &[u8],
+    fit: &[u8],
+    pairs: &TablePairs,
+    rooms: CollectedRooms,
+    used: usize,
+    used_plain: usize,
+    w: Owner,
+    t: TypeDogmaEffect,
+    e: DogmaEffect,
+) -> Counted
+    requires lent { ⌜ AllLent rooms (now collected) (now «collected_values») (now plain) ⌝ }
+    requires held_book { ⌜ HeldBook (now book) (now pairs) ⌝ }
+    requires sound_fit { ⌜ SoundFit (now fit) (now pairs) ⌝ }
+    requires of_fit { ⌜ OfFit (fitOf (now fit) (now pairs)) (w .item) ⌝ }
+    requires owner { ⌜ OwnerOf (fitOf (now fit) (now pairs)) w ⌝ }
+    requires inside { ⌜ e .«first_modifier» + e .modifiers ≤ countOf (now pairs) 3 ⌝ }
+    ensures defined { λ r.
+        ⌜ Runs rooms r used «used_plain» (foundMoves (bookAt book pairs) (fitAt fit pairs) (w .item) t e) collected «collected_values» plain ⌝ }
+{
+    let o = w.item;
+    let found = category_at(e.category);
+    match found {
+        CategoryFound::At(category) => {
+            let on = category_on(o, category);
+            let in_use = is_used(fit, pairs, o, e, t, on);
+            if in_use {
+                if e.modifiers == 0 {
+                    return push_plain(plain, rooms, used, used_plain, o.number, e.id);
+                }
+                let cause = Cause::Own(w, e, on);
+                return collect_modifiers(
+                    collected,
+                    collected_values,
+                    book,
+                    pairs,
+                    rooms,
+                    used,
+                    used_plain,
+                    cause,
+                    e.first_modifier,
+                    e.modifiers,
+                );
+            }
+            Counted::At(used, used_plain)
+        }
+        CategoryFound::Nothing => Counted::Refused(Refusal::Category(e.number)),
+    }
+}
+
+// A missing effect is passed over.
+fn collect_effect(
+    collected: &mut [CollectedRow],
+    collected_values: &mut [f64],
+    plain: &mut [PlainRow],
+    book: &[u8],
+    fit: &[u8],
+    pairs: &TablePairs,
+    rooms: CollectedRooms,
+    used: usize,
+    used_plain: usize,
+    w: Owner,
+    t: TypeDogmaEffect,
+) -> Counted
+    requires lent { ⌜ AllLent rooms (now collected) (now «collected_values») (now plain) ⌝ }
+    requires sound_book { ⌜ SoundBook (now book) (now pairs) ⌝ }
+    requires sound_fit { ⌜ SoundFit (now fit) (now pairs) ⌝ }
+    requires of_fit { ⌜ OfFit (fitOf (now fit) (now pairs)) (w .item) ⌝ }
+    requires owner { ⌜ OwnerOf (fitOf (now fit) (now pairs)) w ⌝ }
+    ensures defined { λ r.
+        ⌜ Runs rooms r used «used_plain» (effectMoves (bookAt book pairs) (fitAt fit pairs) (w .item) t) collected «collected_values» plain ⌝ }
+{
+    let found = get_dogma_effect(book, pairs, t.effect_id);
+    match found {
+        FoundEffect::At(e) => collect_found(
+            collected,
+            collected_values,
+            plain,
+            book,
+            fit,
+            pairs,
+            rooms,
+            used,
+            used_plain,
+            w,
+            t,
+            e,
+        ),
+        FoundEffect::Nothing => Counted::At(used, used_plain),
+    }
+}
+
+// An effect that is not among the type's own.
+fn collect_new(
+    collected: &mut [CollectedRow],
+    collected_values: &mut [f64],
+    plain: &mut [PlainRow],
+    book: &[u8],
+    fit: &[u8],
+    pairs: &TablePairs,
+    rooms: CollectedRooms,
+    used: usize,
+    used_plain: usize,
+    w: Owner,
+    t: TypeDogmaEffect,
+    own: TypeEffects,
+) -> Counted
+    requires lent { ⌜ AllLent rooms (now collected) (now «collected_values») (now plain) ⌝ }
+    requires sound_book { ⌜ SoundBook (now book) (now pairs) ⌝ }
+    requires sound_fit { ⌜ SoundFit (now fit) (now pairs) ⌝ }
+    requires of_fit { ⌜ OfFit (fitOf (now fit) (now pairs)) (w .item) ⌝ }
+    requires owner { ⌜ OwnerOf (fitOf (now fit) (now pairs)) w ⌝ }
+    requires inside { ⌜ own .first + own .count ≤ countOf (now pairs) 4 ⌝ }
+    ensures defined { λ r.
+        let moves = newMoves (bookAt book pairs) (fitAt fit pairs) (w .item) (runAt book pairs own) t in
+        ⌜ Runs rooms r used «used_plain» moves collected «collected_values» plain ⌝ }
+{
+    if has_effect(book, pairs, own.first, own.count, t) {
+        return Counted::At(used, used_plain);
+    }
+    collect_effect(
+        collected,
+        collected_values,
+        plain,
+        book,
+        fit,
+        pairs,
+        rooms,
+        used,
+        used_plain,
+        w,
+        t,
+    )
+}
+
+// A run of type effects, but for those that are among the type's own.
+fn collect_run(
+    collected: &mut [CollectedRow],
+    collected_values: &mut [f64],
+    plain: &mut [PlainRow],
+    book: &[u8],
+    fit: &[u8],
+    pairs: &TablePairs,
+    rooms: CollectedRooms,
+    used: usize,
+    used_plain: usize,
+    w: Owner,
+    run: TypeEffects,
+    own: TypeEffects,
+) -> Counted
+    requires lent { ⌜ AllLent rooms (now collected) (now «collected_values») (now plain) ⌝ }
+    requires sound_book { ⌜ SoundBook (now book) (now pairs) ⌝ }
+    requires sound_fit { ⌜ SoundFit (now fit) (now pairs) ⌝ }
+    requires of_fit { ⌜ OfFit (fitOf (now fit) (now pairs)) (w .item) ⌝ }
+    requires owner { ⌜ OwnerOf (fitOf (now fit) (now pairs)) w ⌝ }
+    requires inside { ⌜ run .first + run .count ≤ countOf (now pairs) 4 ⌝ }
+    requires inside_own { ⌜ own .first + own .count ≤ countOf (now pairs) 4 ⌝ }
+    ensures defined { λ r.
+        let all = flat (newMoves (bookAt book pairs) (fitAt fit pairs) (w .item) (runAt book pairs own)) (runAt book pairs run) in
+        ⌜ Runs rooms r used «used_plain» all collected «collected_values» plain ⌝ }
+{
+    let mut a = used;
+    let mut b = used_plain;
+    let mut i = run.first;
+    let end = i + run.count;
+    while i < end {
+        let t = type_effect(book, pairs, i);
+        i += 1;
+        let got = collect_new(
+            collected,
+            collected_values,
+            plain,
+            book,
+            fit,
+            pairs,
+            rooms,
+            a,
+            b,
+            w,
+            t,
+            own,
+        );
+        match got {
+            Counted::At(k, j) => {
+                a = k;
+                b = j;
+            }
+            Counted::Refused(x) => return Counted::Refused(x),
+        }
+    }
+    Counted::At(a, b)
+}
+
+// Own type effects first, then base effects whose id the type lacks.
+pub fn collect_effects(
+    collected: &mut [CollectedRow],
+    collected_values: &mut [f64],
+    plain: &mut [PlainRow],
+    book: &[u8],
+    fit: &[u8],
+    pairs: &TablePairs,
+    rooms: CollectedRooms,
+    used: usize,
+    used_plain: usize,
+    w: Owner,
+) -> Counted
+    requires lent { ⌜ AllLent rooms (now collected) (now «collected_values») (now plain) ⌝ }
+    requires sound_book { ⌜ SoundBook (now book) (now pairs) ⌝ }
+    requires sound_fit { ⌜ SoundFit (now fit) (now pairs) ⌝ }
+    requires of_fit { ⌜ OfFit (fitOf (now fit) (now pairs)) (w .item) ⌝ }
+    requires owner { ⌜ OwnerOf (fitOf (now fit) (now pairs)) w ⌝ }
+    ensures defined { λ r. ⌜ Runs rooms r used «used_plain» (ownMoves (bookAt book pairs) (fitAt fit pairs) (w .item)) collected «collected_values» plain ⌝ }
+{
+    let o = w.item;
+    let own = get_dogma_effects(book, pairs, o.type_id);
+    let none = TypeEffects { first: 0, count: 0 };
+    let got = collect_run(
+        collected,
+        collected_values,
+        plain,
+        book,
+        fit,
+        pairs,
+        rooms,
+        used,
+        used_plain,
+        w,
+        own,
+        none,
+    );
+    if !mutated(o) {
+        return got;
+    }
+    match got {
+        Counted::At(a, b) => {
+            let base = get_dogma_effects(book, pairs, o.mutation_base);
+            collect_run(
+                collected,
+                collected_values,
+                plain,
+                book,
+                fit,
+                pairs,
+                rooms,
+                a,
+                b,
+                w,
+                base,
+                own,
+            )
+        }
+        Counted::Refused(x) => Counted::Refused(x),
+    }
+}

@@ -1,4 +1,0 @@
-pub mod Taking
-pub mod Comes
-pub mod Pointed
-pub mod Bounds

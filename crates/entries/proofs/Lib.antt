@@ -1,2 +1,0 @@
-pub mod RowOf
-pub mod Filling

@@ -1,3 +1,0 @@
-pub mod Searches
-pub mod Finds
-pub mod Bases

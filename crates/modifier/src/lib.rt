@@ -1,0 +1,4 @@
+// modifier: codes, causes, moves.
+pub mod causes;
+pub mod codes;
+pub mod moves;

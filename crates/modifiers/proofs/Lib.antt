@@ -1,4 +1,0 @@
-pub mod Case
-pub mod Gives
-pub mod Inside
-pub mod Resists

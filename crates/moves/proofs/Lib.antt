@@ -1,4 +1,0 @@
-pub mod Runs
-pub mod Numbers
-pub mod Ends
-pub mod Loops

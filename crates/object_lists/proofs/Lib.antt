@@ -1,2 +1,0 @@
-pub mod Owned
-pub mod Together

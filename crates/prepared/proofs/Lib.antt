@@ -1,9 +1,0 @@
-pub mod All
-pub mod Bases
-pub mod Taken
-pub mod Entries
-pub mod Sheets
-pub mod Running
-pub mod Blank
-pub mod Planning
-pub mod Told

@@ -1,4 +1,0 @@
-pub mod Skills
-pub mod Filled
-pub mod Telling
-pub mod Reach

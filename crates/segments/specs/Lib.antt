@@ -1,2 +1,0 @@
-pub mod Strikes
-pub mod Steps

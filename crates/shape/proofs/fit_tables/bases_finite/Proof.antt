@@ -1,0 +1,37 @@
+-- Made by `answers` from Proof.answers: edit that file.
+-- `fit_tables::bases_finite` meets its contract. Assumes nothing.
+use Rattle.shape.proofs.fit_tables.bases_finite.Statement.{statement}
+use Rattle.shape.proofs.fit_tables.bases_finite.Tie as tie
+use borrow.Author.Needs.{needs}
+use Prim.Native.Nat.{_-_}
+use borrow.Author.Tests.{not-true, not-false}
+use mathlib.Core.Path.{refl, ap, _∙_}
+use mathlib.Core.Path.{sym}
+use Rattle.laws.specs.Lists.{every?}
+use Rattle.laws.specs.Floats.{finite}
+use Rattle.rules.specs.Sheet.{fitOf}
+use Rattle.shape.proofs.Scans.{each-start}
+use Rattle.info.proofs.Elements.{bases-length}
+use Rattle.shape.proofs.Scans.{Each, scan-next, scan-failed, scan-done}
+
+abbrev Inv-loop : tie.InvT-loop
+Inv-loop fit pairs n i₀ i = Each (λ r. finite (r .value)) (every? (λ r. finite (r .value)) (fitOf fit pairs .bases)) (fitOf fit pairs .bases) n i
+
+abbrev μ-loop : tie.MeasureT-loop
+μ-loop fit pairs n i₀ i = n - i
+
+pub bases-finite-spec : {M : Type 1} → statement M
+bases-finite-spec =
+    tie.close
+    (tie.spec
+    Inv-loop
+    μ-loop
+    (λ c κs. search needs)
+    (λ c. each-start _ (bases-length _ _ ∙ sym (c .count-of .ensures)))
+    (λ c κs. search needs)
+    (λ c κs. search needs)
+    (λ c. search needs)
+    (λ c. scan-failed (c .before .before .before .before .loop .inv) (c .before .before .before .loop-test .taken) (c .before .before .base-attribute .ensures) (c .before .is-finite .ensures) (not-true _ (c .if1 .taken)))
+    (λ c. search needs)
+    (λ c. scan-next (c .before .before .before .before .loop .inv) (c .before .before .before .loop-test .taken) (c .before .before .base-attribute .ensures) (c .before .is-finite .ensures) (not-false _ (c .if1 .left)) refl)
+    (λ c. scan-done (c .before .loop .inv) (c .loop-test .left)))

@@ -1,4 +1,0 @@
-pub mod Narrow
-pub mod Standing
-pub mod Sheets
-pub mod Rows

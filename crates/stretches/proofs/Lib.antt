@@ -1,3 +1,0 @@
-pub mod Laying
-pub mod Limiting
-pub mod Narrows
