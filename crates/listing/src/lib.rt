@@ -11,7 +11,7 @@ ghost use Rattle.rules.specs.Answer as answer;
 ghost use Rattle.rules.specs.Answer.{refused};
 ghost use Rattle.rules.specs.Dispatch.{Row};
 ghost use Rattle.listing.specs.Put.{put, puts};
-ghost use Rattle.rules.specs.declared.Hundredths.the-variants.{Cut};
+ghost use Rattle.rules.specs.declared.Hundredths.the-variants.{Rounded};
 ghost use Rattle.rules.specs.declared.Refusal.{Refusal};
 ghost use Rattle.rules.specs.declared.Answer.the-variants.{Refused};
 ghost use Rattle.listing.specs.Pieces.{longest, longestRefusal, headOf, Prints};
@@ -91,9 +91,9 @@ fn put_minus(out: &mut [u8], at: usize, minus: bool) -> usize
 }
 
 // Hundredths with no minus: the whole part, and two digits behind the point.
-fn put_cut(out: &mut [u8], at: usize, count: u64) -> usize
-    requires { ⌜ at + length (decimals (Cut false count)) ≤ length (now out) ⌝ }
-    ensures { λ r. ⌜ put r (now (out .exit)) ≡ puts (decimals (Cut false count)) (put at (now (out .entry))) ⌝ }
+fn put_rounded(out: &mut [u8], at: usize, count: u64) -> usize
+    requires { ⌜ at + length (decimals (Rounded false count)) ≤ length (now out) ⌝ }
+    ensures { λ r. ⌜ put r (now (out .exit)) ≡ puts (decimals (Rounded false count)) (put at (now (out .entry))) ⌝ }
 {
     let point = put_natural(out, at, count / 100);
     let tenths = put_byte(out, point, b'.');
@@ -108,9 +108,9 @@ fn put_hundredths(out: &mut [u8], at: usize, value: Hundredths) -> usize
 {
     match value {
         Hundredths::Star => put_byte(out, at, b'*'),
-        Hundredths::Cut { minus, count } => {
+        Hundredths::Rounded { minus, count } => {
             let next = put_minus(out, at, minus);
-            put_cut(out, next, count)
+            put_rounded(out, next, count)
         }
     }
 }

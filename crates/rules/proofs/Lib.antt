@@ -5,3 +5,5 @@ pub mod Slips
 pub mod Tables
 pub mod Verdicts
 pub mod Loops
+pub mod Nearest
+pub mod Rounding
