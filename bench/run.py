@@ -1,10 +1,10 @@
 #!/usr/bin/env python3
 """Times the library against the patched Rust, on the same sheets, in turn, and prints the tables of docs/SPEED.md.
 
-Usage: run.py [--seconds S] [--counted] [--shared DIR] [NAME ..]: S seconds for each sheet (default 2); with names, of the kinds only
+Usage: run.py [--seconds S] [--counted] [--sources DIR] [NAME ..]: S seconds for each sheet (default 2); with names, of the kinds only
 these. Where valgrind is at hand instructions are counted too; --counted: nothing else.
-Both are built for release first: the library by library/build, the Rust from the sources in DIR by the edits of oracle/build.py,
-without what the oracle adds to print lists and to know places.
+Both are built for release first: the library by library/build, the Rust from the sources in DIR (by default $DOGMA_SOURCES) by the edits of
+oracle/build.py, without what the oracle adds to print lists and to know places.
 """
 import argparse
 import math
@@ -30,12 +30,12 @@ CATEGORIES = build.replace("    report::is_module_category(category_id)\n", "   
 NO_PLACES = [build.replace("        LAST.set(self.number);\n", times=3), build.replace("        LAST.set(self.record.number);\n", times=2)]
 
 
-def rust_sources(shared):
+def rust_sources(sources):
     """The patched Rust without the oracle's report, and the program that times."""
     place = PLACE / "src"
     (place / "calculate").mkdir(parents=True, exist_ok=True)
     for source, goal, edits in build.plan([], False):
-        text = (shared / "docs" / "src" / source).read_text()
+        text = (sources / source).read_text()
         if goal == "calculate/pass_2.rs":
             edits = edits[:1]
         if goal == "calculate/mod.rs":
@@ -55,12 +55,12 @@ def rust_sources(shared):
     return place / "main.rs"
 
 
-def built(shared):
+def built(sources):
     made = subprocess.run([str(ROOT / "library" / "build")], cwd=ROOT, stdout=subprocess.PIPE, text=True)
     if made.returncode != 0:
         sys.exit(made.returncode)
     library = str((ROOT / made.stdout.strip()).resolve())
-    main = rust_sources(shared)
+    main = rust_sources(sources)
     command = ["rustc", "--edition", "2024", "-C", "opt-level=3", "-C", "codegen-units=1", "-A", "warnings", "-C", f"link-arg={library}",
                "-o", str(PLACE / "bench"), str(main)]
     stack = ["cc", "-std=c11", "-O2", "-pthread", "-Iinclude", str(HERE / "stack.c"), library, "-o", str(PLACE / "stack")]
@@ -174,12 +174,12 @@ def memory_table():
 def main():
     arguments = argparse.ArgumentParser()
     arguments.add_argument("--seconds", type=float, default=2.0)
-    arguments.add_argument("--shared", type=pathlib.Path, default=ROOT.parent / "shared")
+    build.add_sources(arguments)
     arguments.add_argument("--counted", action="store_true")
     arguments.add_argument("names", nargs="*")
     given = arguments.parse_args()
     PLACE.mkdir(parents=True, exist_ok=True)
-    built(given.shared)
+    built(build.sources_in(given.sources))
     native = "the library as shipped" if platform.machine() == "x86_64" else "the same proved module as the shipped library's, compiled for this processor (native-lib)"
     if os.environ.get("DOGMA_LIBRARY"):
         native = "an archive that was given, and may be anything"

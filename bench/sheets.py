@@ -33,9 +33,9 @@ def fit(ship_modifiers, item_modifiers, items, bases, attributes=(), depth=256):
     sheet.tables[2] = ship_modifiers + item_modifiers
     sheet.tables[3] = [[8, 1, 0], [9, 2, 0]]
     sheet.tables[6] = [[i, v] for i, v in bases]
-    shared = (0, len(bases))
-    sheet.tables[5] = [object_record(SHIP, 8, category=6, bases=shared), object_record(CHAR, 1)]
-    sheet.tables[5] += [object_record(ITEM, 9, 1, 7, LOW, 1, 1, 1, bases=shared) for _ in range(items)]
+    common = (0, len(bases))
+    sheet.tables[5] = [object_record(SHIP, 8, category=6, bases=common), object_record(CHAR, 1)]
+    sheet.tables[5] += [object_record(ITEM, 9, 1, 7, LOW, 1, 1, 1, bases=common) for _ in range(items)]
     return sheet.bytes()
 
 

@@ -92,7 +92,8 @@ CASES = [
     ("divided-by-0", "PostDiv by 0: refused 8, place the object divided", sheet((), [[1, 1, 0, 0, 0, 1]], [modifier(4, 2, 6, 20, 37)], [[9, 1, 0]],
      [thing(SHIP), thing(CHAR, bases=(0, 1)), module((1, 1))], [[37, 8.0], [20, 0.0]]), "refused 8 1\n"),
     ("slip-walk", "char and projected object would both be refused at depth 1; the walk meets the projected one first",
-     sheet([attribute(20, 0, 37)], objects=[thing(SHIP), thing(CHAR, bases=(0, 2)), thing(PROJECTED, bases=(0, 2))], bases=[[20, 1.0], [37, 2.0]], depth=1),
+     sheet([attribute(20, 0, 37)], objects=[thing(SHIP), thing(CHAR, bases=(0, 2)), thing(PROJECTED, quantity=1, bases=(0, 2))],
+           bases=[[20, 4.0], [37, 5.0]], depth=1),
      "refused 9 2\n"),
     ("slip-mode", "the ship adds 5 to 37 of all in its location; the mode's 37 stays", by_ship([modifier(2, 1, 3, 20, 37)],
      [HULL, thing(MODE, bases=(1, 1)), thing(CHAR)], [[20, 5.0], [37, 10.0]]), None),
@@ -132,7 +133,9 @@ def main():
         (HERE / f"{name}.sheet").write_bytes(data)
         (HERE / f"{name}.txt").write_text(printed)
         account.append(f"| {name} | {len(data)} | {what} | {'; '.join(printed.splitlines())} |")
-    account += ["", "`kept.bin` has sheets with the oracle's answers, every list of them; [KEPT.md](KEPT.md) names each and says how it is read.",
+    account += ["", "Down to divided-by-0 they are the sheets of `crates/rules/proofs/Marked.antt`, and the four slips those of `crates/rules/proofs/Slips.antt`, byte for byte: "
+                "what they print is proved there of the definition. docs/FORMAT.md explains case L byte by byte, and why each of the refused is.",
+                "`kept.bin` has sheets with the oracle's answers, every list of them; [KEPT.md](KEPT.md) names each and says how it is read.",
                 "`make_damaged.py` makes the sheets of crates/shape_test."]
     (HERE / "README.md").write_text("\n".join(account) + "\n")
     print(len(CASES), "cases")

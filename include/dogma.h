@@ -8,6 +8,8 @@
  * Any bytes are taken: a damaged sheet is refused with a number and a place. What is demanded of the caller, since the
  * engine cannot test it, stands at DOGMA_DEMANDS below; dogma_calculate_checked tests it, and DOGMA_LEND counts arrays
  * itself, so that a wrong length does not compile. Use these two unless there is a reason not to.
+ *
+ * What a sheet's bytes are, and what every code and number means, is in docs/FORMAT.md.
  */
 #ifndef DOGMA_H
 #define DOGMA_H

@@ -2,11 +2,13 @@
 """Builds the Rust oracle from the original sources by explicit edits.
 
 Every edit names the text that it expects; one that is not there, or not as often as said, ends the build.
-Usage: build.py [--leave powers] [--leave clamps] [--shared DIR]. The program is target/oracle/oracle; with one of the own rules left out,
+Usage: build.py [--leave powers] [--leave clamps] [--sources DIR]. The program is target/oracle/oracle; with one of the own rules left out,
 target/oracle/unpatched-powers or unpatched-clamps; with both left out, unpatched-powers-clamps. build.py --guarded builds
 target/oracle/guarded, which refuses by rooms, float steps and depth as well, each tested where the Rust does the thing.
+DIR is a checkout of the original, the one that NOTICE names; without --sources it is $DOGMA_SOURCES.
 """
 import argparse
+import os
 import pathlib
 import subprocess
 import sys
@@ -163,13 +165,28 @@ OWN_FILES = {
 }
 
 
-def build(shared, left, guarded):
+def add_sources(arguments):
+    arguments.add_argument("--sources", metavar="DIR", default=os.environ.get("DOGMA_SOURCES"),
+                           help="a checkout of EVEShipFit/dogma-engine at the commit in NOTICE; by default $DOGMA_SOURCES")
+
+
+def sources_in(named):
+    """The folder of the original's sources, or an end that says what is missing."""
+    if not named:
+        sys.exit("the original's sources are not here: name a checkout of EVEShipFit/dogma-engine (its commit is in NOTICE) by --sources DIR or $DOGMA_SOURCES")
+    missing = [source for source, _, _ in plan([], False) if not (pathlib.Path(named) / source).is_file()]
+    if missing:
+        sys.exit(f"{named} has no {missing[0]}: it is to be a checkout of EVEShipFit/dogma-engine (its commit is in NOTICE)")
+    return pathlib.Path(named)
+
+
+def build(sources, left, guarded):
     name = "guarded" if guarded else "-".join(["unpatched", *left]) if left else "oracle"
     target = ROOT / "target" / "oracle"
     place = target / (name + "-src")
     (place / "calculate").mkdir(parents=True, exist_ok=True)
     for source, goal, edits in plan(left, guarded):
-        text = (shared / "docs" / "src" / source).read_text()
+        text = (sources / source).read_text()
         for edit in edits:
             try:
                 text = edit(text)
@@ -189,11 +206,11 @@ def main():
     arguments = argparse.ArgumentParser()
     arguments.add_argument("--leave", choices=["powers", "clamps"], action="append", default=[])
     arguments.add_argument("--guarded", action="store_true")
-    arguments.add_argument("--shared", type=pathlib.Path, default=ROOT.parent / "shared")
+    add_sources(arguments)
     given = arguments.parse_args()
     if given.guarded and given.leave:
         arguments.error("a guarded build has the own rules")
-    print(build(given.shared, sorted(set(given.leave), reverse=True), given.guarded))
+    print(build(sources_in(given.sources), sorted(set(given.leave), reverse=True), given.guarded))
 
 
 if __name__ == "__main__":

@@ -359,7 +359,9 @@ def main():
     if given.listing:
         sys.exit(listings(kinds, given.seed, given.listing) > 0)
     if not GUARDED.exists():
-        subprocess.run([sys.executable, str(HERE / "build.py"), "--guarded"], check=True)
+        made = subprocess.run([sys.executable, str(HERE / "build.py"), "--guarded"])
+        if made.returncode != 0:
+            sys.exit(made.returncode)
     words = build(given.emulated)
     jobs = []
     for kind, count in kinds.items():

@@ -349,10 +349,10 @@ def huge(r):
     effects = 1024 if way in ("collected", "plain") else 1
     t[1] = [[i, 0, 0, 0, 0, 0 if way == "plain" else modifiers] for i in range(effects)]
     t[3] = [[9 if way in ("collected", "plain") else 8, i, 0] for i in range(effects)]
-    shared = (0, bases)
+    common = (0, bases)
     quantity = r.choice([8, 9, 2 ** 32 - 1]) if way == "copies" else 1
-    t[5] = [object_record(SHIP, 8, category=7, quantity=quantity, bases=shared), object_record(CHAR, 1)]
-    t[5] += [object_record(ITEM, 9, 1, 7, 3, 1, bases=shared) for _ in range(objects)]
+    t[5] = [object_record(SHIP, 8, category=7, quantity=quantity, bases=common), object_record(CHAR, 1)]
+    t[5] += [object_record(ITEM, 9, 1, 7, 3, 1, bases=common) for _ in range(objects)]
     return sheet
 
 

@@ -15,7 +15,7 @@ use Rattle.promises.specs.Sheets.{Deeper}
 use Rattle.promises.specs.Wider.{Longer}
 
 -- case L with recording, where each item has also an effect without modifiers
-abbrev recorded : List ℕ
+abbrev pub recorded : List ℕ
 recorded =
     set (sheet 2
     (attribute 20 2 0 0 0 ∷ attribute 37 2 0 0 0 ∷ [])
@@ -27,7 +27,7 @@ recorded =
     []) 96 1
 
 -- lists of these lengths
-abbrev lists : (collected rows entries plain sources : ℕ) → Lent
+abbrev pub lists : (collected rows entries plain sources : ℕ) → Lent
 lists c r e p s =
     record { collected = c; collectedValues = c; rows = r; bases = r; values = r; entries = e; entryValues = e; plain = p; sources = s; sourceFloats = s }
 

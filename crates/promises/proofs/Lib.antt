@@ -18,3 +18,4 @@ pub mod NoMemoryRun
 pub mod NoMemorySame
 pub mod NoMemory
 pub mod NoMemoryLoops
+pub mod Wrong

@@ -61,11 +61,22 @@ abbrev pub pairs : ℕ → List (List (List ℕ)) → List ℕ
 pairs at [] = []
 pairs at (t ∷ ts) = words (length t ∷ at ∷ []) ++ pairs (at + length (flat (λ r. r) t)) ts
 
--- a sheet: CATEGORY_MODULE is 7; tables 5, 8 and 9 are empty
+-- operation, first modifier and count
+abbrev pub collection : ℕ → ℕ → ℕ → ℕ → List ℕ
+collection id operation first count = words (id ∷ operation ∷ first ∷ count ∷ [])
+
+abbrev pub buff : ℕ → ℕ → List ℕ
+buff id value = words (id ∷ []) ++ bytes 8 value
+
+-- a sheet: CATEGORY_MODULE is 7; table 8 is empty
+abbrev pub sheetOf : ℕ → ℕ → (attributes effects modifiers types collections objects bases buffs asks : List (List ℕ)) → List ℕ
+sheetOf depth recording attributes effects modifiers types collections objects bases buffs asks =
+    let tables = attributes ∷ effects ∷ modifiers ∷ types ∷ collections ∷ objects ∷ bases ∷ [] ∷ buffs ∷ asks ∷ [] in
+    pairs 100 tables ++ (words (7 ∷ 0 ∷ 0 ∷ depth ∷ recording ∷ []) ++ flat (flat (λ r. r)) tables)
+
+-- one without recording, where tables 5 and 9 are empty too
 abbrev pub sheet : ℕ → (attributes effects modifiers types objects bases asks : List (List ℕ)) → List ℕ
-sheet depth attributes effects modifiers types objects bases asks =
-    let tables = attributes ∷ effects ∷ modifiers ∷ types ∷ [] ∷ objects ∷ bases ∷ [] ∷ [] ∷ asks ∷ [] in
-    pairs 100 tables ++ (words (7 ∷ 0 ∷ 0 ∷ depth ∷ 0 ∷ []) ++ flat (flat (λ r. r)) tables)
+sheet depth attributes effects modifiers types objects bases asks = sheetOf depth 0 attributes effects modifiers types [] objects bases [] asks
 
 -- bytes from their hexadecimal digits
 abbrev pub digit : Char → ℕ

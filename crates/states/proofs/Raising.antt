@@ -26,7 +26,7 @@ use mir.Val.{SFits, toZ, ofZ}
 use mir.ValLaws.{toZ-ofZ}
 use Rattle.rules.specs.Codes.{categoryAt}
 use Rattle.info.proofs.Elements.{type-effects-length}
-use Rattle.states.specs.Raised.{among, reachOn, raisedBy, raisedOver, reachedOf}
+use Rattle.states.specs.Raised.{among, reachOn, raisedIn, raisedOver, reachedOf}
 
 -- count places from first on, as those up to the end
 span-ended : {A : Type 0} (first count : ℕ) (l : List A) → span first count l ≡ span first (first + count - first) l
@@ -93,7 +93,7 @@ module _ (k : Book) (o : Item) where
   own-raised : (m : ℕ) (l : List TypeDogmaEffect) → raisedOver k o [] m l ≡ highest m (map (reachOn k o) l)
   own-raised m l = ap (λ (q : List TypeDogmaEffect). highest m (map (reachOn k o) q)) (keep-all (λ t. true) l (every-true l))
 
-  module _ (first count : ℕ) {top : ℕ} (own : getDogmaEffects k (o .«type_id») ≡ span first count (k .typeEffects)) (t : top ≡ raisedBy k o first count 0 0 (o .«max_state»)) where
+  module _ (first count : ℕ) {top : ℕ} (own : getDogmaEffects k (o .«type_id») ≡ span first count (k .typeEffects)) (t : top ≡ raisedIn k o first count 0 0 (o .«max_state»)) where
     own-top : top ≡ highest (o .«max_state») (map (reachOn k o) (getDogmaEffects k (o .«type_id»)))
     own-top = t ∙ own-raised (o .«max_state») (span first count (k .typeEffects)) ∙ rw own refl
 
@@ -101,7 +101,7 @@ module _ (k : Book) (o : Item) where
     unfolding reachedOf effectsOf
     reached-own h = rw h own-top
 
-    pub reached-base : (start many : ℕ) {r : ℕ} → mutated o ≡ true → getDogmaEffects k (o .«mutation_base») ≡ span start many (k .typeEffects) → r ≡ raisedBy k o start many first count top → r ≡ reachedOf k o
+    pub reached-base : (start many : ℕ) {r : ℕ} → mutated o ≡ true → getDogmaEffects k (o .«mutation_base») ≡ span start many (k .typeEffects) → r ≡ raisedIn k o start many first count top → r ≡ reachedOf k o
     unfolding reachedOf effectsOf
     reached-base start many h base e = rw h (e ∙ rw (← own, ← base, own-top, map-append, highest-append) refl)
 

@@ -37,8 +37,8 @@ abbrev pub raisedOver : Book → Item → List TypeDogmaEffect → ℕ → List 
 raisedOver k o own m l = highest m (map (reachOn k o) (keep (λ t. not (among own t)) l))
 
 -- the same by places in the table
-abbrev pub raisedBy : Book → Item → ℕ → ℕ → ℕ → ℕ → ℕ → ℕ
-raisedBy k o first count own owned m = raisedOver k o (span own owned (k .typeEffects)) m (span first count (k .typeEffects))
+abbrev pub raisedIn : Book → Item → ℕ → ℕ → ℕ → ℕ → ℕ → ℕ
+raisedIn k o first count own owned m = raisedOver k o (span own owned (k .typeEffects)) m (span first count (k .typeEffects))
 
 -- by all its effects
 unfoldable pub reachedOf : Book → Item → ℕ

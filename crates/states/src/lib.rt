@@ -35,7 +35,7 @@ ghost use Rattle.rules.specs.Item.{isItem, isCharge, itemOf, passed, structureF
 ghost use Rattle.rules.specs.States.{collectedStates, statesOf};
 ghost use Rattle.info.specs.Sound.{HeldBook, HeldFit, SoundBook, SoundFit};
 ghost use Rattle.item.specs.Categories.{CategoriesOf};
-ghost use Rattle.states.specs.Raised.{among, both, reachOn, raisedBy, reachedOf, ableOf, ObjectOf, rowsOf};
+ghost use Rattle.states.specs.Raised.{among, both, reachOn, raisedIn, reachedOf, ableOf, ObjectOf, rowsOf};
 
 // The higher and the lower of two states.
 pub fn higher(a: u32, b: u32) -> u32
@@ -159,7 +159,7 @@ fn raised(
     requires { ⌜ SoundBook (now book) (now pairs) ⌝ }
     requires { ⌜ first + count ≤ countOf (now pairs) 4 ⌝ }
     requires { ⌜ own + owned ≤ countOf (now pairs) 4 ⌝ }
-    ensures { λ r. ⌜ r ≡ raisedBy (bookOf (now (book .entry)) (now (pairs .entry))) o first count own owned start ⌝ }
+    ensures { λ r. ⌜ r ≡ raisedIn (bookOf (now (book .entry)) (now (pairs .entry))) o first count own owned start ⌝ }
 {
     let end = first + count;
     let mut top = start;

@@ -9,11 +9,11 @@ use mathlib.Core.Path.{_≡_, sym, ap, _∙_}
 use mathlib.Core.Bool.{not}
 use Rattle.laws.specs.Lists.{span}
 use Rattle.rules.specs.Sheet.{bookOf}
-use Rattle.states.specs.Raised.{raisedBy, raisedOver}
+use Rattle.states.specs.Raised.{raisedIn, raisedOver}
 use Rattle.states.proofs.Raising.{raised-start, raise-by, raise-over, raise-end, inside-types}
 
 abbrev Inv-loop : tie.InvT-loop
-Inv-loop book pairs o first count own owned start end top₀ i₀ top i = raisedBy (bookOf book pairs) o first count own owned start ≡ raisedOver (bookOf book pairs) o (span own owned (bookOf book pairs .typeEffects)) top (span i (end - i) (bookOf book pairs .typeEffects))
+Inv-loop book pairs o first count own owned start end top₀ i₀ top i = raisedIn (bookOf book pairs) o first count own owned start ≡ raisedOver (bookOf book pairs) o (span own owned (bookOf book pairs .typeEffects)) top (span i (end - i) (bookOf book pairs .typeEffects))
 
 abbrev μ-loop : tie.MeasureT-loop
 μ-loop book pairs o first count own owned start end top₀ i₀ top i = end - i
