@@ -30,8 +30,9 @@ fn counted(field: u64, digits: u64) -> u64
     LIMIT
 }
 
+// The nearest hundredth of a value, halves away from zero, or that it is too large to print.
 pub fn in_hundredths(x: f64) -> Hundredths
-    ensures { λ r. ⌜ r ≡ hundredthsOf x ⌝ }
+    ensures defined { λ r. ⌜ r ≡ hundredthsOf x ⌝ }
 {
     if x != x {
         return Hundredths::Star;

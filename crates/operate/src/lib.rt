@@ -1,6 +1,8 @@
 // What one operator does to a value with the values that it gathers, one by one (pass_3.rs).
 use buckets::Bucket;
 use buckets::insert;
+use columns::CopySources;
+use columns::CopyValues;
 use numbers::as_float;
 use numbers::less;
 use numbers::power;
@@ -18,25 +20,35 @@ ghost use Rattle.laws.specs.Floats.{finite};
 ghost use Rattle.rules.specs.Number as N;
 ghost use Rattle.rules.specs.Operate.{Copy, Values, hasPenalty, applied};
 ghost use Rattle.rules.specs.Value.{withStack};
-ghost use Rattle.operate.specs.Held.{Gathered, bucket};
+ghost use Rattle.operate.specs.Held.{Gathered, bucketBefore, bucketAfter};
 ghost use lib.ListN.{length};
-ghost use Rattle.operate.specs.SoFar.{better, chosenOf, addedOne, multipliedOne, plainlyOne, stepOf, RunningOf, copiesFrom};
+ghost use Rattle.operate.specs.SoFar.{set?, better, chosenOf, addedOne, multipliedOne, plainlyOne, stepOf, RunningOf, copiesFrom};
 
 // What an operator has made of its unpenalised values so far, whether that is finite, and whether there was one.
+// Yes is 1: flags of four bytes leave no gap that would be copied with each entry.
 pub struct Running {
     pub value: f64,
-    pub finite: bool,
-    pub any: bool,
+    pub finite: u32,
+    pub any: u32,
+}
+
+fn is_set(flag: u32) -> bool
+    ensures { λ r. ⌜ r ≡ set? flag ⌝ }
+{
+    if flag == 0 {
+        return false;
+    }
+    true
 }
 
 // No value is there yet.
 pub fn start(v: f64) -> Running
-    ensures { λ r. ⌜ ((high : Bool) (op : EffectOperator) → T (finite v) → RunningOf high op v [] r) ⌝ }
+    ensures nothing_yet { λ r. ⌜ ((high : Bool) (op : EffectOperator) → T (finite v) → RunningOf high op v [] r) ⌝ }
 {
     Running {
         value: v,
-        finite: true,
-        any: false,
+        finite: 1,
+        any: 0,
     }
 }
 
@@ -44,7 +56,7 @@ pub fn start(v: f64) -> Running
 fn step_so_far(running: Running) -> Step
     ensures { λ r. ⌜ r ≡ stepOf running ⌝ }
 {
-    if running.finite {
+    if is_set(running.finite) {
         return Step::Finite(running.value);
     }
     Step::NotFinite
@@ -111,8 +123,9 @@ fn stepped(running: Running, high: bool, operator: EffectOperator, x: f64, quant
     ensures { λ r. ⌜ r ≡ plainlyOne high operator running x quantity ⌝ }
 {
     let step = step_so_far(running);
+    let any = is_set(running.any);
     match operator {
-        EffectOperator::PreAssign => chosen(high, running.any, step, x),
+        EffectOperator::PreAssign => chosen(high, any, step, x),
         EffectOperator::PreMul => multiplied(step, x, quantity),
         EffectOperator::PreDiv => multiplied(step, x, quantity),
         EffectOperator::ModAdd => added(step, x, quantity),
@@ -120,7 +133,7 @@ fn stepped(running: Running, high: bool, operator: EffectOperator, x: f64, quant
         EffectOperator::PostMul => multiplied(step, x, quantity),
         EffectOperator::PostDiv => multiplied(step, x, quantity),
         EffectOperator::PostPercent => multiplied(step, x, quantity),
-        EffectOperator::PostAssign => chosen(high, running.any, step, x),
+        EffectOperator::PostAssign => chosen(high, any, step, x),
     }
 }
 
@@ -132,7 +145,9 @@ pub fn more(
     x: f64,
     quantity: u32,
 ) -> Running
-    ensures { λ r. ⌜ ((v : Float) (g : Values) → T (finite x) → RunningOf high operator v (g .unpenalized) running → RunningOf high operator v (withStack x quantity g .unpenalized) r) ⌝ }
+    ensures one_more { λ r.
+        ⌜ ((v : Float) (g : Values) → T (finite x) → RunningOf high operator v (g .unpenalized) running
+        → RunningOf high operator v (withStack x quantity g .unpenalized) r) ⌝ }
 {
     if quantity == 0 {
         return running;
@@ -141,20 +156,23 @@ pub fn more(
     match step {
         Step::Finite(value) => Running {
             value,
-            finite: true,
-            any: true,
+            finite: 1,
+            any: 1,
         },
         Step::NotFinite => Running {
             value: 0.0,
-            finite: false,
-            any: true,
+            finite: 0,
+            any: 1,
         },
     }
 }
 
 // The penalised copies after the unpenalised values: positives go first.
 pub fn finished(running: Running, positive: Bucket, negative: Bucket) -> Step
-    ensures { λ r. ⌜ ((high : Bool) (op : EffectOperator) (v : Float) (g : Values) → RunningOf high op v (g .unpenalized) running → Gathered (g .positive) positive → Gathered (g .negative) negative → (hasPenalty op ≡ false → (g .positive ≡ []) × (g .negative ≡ [])) → r ≡ applied high op v g) ⌝ }
+    ensures defined { λ r.
+        ⌜ ((high : Bool) (op : EffectOperator) (v : Float) (g : Values) → RunningOf high op v (g .unpenalized) running
+        → Gathered (g .positive) positive → Gathered (g .negative) negative → (hasPenalty op ≡ false → (g .positive ≡ []) × (g .negative ≡ []))
+        → r ≡ applied high op v g) ⌝ }
 {
     let step = step_so_far(running);
     let Step::Finite(plain) = step else {
@@ -169,18 +187,20 @@ pub fn finished(running: Running, positive: Bucket, negative: Bucket) -> Step
 
 // So many copies more in the columns of a bucket, whose source rows are the first, and a step on each time: how many were put in then.
 pub fn put_copies(
-    values: &mut [f64; 8],
-    sources: &mut [u32; 8],
+    values: &mut CopyValues,
+    sources: &mut CopySources,
     count: usize,
     x: f64,
     first: u32,
     step: u32,
     copies: u32,
 ) -> usize
-    requires { ⌜ first + copies * step < 2 ^ 32 ⌝ }
-    requires { ⌜ (length (now values) ≡ 8) × (length (now sources) ≡ 8) ⌝ }
-    ensures { λ r. ⌜ ((xs : List Copy) → Gathered xs (bucket (now (values .entry)) (now (sources .entry)) count) → T (finite x) → Gathered (xs ++ copiesFrom x first step copies) (bucket (now (values .exit)) (now (sources .exit)) r)) ⌝ }
-    ensures { λ _. ⌜ (length (now (values .exit)) ≡ 8) × (length (now (sources .exit)) ≡ 8) ⌝ }
+    requires counted { ⌜ first + copies * step < 2 ^ 32 ⌝ }
+    requires eight { ⌜ (length (now values) ≡ 8) × (length (now sources) ≡ 8) ⌝ }
+    ensures so_many_more { λ r.
+        ⌜ ((xs : List Copy) → Gathered xs (bucketBefore values sources count) → T (finite x)
+        → Gathered (xs ++ copiesFrom x first step copies) (bucketAfter values sources r)) ⌝ }
+    ensures eight_still { λ _. ⌜ (length (now (values .exit)) ≡ 8) × (length (now (sources .exit)) ≡ 8) ⌝ }
 {
     let mut n = count;
     let mut source = first;

@@ -28,7 +28,8 @@ use Rattle.rules.specs.declared.Pass2Effect.{Pass2Effect}
 use Rattle.rows.specs.Tallies.{Tally, idOf, baseOf, tallyNumbers, narrow?, rowKey, hitNumber, hitId, Numbered, tallied, tallyOf, Stretch, Answered}
 use Rattle.rows.specs.declared.rows.Laid.{Laid}
 use Rattle.rows.specs.declared.rows.Laid.the-variants.{Rows, Full}
-use Rattle.rows.specs.Entries.{times, rowsFrom, rowCount, started, effectNumber, effectAt, hitsAt, spreadOver, hitsIn, rowFor, rowsFor, Counted, Spreading}
+use Rattle.info.specs.Stands.{effectAt}
+use Rattle.rows.specs.Entries.{times, rowsFrom, rowCount, started, effectNumber, hitsAt, spreadOver, hitsIn, rowFor, rowsFor, Counted, Spreading}
 use Rattle.rows.proofs.Defined.{hits-targets, spread-entries, rows-numbers}
 use Rattle.rows.proofs.Begins.{tallied-counted, spreading, begun-keys}
 use Rattle.rows.proofs.Tallied.{tallied-is}

@@ -1,9 +1,11 @@
+pub mod Results
 pub mod Everything
 pub mod Written
 pub mod Marked
 pub mod Slips
 pub mod Tables
 pub mod Verdicts
+pub mod Ranked
 pub mod Loops
 pub mod Nearest
 pub mod Rounding
