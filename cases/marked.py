@@ -15,7 +15,7 @@ import make_sheets
 import reference
 
 SHIP, MODE, CHAR, ITEM, CHARGE, SKILL, PROJECTED = range(7)
-L_TEXT = "rows 3\n0 37 430.36\n2 20 50.00\n3 20 50.00\n"
+L_TEXT = "rows 3\n0 37 430.37\n2 20 50.00\n3 20 50.00\n"
 
 
 def thing(kind, type_id=0, category=0, slot=0, quantity=0, state=0, bases=(0, 0), effect=0):
@@ -81,8 +81,8 @@ CASES = [
     ("pre-div", "PreDiv by 4 on 8, quantity 1: 2", changed(2, 8.0, 4.0, 1, 0), "rows 3\n0 37 2.00\n2 20 4.00\n3 20 5.00\n"),
     ("clamps", "value 4, min 5, max 3: 3", sheet([attribute(20, 0, 37, 38)], objects=[thing(SHIP, bases=(0, 3)), thing(CHAR)],
      bases=[[20, 4.0], [37, 5.0], [38, 3.0]]), "rows 3\n0 20 3.00\n0 37 5.00\n0 38 3.00\n"),
-    ("skill-cut", "a skill base of 3.9 requires type 3", skilled(3, 3.9), "rows 3\n0 20 5.00\n2 37 6.00\n2 182 3.89\n"),
-    ("skill-cut-up", "one of -3.9 requires type -3", skilled(-3, -3.9), "rows 3\n0 20 5.00\n2 37 6.00\n2 182 -3.89\n"),
+    ("skill-cut", "a skill base of 3.9 requires type 3", skilled(3, 3.9), "rows 3\n0 20 5.00\n2 37 6.00\n2 182 3.90\n"),
+    ("skill-cut-up", "one of -3.9 requires type -3", skilled(-3, -3.9), "rows 3\n0 20 5.00\n2 37 6.00\n2 182 -3.90\n"),
     ("skill-held", "one of 3,000,000,000 requires type 2,147,483,647", skilled(2147483647, 3e9), "rows 3\n0 20 5.00\n2 37 6.00\n2 182 3000000000.00\n"),
     ("not-resisted", "attribute 2138 at 0.9, the effect's own resistance 0: none", sheet((), [[1, 0, 0, 0, 0, 1]], [modifier(4, 5, 3, 20, 37)], (),
      [thing(SHIP, bases=(0, 3)), thing(CHAR), thing(PROJECTED, quantity=1, bases=(3, 2), effect=1)],

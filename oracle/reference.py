@@ -631,8 +631,8 @@ def bits(x):
 
 
 def hundredths(x):
-    """Two decimals cut toward zero from the exact value."""
-    count = abs(Fraction(x) * 100).__floor__()
+    """The nearest hundredth of the exact value, halves away from zero."""
+    count = (abs(Fraction(x) * 100) + Fraction(1, 2)).__floor__()
     if count >= 10 ** 14:
         return "*"
     return f"{'-' if x < 0 and count > 0 else ''}{count // 100}.{count % 100:02d}"

@@ -113,10 +113,11 @@ def cut(a):
 
 
 def hundredths(a):
+    """The nearest hundredth of the exact value, halves away from zero; a star from 10^12 up, rounded."""
     x = exact(a)
-    if abs(x) >= 10**12:
+    count = (abs(x.numerator) * 200 + x.denominator) // (2 * x.denominator)
+    if count >= 10**14:
         return STAR
-    count = abs(x.numerator) * 100 // x.denominator
     return count + (TOP if x < 0 and count else 0)
 
 
@@ -160,7 +161,7 @@ def lines(rng):
     for n in [0, 1, 2147483647, 2147483648, 2147483649, 4294967295] + [rng.getrandbits(32) for _ in range(10)]:
         yield "i", n, 0, n
         yield "q", n, 0, rounded(Fraction(n), False)
-    near = [1e12, 999999999999.99, 1e11, 0.01, 0.005, 0.015, 1.15, 3.9, 0.29, 4.35, 1e-300, 1e15, 1e300, 0.0, 5e-324, 430.36, 99.995, 123456789.125, 0.009999999999999999]
+    near = [1e12, 999999999999.99, 999999999999.995, 999999999999.9951171875, 0.125, 0.375, 1.005, 2.675, 0.004, 0.0078125, 0.00390625, 1e11, 0.01, 0.005, 0.015, 1.15, 3.9, 0.29, 4.35, 1e-300, 1e15, 1e300, 0.0, 5e-324, 430.36, 99.995, 123456789.125, 0.009999999999999999]
     for n in sorted({m for x in near for m in (bits(x), bits(x) + 1, max(bits(x) - 1, 0))}):
         yield "h", n, 0, hundredths(n)
         yield "h", n + TOP, 0, hundredths(n + TOP)

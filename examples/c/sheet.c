@@ -20,7 +20,7 @@ static dogma_plain plain[ROOM];
 static dogma_source sources[ROOM];
 static dogma_source_value source_values[ROOM];
 
-/* Two decimals, cut toward zero from the exact value; `*` from 10^12 up. */
+/* The nearest hundredth of the exact value, halves away from zero; `*` where that reaches 10^12. */
 static void print_value(double value)
 {
     uint64_t bits;
@@ -34,7 +34,11 @@ static void print_value(double value)
     const int exponent = (int)(bits >> 52 & 0x7ff);
     const uint64_t mantissa = (bits & 0xfffffffffffff) | (exponent > 0 ? UINT64_C(1) << 52 : 0);
     const int shift = 1075 - (exponent > 0 ? exponent : 1);
-    const uint64_t hundredths = shift < 64 ? mantissa * 100 >> shift : 0;
+    const uint64_t hundredths = shift < 64 ? ((mantissa * 200 >> shift) + 1) >> 1 : 0;
+    if (hundredths >= UINT64_C(100000000000000)) {
+        putchar('*');
+        return;
+    }
     printf("%s%" PRIu64 ".%02" PRIu64, value < 0.0 && hundredths > 0 ? "-" : "", hundredths / 100, hundredths % 100);
 }
 

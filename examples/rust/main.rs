@@ -5,7 +5,7 @@ use std::process::ExitCode;
 
 use dogma::{Engine, Fit, Rooms};
 
-/// Two decimals, cut toward zero from the exact value; `*` from 10^12 up.
+/// The nearest hundredth of the exact value, halves away from zero; `*` where that reaches 10^12.
 fn shown(value: f64) -> String {
     if value.abs() >= 1e12 {
         return String::from("*");
@@ -15,7 +15,10 @@ fn shown(value: f64) -> String {
     let fraction = value.to_bits() & ((1 << 52) - 1);
     let mantissa = if exponent > 0 { fraction | 1 << 52 } else { fraction };
     let shift = 1075 - exponent.max(1);
-    let hundredths = if shift < 64 { (mantissa * 100) >> shift } else { 0 };
+    let hundredths = if shift < 64 { (((mantissa * 200) >> shift) + 1) >> 1 } else { 0 };
+    if hundredths >= 100_000_000_000_000 {
+        return String::from("*");
+    }
     let sign = if value < 0.0 && hundredths > 0 { "-" } else { "" };
     format!("{sign}{}.{:02}", hundredths / 100, hundredths % 100)
 }

@@ -4,7 +4,7 @@ use mathlib.Core.Path.{_≡_, sym, ap}
 use mathlib.Core.Bool.{Bool, false}
 use mathlib.Core.List.{List, [], _∷_, _++_}
 use Rattle.rules.specs.declared.Hundredths.{Hundredths}
-use Rattle.rules.specs.declared.Hundredths.the-variants.{Cut, Star}
+use Rattle.rules.specs.declared.Hundredths.the-variants.{Rounded, Star}
 use Rattle.rules.specs.Listing.{minusIf, decimals}
 
 abbrev pub hundredth : ℕ → List ℕ
@@ -20,6 +20,6 @@ pub star-text : {h : Hundredths} → h ≡ Star → 42 ∷ [] ≡ decimals h
 unfolding decimals
 star-text e = sym (ap decimals e)
 
-pub cut-text : {h : Hundredths} (s : Bool) (c : ℕ) → h ≡ Cut s c → minusIf s ++ decimals (Cut false c) ≡ decimals h
+pub rounded-text : {h : Hundredths} (s : Bool) (c : ℕ) → h ≡ Rounded s c → minusIf s ++ decimals (Rounded false c) ≡ decimals h
 unfolding decimals
-cut-text s c e = sym (ap decimals e)
+rounded-text s c e = sym (ap decimals e)

@@ -12,8 +12,8 @@ use mir.Syntax.{w32}
 use mir.Val.{SFits}
 use borrow.Author.Tests.{leb-false}
 use Rattle.rules.specs.declared.Hundredths.{Hundredths}
-use Rattle.rules.specs.declared.Hundredths.the-variants.{Cut, Star}
-use Rattle.rules.specs.Number.{cutAt, hundredthsOf}
+use Rattle.rules.specs.declared.Hundredths.the-variants.{Rounded, Star}
+use Rattle.rules.specs.Number.{roundedAt, hundredthsOf}
 use Rattle.rules.specs.Listing.{natural, integer, minusIf, decimals}
 use Rattle.listing.proofs.Digits.{natural-short}
 use Rattle.listing.proofs.Decimals.{point}
@@ -30,25 +30,25 @@ minus-short : (s : Bool) → length (minusIf s) ≤ 1
 minus-short true = omega arith
 minus-short false = omega arith
 
-cut-short : (s : Bool) (c : ℕ) → c < 10 ^ 14 → length (decimals (Cut s c)) ≤ 16
+rounded-short : (s : Bool) (c : ℕ) → c < 10 ^ 14 → length (decimals (Rounded s c)) ≤ 16
 unfolding decimals
-cut-short s c h =
+rounded-short s c h =
     let a = length-append (minusIf s) (natural (c / 100) ++ point c) in
     let b = length-append (natural (c / 100)) (point c) in
     omega (arith, a, b, minus-short s, natural-short 11 (c / 100) (omega (arith, h)))
 
-at-short : (s : Bool) (c : ℕ) → length (decimals (cutAt s c)) ≤ 16
+at-short : (s : Bool) (c : ℕ) → length (decimals (roundedAt s c)) ≤ 16
 at-short s c = go (leb (10 ^ 14) c) refl
   where
-    go : (b : Bool) → leb (10 ^ 14) c ≡ b → length (decimals (cond b Star (Cut (s && ltb 0 c) c))) ≤ 16
+    go : (b : Bool) → leb (10 ^ 14) c ≡ b → length (decimals (cond b Star (Rounded (s && ltb 0 c) c))) ≤ 16
     go true e = unfold decimals in omega arith
-    go false e = cut-short (s && ltb 0 c) c (leb-false (10 ^ 14) c e)
+    go false e = rounded-short (s && ltb 0 c) c (leb-false (10 ^ 14) c e)
 
 pub decimals-short : (v : Float) → length (decimals (hundredthsOf v)) ≤ 16
 unfolding hundredthsOf decimals
 decimals-short nan = omega arith
 decimals-short (inf s) = omega arith
-decimals-short (fin s m e) = at-short s (m * up e * 100 / down e)
+decimals-short (fin s m e) = at-short s ((m * up e * 200 + down e) / (2 * down e))
 
 -- so room for the longest is room for each
 pub integer-room : (x : ℤ) (at n : ℕ) → SFits w32 x → at + 11 ≤ n → at + length (integer x) ≤ n

@@ -12,7 +12,7 @@ ghost use Rattle.rules.specs.Answer.{Res, ok, refused};
 ghost use Rattle.rules.specs.Outcome.{Done};
 ghost use Rattle.rules.specs.Dispatch.{Row};
 ghost use Rattle.listing.specs.Put.{Added, Begins};
-ghost use Rattle.rules.specs.declared.Hundredths.the-variants.{Cut};
+ghost use Rattle.rules.specs.declared.Hundredths.the-variants.{Rounded};
 ghost use Rattle.rules.specs.declared.Refusal.{Refusal};
 ghost use Rattle.rules.specs.declared.Answer.the-variants.{Refused};
 ghost use Rattle.listing.specs.Pieces.{longest, longestRefusal, headOf, Shown, Tells};
@@ -91,9 +91,9 @@ fn put_minus(out: &mut [u8], at: usize, minus: bool) -> usize
 }
 
 // Hundredths with no minus: the whole part, and two digits behind the point.
-fn put_cut(out: &mut [u8], at: usize, count: u64) -> usize
-    requires room { ⌜ at + length (decimals (Cut false count)) ≤ length (now out) ⌝ }
-    ensures added { λ r. ⌜ Added out at r (decimals (Cut false count)) ⌝ }
+fn put_rounded(out: &mut [u8], at: usize, count: u64) -> usize
+    requires room { ⌜ at + length (decimals (Rounded false count)) ≤ length (now out) ⌝ }
+    ensures added { λ r. ⌜ Added out at r (decimals (Rounded false count)) ⌝ }
 {
     let point = put_natural(out, at, count / 100);
     let tenths = put_byte(out, point, b'.');
@@ -108,9 +108,9 @@ fn put_hundredths(out: &mut [u8], at: usize, value: Hundredths) -> usize
 {
     match value {
         Hundredths::Star => put_byte(out, at, b'*'),
-        Hundredths::Cut { minus, count } => {
+        Hundredths::Rounded { minus, count } => {
             let next = put_minus(out, at, minus);
-            put_cut(out, next, count)
+            put_rounded(out, next, count)
         }
     }
 }

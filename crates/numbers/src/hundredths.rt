@@ -1,4 +1,4 @@
-// Hundredths: what is printed of a float.
+// Hundredths: what is printed of a float, the nearest one (02, M-101).
 ghost use mathlib.Core.Path.{_≡_};
 ghost use Prim.Native.Nat.{_<_, _^_};
 ghost use Rattle.rules.specs.Number.{hundredthsOf};
@@ -7,7 +7,7 @@ use rules::Hundredths;
 
 const LIMIT: u64 = 100_000_000_000_000;
 
-// The hundredths of the size that an exponent's field and the digits below it say, cut, up to the limit.
+// The hundredths of the size that an exponent's field and the digits below it say, the nearest, up to the limit.
 fn counted(field: u64, digits: u64) -> u64
     requires { ⌜ digits < 2 ^ 52 ⌝ }
     ensures { λ r. ⌜ r ≡ countOf field digits ⌝ }
@@ -19,17 +19,18 @@ fn counted(field: u64, digits: u64) -> u64
         return LIMIT;
     }
     let shift = 1075 - field;
-    if 60 <= shift {
+    if 61 <= shift {
         return 0;
     }
-    let count = ((digits + 0x10_0000_0000_0000) * 100) >> shift;
+    let halves = ((digits + 0x10_0000_0000_0000) * 200) >> shift;
+    let count = (halves + 1) / 2;
     if count < LIMIT {
         return count;
     }
     LIMIT
 }
 
-// The hundredths of a value, cut toward zero, or that it is too large to print.
+// The nearest hundredth of a value, halves away from zero, or that it is too large to print.
 pub fn in_hundredths(x: f64) -> Hundredths
     ensures defined { λ r. ⌜ r ≡ hundredthsOf x ⌝ }
 {
@@ -43,12 +44,12 @@ pub fn in_hundredths(x: f64) -> Hundredths
         return Hundredths::Star;
     }
     if count == 0 {
-        return Hundredths::Cut {
+        return Hundredths::Rounded {
             minus: false,
             count,
         };
     }
-    Hundredths::Cut {
+    Hundredths::Rounded {
         minus: 0x8000_0000_0000_0000 <= pattern,
         count,
     }

@@ -64,7 +64,7 @@ fn of_test(t: bool) -> u64 {
 }
 
 fn of_hundredths(h: Hundredths) -> u64 {
-    let Hundredths::Cut { minus, count } = h else {
+    let Hundredths::Rounded { minus, count } = h else {
         return 0xffff_ffff_ffff_ffff;
     };
     if minus {

@@ -7,3 +7,5 @@ pub mod Tables
 pub mod Verdicts
 pub mod Ranked
 pub mod Loops
+pub mod Nearest
+pub mod Rounding

@@ -115,10 +115,10 @@ pub record Marked : Type 0 where
   -- "Case L, 508 bytes"
   pub size : length (caseL 2 []) ≡ 508
   pub bytes : caseL 2 [] ≡ hexadecimal bytesL
-  pub case-L : Prints (caseL 2 []) "rows 3\n0 37 430.36\n2 20 50.00\n3 20 50.00\n"
+  pub case-L : Prints (caseL 2 []) "rows 3\n0 37 430.37\n2 20 50.00\n3 20 50.00\n"
   -- "L at depth 1: refused 9 2. With asks (2, 20), (3, 20) first: DONE at depth 1"
   pub depth-1 : Prints (caseL 1 []) "refused 9 2\n"
-  pub asked-first : Prints (caseL 1 (ask 2 20 ∷ ask 3 20 ∷ [])) "rows 3\n0 37 430.36\n2 20 50.00\n3 20 50.00\n"
+  pub asked-first : Prints (caseL 1 (ask 2 20 ∷ ask 3 20 ∷ [])) "rows 3\n0 37 430.37\n2 20 50.00\n3 20 50.00\n"
   -- "PreAssign 3 and 5: 5 if high is good, else 3"
   pub assign-high : Prints (changed 2 0 (whole 10) (whole 3) 1 1) "rows 3\n0 37 5.00\n2 20 3.00\n3 20 5.00\n"
   pub assign-low : Prints (changed 0 0 (whole 10) (whole 3) 1 1) "rows 3\n0 37 3.00\n2 20 3.00\n3 20 5.00\n"
@@ -129,8 +129,8 @@ pub record Marked : Type 0 where
   -- "Value 4, min 5, max 3: 3"
   pub clamps : Prints limited "rows 3\n0 20 3.00\n0 37 5.00\n0 38 3.00\n"
   -- "Skill base 3.9 gives 3; -3.9 gives -3; 3,000,000,000 gives 2,147,483,647"
-  pub skill-cut : Prints (skilled 3 0x400f_3333_3333_3333) "rows 3\n0 20 5.00\n2 37 6.00\n2 182 3.89\n"
-  pub skill-cut-up : Prints (skilled 0xffff_fffd 0xc00f_3333_3333_3333) "rows 3\n0 20 5.00\n2 37 6.00\n2 182 -3.89\n"
+  pub skill-cut : Prints (skilled 3 0x400f_3333_3333_3333) "rows 3\n0 20 5.00\n2 37 6.00\n2 182 3.90\n"
+  pub skill-cut-up : Prints (skilled 0xffff_fffd 0xc00f_3333_3333_3333) "rows 3\n0 20 5.00\n2 37 6.00\n2 182 -3.90\n"
   pub skill-held : Prints (skilled 2147483647 (whole 3000000000)) "rows 3\n0 20 5.00\n2 37 6.00\n2 182 3000000000.00\n"
   -- "Attribute 2138 at 0.9, the effect's own resistance 0: none"
   pub not-resisted : Prints (projected 0x3fec_cccc_cccc_cccd) "rows 5\n0 0 0.00\n0 1 0.00\n0 37 7.00\n2 20 5.00\n2 2138 0.90\n"

@@ -15,7 +15,7 @@ use Rattle.rules.specs.Outcome.{Done}
 use Rattle.rules.specs.Columns.{valueList}
 use Rattle.rules.specs.declared.Answer.the-variants.{Refused}
 use Rattle.rules.specs.declared.Hundredths.{Hundredths}
-use Rattle.rules.specs.declared.Hundredths.the-variants.{Cut, Star}
+use Rattle.rules.specs.declared.Hundredths.the-variants.{Rounded, Star}
 
 -- the bytes of a text
 abbrev pub ascii : String → List ℕ
@@ -42,7 +42,7 @@ minusIf false = []
 -- "two decimals", `*` from 10 ^ 12 in size up
 unfoldable pub decimals : Hundredths → List ℕ
 decimals Star = ascii "*"
-decimals (Cut s c) = minusIf s ++ (natural (c / 100) ++ (ascii "." ++ ((48 + c / 10 % 10) ∷ (48 + c % 10) ∷ [])))
+decimals (Rounded s c) = minusIf s ++ (natural (c / 100) ++ (ascii "." ++ ((48 + c / 10 % 10) ∷ (48 + c % 10) ∷ [])))
 
 -- "per row: object number, attribute id, value"; "One space between fields; lines end in LF"
 unfoldable pub line : Row → Float → List ℕ

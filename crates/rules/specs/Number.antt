@@ -1,5 +1,5 @@
 -- Float steps, powers and weights. 01, "Own rules" and "Values". A step that is not finite is refused by who takes it.
-use Prim.Native.Nat.{ℕ, zero, suc, _*_, _/_, _%_, _^_}
+use Prim.Native.Nat.{ℕ, zero, suc, _+_, _*_, _/_, _%_, _^_}
 use mathlib.Core.Bool.{Bool, true, false, _&&_, cond}
 use lib.Dec.{eqb, ltb, leb}
 use lib.IntN.{ℤ}
@@ -10,7 +10,7 @@ use Rattle.rules.specs.declared.Step.{Step}
 use Rattle.rules.specs.declared.Step.the-variants.{Finite, NotFinite}
 use Rattle.rules.specs.declared.Refusal.the-variants.{Number}
 use Rattle.rules.specs.declared.Hundredths.{Hundredths}
-use Rattle.rules.specs.declared.Hundredths.the-variants.{Cut, Star}
+use Rattle.rules.specs.declared.Hundredths.the-variants.{Rounded, Star}
 
 -- one operation's result; "a float step's result is not finite"
 unfoldable pub step : Float → Step
@@ -75,12 +75,12 @@ weight p = elim (ltb p 8) [ true ↦ finiteOr zeroF (power penaltyFactor (p * p)
 abbrev pub cut : Float → ℤ
 cut x = toSigned 31 x
 
--- 01, "The listing": c hundredths of a size, from 10 ^ 12 up a star; "minus only if a digit is nonzero"
-abbrev pub cutAt : Bool → ℕ → Hundredths
-cutAt s c = cond (leb (10 ^ 14) c) Star (Cut (s && ltb 0 c) c)
+-- c hundredths of a size: 02, "The star starts where the rounded size reaches 10^12"; 01, "minus only if a digit is nonzero"
+abbrev pub roundedAt : Bool → ℕ → Hundredths
+roundedAt s c = cond (leb (10 ^ 14) c) Star (Rounded (s && ltb 0 c) c)
 
--- "two decimals cut toward zero from the exact value"
+-- 02, M-101: "the nearest hundredth of the exact value, halves away from zero": half a hundredth more, and cut
 unfoldable pub hundredthsOf : Float → Hundredths
 hundredthsOf nan = Star
 hundredthsOf (inf s) = Star
-hundredthsOf (fin s m e) = cutAt s (m * up e * 100 / down e)
+hundredthsOf (fin s m e) = roundedAt s ((m * up e * 200 + down e) / (2 * down e))

@@ -166,7 +166,7 @@ pub enum Step {
 
 // A value as the listing has it: how many hundredths, and whether a minus stands before them; or it is too large.
 pub enum Hundredths {
-    Cut { minus: bool, count: u64 },
+    Rounded { minus: bool, count: u64 },
     Star,
 }
 

@@ -6,15 +6,15 @@ use Rattle.listing.proofs.put_hundredths.Tie as tie
 use Rattle.listing.proofs.put_hundredths.Reads as reads
 use Rattle.listing.proofs.put_hundredths.Lts as lts
 use Rattle.listing.proofs.put_byte.Reads as put-byte-reads
-use Rattle.listing.proofs.put_cut.Reads as put-cut-reads
+use Rattle.listing.proofs.put_rounded.Reads as put-rounded-reads
 use Rattle.listing.proofs.put_minus.Reads as put-minus-reads
 use mathlib.Core.Bool.{false}
 use mathlib.Core.List.{[]}
-use Rattle.rules.specs.declared.Hundredths.the-variants.{Cut}
+use Rattle.rules.specs.declared.Hundredths.the-variants.{Rounded}
 use Rattle.rules.specs.Listing.{minusIf, decimals}
 use Rattle.listing.specs.Put.{put}
 use Rattle.listing.proofs.Puts.{after, renamed, room-renamed, room, room-after, room-byte}
-use Rattle.listing.proofs.Decimals.{star-text, cut-text}
+use Rattle.listing.proofs.Decimals.{star-text, rounded-text}
 
 enum-told : tie.Need-enum-told
 enum-told c = search needs
@@ -26,10 +26,10 @@ enum-known-value : tie.Need-enum-known-value
 enum-known-value c = search needs
 
 put-minus-requires : tie.Need-put-minus-requires
-put-minus-requires c κs = room (minusIf (c .before .before .value .given .0 .0)) (decimals (Cut false (c .before .before .value .given .0 .1 .0))) (c .before .before .before .before .before .args .at) (c .before .before .before .before .before .args .out .now) (room-renamed _ _ (cut-text _ _ (c .before .before .value .given .1)) (c .before .before .before .before .before .pre))
+put-minus-requires c κs = room (minusIf (c .before .before .value .given .0 .0)) (decimals (Rounded false (c .before .before .value .given .0 .1 .0))) (c .before .before .before .before .before .args .at) (c .before .before .before .before .before .args .out .now) (room-renamed _ _ (rounded-text _ _ (c .before .before .value .given .1)) (c .before .before .before .before .before .pre))
 
-put-cut-requires : tie.Need-put-cut-requires
-put-cut-requires c κs = room-after (minusIf (c .before .before .before .before .before .before .value .given .0 .0)) (decimals (Cut false (c .before .before .before .before .before .before .value .given .0 .1 .0))) (c .before .before .before .before .before .before .before .before .before .args .at) (c .before .before .before .before .before .before .before .before .before .args .out .now) (room-renamed _ _ (cut-text _ _ (c .before .before .before .before .before .before .value .given .1)) (c .before .before .before .before .before .before .before .before .before .pre)) (c .before .before .before .put-minus .ensures)
+put-rounded-requires : tie.Need-put-rounded-requires
+put-rounded-requires c κs = room-after (minusIf (c .before .before .before .before .before .before .value .given .0 .0)) (decimals (Rounded false (c .before .before .before .before .before .before .value .given .0 .1 .0))) (c .before .before .before .before .before .before .before .before .before .args .at) (c .before .before .before .before .before .before .before .before .before .args .out .now) (room-renamed _ _ (rounded-text _ _ (c .before .before .before .before .before .before .value .given .1)) (c .before .before .before .before .before .before .before .before .before .pre)) (c .before .before .before .put-minus .ensures)
 
 same-length : tie.Need-same-length
 same-length c = search needs
@@ -41,7 +41,7 @@ same-length-2 : tie.Need-same-length-2
 same-length-2 c = search needs
 
 returns-2 : tie.Need-returns-2
-returns-2 c = renamed _ (cut-text _ _ (c .before .before .before .before .before .before .before .before .before .value .given .1)) (after (minusIf (c .before .before .before .before .before .before .before .before .before .value .given .0 .0)) (decimals (Cut false (c .before .before .before .before .before .before .before .before .before .value .given .0 .1 .0))) (put (c .before .before .before .before .before .before .before .before .before .before .before .before .args .at) (c .before .before .before .before .before .before .before .before .before .before .before .before .args .out .now)) (c .before .before .before .before .before .before .put-minus .ensures) (c .before .before .put-cut .ensures))
+returns-2 c = renamed _ (rounded-text _ _ (c .before .before .before .before .before .before .before .before .before .value .given .1)) (after (minusIf (c .before .before .before .before .before .before .before .before .before .value .given .0 .0)) (decimals (Rounded false (c .before .before .before .before .before .before .before .before .before .value .given .0 .1 .0))) (put (c .before .before .before .before .before .before .before .before .before .before .before .before .args .at) (c .before .before .before .before .before .before .before .before .before .before .before .before .args .out .now)) (c .before .before .before .before .before .before .put-minus .ensures) (c .before .before .put-rounded .ensures))
 
 pub put-hundredths-spec : {M : Type 1} → statement M
 put-hundredths-spec =
@@ -51,7 +51,7 @@ put-hundredths-spec =
     put-byte-requires
     enum-known-value
     put-minus-requires
-    put-cut-requires
+    put-rounded-requires
     same-length
     returns
     same-length-2

@@ -3,7 +3,7 @@
 use borrow.Author.Needs.{needs}
 use Rattle.numbers.proofs.hundredths.counted.Statement.{statement}
 use Rattle.numbers.proofs.hundredths.counted.Tie as tie
-use Rattle.numbers.proofs.Counts.{at-zero, high, deep, counts, limits}
+use Rattle.numbers.proofs.Counts.{at-zero, high, deep, one-more, counts, limits}
 
 pub counted-spec : {M : Type 1} → statement M
 counted-spec =
@@ -16,5 +16,6 @@ counted-spec =
     (λ c. search needs)
     (λ c. search needs)
     (λ c. search needs)
+    (λ c. record { fits = one-more _ _ (c .before .before .before .pre) })
     (λ c. counts _ _ (c .before .before .before .before .pre) (c .before .before .before .if1 .left) (c .before .before .if2 .left) (c .if4 .taken))
     (λ c. limits _ _ (c .before .before .before .before .pre) (c .before .before .before .if1 .left) (c .before .before .if2 .left) (c .if4 .left)))
