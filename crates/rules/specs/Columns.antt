@@ -69,7 +69,9 @@ rowsNumbers e s (r ∷ rs) (q ∷ qs) =
 
 -- list 3: `Effect`
 abbrev pub entryNumbers : Effect → List ℕ
-entryNumbers e = originNumbers (e .origin) ++ (operatorCode (e .operator) ∷ yes1 (e .penalty) ∷ e .quantity ∷ optionalNumbers (e .resistance))
+entryNumbers e =
+    originNumbers (e .origin)
+    ++ (operatorCode (e .operator) ∷ yes1 (e .penalty) ∷ e .quantity ∷ (optionalNumbers (e .resistance) ++ (e .number ∷ [])))
 
 -- list 4
 abbrev pub plainNumbers : Plain → List ℕ
@@ -156,7 +158,7 @@ unfoldable pub valueColumn : Res Done → ℕ → List Float
 valueColumn r n = column (λ x. x) zeroF (valueList r) n
 
 unfoldable pub entryColumn : Res Done → ℕ → List (List ℕ)
-entryColumn r n = column entryNumbers (replicate 11 0) (entryList r) n
+entryColumn r n = column entryNumbers (replicate 12 0) (entryList r) n
 
 unfoldable pub entryValueColumn : Res Done → ℕ → List Float
 entryValueColumn r n = column (λ e. originValue (e .origin)) zeroF (entryList r) n
