@@ -19,3 +19,12 @@ pub mod NoMemorySame
 pub mod NoMemory
 pub mod NoMemoryLoops
 pub mod Wrong
+pub mod Everywhere
+pub mod FloatsCollected
+pub mod FloatsNumbers
+pub mod FloatsSteps
+pub mod FloatsRun
+pub mod FloatsSheet
+pub mod Ends
+pub mod Given
+pub mod Floats

@@ -72,7 +72,16 @@ module _ (b : List ℕ) (l : Lent) (d : Done) (h : outcome b l ≡ ok d) where
       by none e = e
       by (some n) e = let z : _≡_ {A = ℕ} 0 1 = cc in absurd (omega arith)
 
-  fit-good : fitBad (fitIn b) ≡ none
+  pub book-good : bookBad (bookIn b) ≡ none
+  unfolding badShape
+  book-good = by (headerGood b (pairsOf b)) (bookBad (bookIn b)) no-table-bad
+    where
+      by : (t : Bool) (u : Option ℕ) → _≡_ {A = Option ℕ} (elim t [ false ↦ some 0 | true ↦ elim u [ some n ↦ some n | none ↦ fitBad (fitIn b) ] ]) none → u ≡ none
+      by true none e = refl
+      by true (some n) e = let z : _≡_ {A = ℕ} 0 1 = cc in absurd (omega arith)
+      by false u e = let z : _≡_ {A = ℕ} 0 1 = cc in absurd (omega arith)
+
+  pub fit-good : fitBad (fitIn b) ≡ none
   unfolding badShape
   fit-good = by (headerGood b (pairsOf b)) (bookBad (bookIn b)) no-table-bad
     where

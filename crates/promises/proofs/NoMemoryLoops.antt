@@ -1,73 +1,26 @@
 -- What the condition of no-memory lets in and rules out: on case L no attribute leads back to itself, and asks change what is
 -- calculated first but no value; on four sheets with a loop, one for each way to need an attribute, they or recording change one.
-use Prim.Native.Nat.{ℕ, _<_}
-use native.Mathlib.Omega.{arith}
-use mathlib.Core.Path.{_≡_, refl, sym, subst, _∙_}
+use Prim.Native.Nat.{ℕ}
+use mathlib.Core.Path.{_≡_, refl}
 use mathlib.Core.Bool.{Bool, true, false, cond}
 use mathlib.Core.List.{List, [], _∷_, map}
 use mathlib.Core.Option.{Option, some}
-use borrow.Author.Tests.{ltb-true}
-use lib.Dec.{eqb, ltb}
+use lib.Dec.{eqb}
 use lib.IntN.{pos}
 use lib.Ieee.{Float, binary64, ofInt}
-use lib.ListN.{getD}
-use Rattle.laws.specs.Lists.{some?, every?, keep}
 use Rattle.laws.proofs.Bools.{both-ways}
-use Rattle.laws.proofs.Every.{every-at, some-flat, Place, some-place}
-use Rattle.laws.proofs.Keep.{every-keep, every-kept}
 use Rattle.rules.specs.Answer.{Res, ok, refused}
-use Rattle.rules.specs.Dispatch.{Row, Key, sameKey}
+use Rattle.rules.specs.Dispatch.{Key}
 use Rattle.rules.specs.Outcome.{Lent, Done, outcome}
-use Rattle.rules.specs.Value.{World}
-use Rattle.rules.specs.Fresh.{needsOf, needsAt, Leads, last, next, LeadsBack}
+use Rattle.rules.specs.Fresh.{last, next, LeadsBack}
 use Rattle.rules.specs.declared.Refusal.the-variants.{Depth}
 use Rattle.rules.proofs.Everything.{everything}
 use Rattle.rules.proofs.Marked.{lent, caseL, looped}
 use Rattle.rules.proofs.Loops.{limiting, resisting, idling, recorded, ofShip}
+use Rattle.rules.proofs.Ranked.{ranked}
 use Rattle.rules.proofs.Written.{ask}
-use Rattle.promises.specs.NoMemory.{keyOf, noRow, Needs, NoLoop, SameButAsks, bookIn, fitIn, worldIn}
+use Rattle.promises.specs.NoMemory.{NoLoop, SameButAsks, bookIn, fitIn, worldIn}
 use Rattle.promises.proofs.NoMemory.{same-values}
-use Rattle.promises.proofs.Ranks.{passed, same-key}
-
--- ---- a rank that falls from each row to what it needs
-
-module _ (w : World) (rank : Key → ℕ) where
-  abbrev falls : Row → Bool
-  falls r = every? (λ b. ltb (rank b) (rank (keyOf r))) (needsOf (w .book) r)
-
-  module _ (h : every? falls (w .rows) ≡ true) where
-    noKey : Key
-    noKey = record { object = 0; id = pos 0 }
-
-    need-less : (a b : Key) → Needs w a b → rank b < rank a
-    unfolding needsAt
-    need-less a b n = subst (λ (x : Key). rank b < rank x) (same-key (keyOf row) a (every-at here (keep here (w .rows)) (p .at) noRow (every-keep here (w .rows)) (p .inside))) less
-      where
-        here : Row → Bool
-        here r = sameKey (keyOf r) a
-
-        p : Place (λ r. some? (sameKey b) (needsOf (w .book) r)) (keep here (w .rows)) noRow
-        p =
-            some-place (λ r. some? (sameKey b) (needsOf (w .book) r)) (keep here (w .rows)) noRow
-            (sym (some-flat (sameKey b) (needsOf (w .book)) (keep here (w .rows))) ∙ passed (some? (sameKey b) (needsAt w a)) n)
-
-        row : Row
-        row = getD (keep here (w .rows)) (p .at) noRow
-
-        o : Place (sameKey b) (needsOf (w .book) row) noKey
-        o = some-place (sameKey b) (needsOf (w .book) row) noKey (p .passes)
-
-        less : rank b < rank (keyOf row)
-        less =
-            subst (λ (x : Key). rank x < rank (keyOf row)) (sym (same-key b (getD (needsOf (w .book) row) (o .at) noKey) (o .passes)))
-            (ltb-true _ _ (every-at (λ x. ltb (rank x) (rank (keyOf row))) (needsOf (w .book) row) (o .at) noKey (every-at falls (keep here (w .rows)) (p .at) noRow (every-kept falls here (w .rows) h) (p .inside)) (o .inside)))
-
-    leads-less : {a b : Key} → Leads w a b → rank b < rank a
-    leads-less (last {a = a} {b = b} n) = need-less a b n
-    leads-less (next {a = a} {b = b} n l) = omega (arith, need-less a b n, leads-less l)
-
-    pub ranked : NoLoop w
-    ranked a l = omega (arith, leads-less l)
 
 -- ---- the sheets
 

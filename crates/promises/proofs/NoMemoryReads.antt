@@ -41,7 +41,7 @@ keeps-same vs = record { long = refl; valued = λ j e. e }
 pub keeps-on : {us vs ws : List (Option Float)} → Keeps us vs → Keeps vs ws → Keeps us ws
 keeps-on g h = record { long = h .long ∙ g .long; valued = λ j e. h .valued j (g .valued j e) }
 
-keeps-set : (vs : List (Option Float)) (i : ℕ) (v : Float) → i < length vs → Keeps vs (set vs i (some v))
+pub keeps-set : (vs : List (Option Float)) (i : ℕ) (v : Float) → i < length vs → Keeps vs (set vs i (some v))
 keeps-set vs i v l =
     record {
       long = length-set vs i (some v);

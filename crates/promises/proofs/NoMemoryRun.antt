@@ -15,29 +15,29 @@ use Rattle.laws.proofs.Every.{some-append, some-map}
 use Rattle.laws.proofs.First.{there?}
 use Rattle.rules.specs.Answer.{ok}
 use Rattle.rules.specs.Sheet.{Book, Fit}
-use Rattle.rules.specs.Collect.{moves}
+use Rattle.rules.specs.Collect.{moves, plainOf}
 use Rattle.rules.specs.Dispatch.{Row, Key, sameKey, baseKeys, hitKeys, fullAt}
 use Rattle.rules.specs.Value.{World, Mem, Read, Found, findRow, valueOf}
 use Rattle.rules.specs.Outcome.{Rooms, Done, full, collected, walkOrder, startsOf, valued, collectedIn, rowsIn, worldOf, blank, run}
 use Rattle.rules.specs.declared.Ask.{Ask}
+use Rattle.rules.proofs.Ranked.{same-key}
 use Rattle.promises.specs.NoMemory.{keyOf, keyAt, noRow, NoLoop, Sound, Memoryless}
 use Rattle.promises.proofs.NoMemoryGoes.{second, passes, got}
 use Rattle.promises.proofs.NoMemoryReads.{Keeps, keeps-same, keeps-on, freshAt, Right, reads}
 use Rattle.promises.proofs.NoMemoryRows.{found-there, rows-distinct}
 use Rattle.promises.proofs.NoMemoryWalk.{walks}
-use Rattle.promises.proofs.Ranks.{same-key}
 
-abbrev keyAsked : Ask → Key
+abbrev pub keyAsked : Ask → Key
 keyAsked s = record { object = s .object; id = s .«attribute_id» }
 
 abbrev Nobody : ℕ → Type 0
 Nobody j = ⊥
 
-record Is (v : Option Float) : Type 0 where
-  value : Float
-  is : v ≡ some value
+pub record Is (v : Option Float) : Type 0 where
+  pub value : Float
+  pub is : v ≡ some value
 
-there-is : (v : Option Float) → there? v ≡ true → Is v
+pub there-is : (v : Option Float) → there? v ≡ true → Is v
 there-is none e = both-ways e refl
 there-is (some x) e = record { value = x; is = refl }
 
@@ -103,13 +103,14 @@ module _ (k : Book) (f : Fit) (q : Rooms) where
   world = worldOf k f (q .sources)
 
   -- what a run that is done has gone through
-  record Ran (d : Done) : Type 0 where
-    mem : Mem
-    gone : valued world (f .depth) (startsOf f (world .rows)) (blank (world .rows)) ≡ ok mem
-    values : d .values ≡ mem .values
-    rows : d .rows ≡ world .rows
+  pub record Ran (d : Done) : Type 0 where
+    pub mem : Mem
+    pub gone : valued world (f .depth) (startsOf f (world .rows)) (blank (world .rows)) ≡ ok mem
+    pub is : d ≡ record { states = world .states; collected = collectedIn k f; plain = plainOf (moves k f); rows = world .rows; values = mem .values; sources = mem .sources }
+    pub values : d .values ≡ mem .values
+    pub rows : d .rows ≡ world .rows
 
-  ran : (d : Done) → run k f q ≡ ok d → Ran d
+  pub ran : (d : Done) → run k f q ≡ ok d → Ran d
   unfolding run
   ran d e =
       let base = length (baseKeys f) in
@@ -117,26 +118,26 @@ module _ (k : Book) (f : Fit) (q : Rooms) where
       let b = passes (collected q 0 0 (moves k f)) _ d (a .rest) in
       let c = passes (full (fullAt (q .rows) (q .entries) (baseKeys f) base 0 (hitKeys k f (collectedIn k f)))) _ d (b .rest) in
       let m = passes (valued world (f .depth) (startsOf f (world .rows)) (blank (world .rows))) _ d (c .rest) in
-      record { mem = m .given; gone = m .first; values = sym (ap (λ (x : Done). x .values) (got (m .rest))); rows = sym (ap (λ (x : Done). x .rows) (got (m .rest))) }
+      record { mem = m .given; gone = m .first; is = sym (got (m .rest)); values = sym (ap (λ (x : Done). x .values) (got (m .rest))); rows = sym (ap (λ (x : Done). x .rows) (got (m .rest))) }
+
+  -- the walk asks for row i
+  pub walk-asks : (i : ℕ) → Sound f → i < length (world .rows) → some? (λ s. sameKey (keyAsked s) (keyAt world i)) (startsOf f (world .rows)) ≡ true
+  unfolding worldOf rowsIn
+  walk-asks i s h =
+      some-append same (f .asks) walk ∙ ap (λ (t : Bool). some? same (f .asks) || t) (some-map same (λ r. record { object = r .object; «attribute_id» = r .id }) (walkOrder (f .objects) (world .rows)) ∙ walks k f (collectedIn k f) i s h)
+      ∙ or-true-right (some? same (f .asks))
+    where
+      same : Ask → Bool
+      same s = sameKey (keyAsked s) (keyAt world i)
+
+      walk : List Ask
+      walk = map (λ r. record { object = r .object; «attribute_id» = r .id }) (walkOrder (f .objects) (world .rows))
+
+  pub found-row : (i : ℕ) → Sound f → i < length (world .rows) → findRow (keyAt world i .object) (keyAt world i .id) 0 (world .rows) ≡ some (record { index = 0 + i; row = getD (world .rows) i noRow })
+  unfolding worldOf rowsIn
+  found-row i s h = found-there 0 (world .rows) i (rows-distinct k f (collectedIn k f) s) h
 
   module _ (free : NoLoop world) where
-    -- the walk asks for row i
-    walk-asks : (i : ℕ) → Sound f → i < length (world .rows) → some? (λ s. sameKey (keyAsked s) (keyAt world i)) (startsOf f (world .rows)) ≡ true
-    unfolding worldOf rowsIn
-    walk-asks i s h =
-        some-append same (f .asks) walk ∙ ap (λ (t : Bool). some? same (f .asks) || t) (some-map same (λ r. record { object = r .object; «attribute_id» = r .id }) (walkOrder (f .objects) (world .rows)) ∙ walks k f (collectedIn k f) i s h)
-        ∙ or-true-right (some? same (f .asks))
-      where
-        same : Ask → Bool
-        same s = sameKey (keyAsked s) (keyAt world i)
-
-        walk : List Ask
-        walk = map (λ r. record { object = r .object; «attribute_id» = r .id }) (walkOrder (f .objects) (world .rows))
-
-    found-row : (i : ℕ) → Sound f → i < length (world .rows) → findRow (keyAt world i .object) (keyAt world i .id) 0 (world .rows) ≡ some (record { index = 0 + i; row = getD (world .rows) i noRow })
-    unfolding worldOf rowsIn
-    found-row i s h = found-there 0 (world .rows) i (rows-distinct k f (collectedIn k f) s) h
-
     pub run-no-memory : (d : Done) → Sound f → run k f q ≡ ok d → (i : ℕ) → i < length (d .rows) → Memoryless world d i
     run-no-memory d s e i h =
         let r = ran d e in

@@ -50,7 +50,7 @@ module _ (b : List ℕ) (l : Lent) where
   pub one-of-ten : (r : Result) → Meets b l r → r .number < 10
   one-of-ten r m = subst (λ (n : ℕ). n < 10) (sym (m .by-number)) (ten (answerOf (outcome b l)))
 
-  is-the-one : (r : Result) → Meets b l r → r ≡ resultFor (outcome b l) l
+  pub is-the-one : (r : Result) → Meets b l r → r ≡ resultFor (outcome b l) l
   is-the-one r m =
       let whole : record { number = r .number; place = r .place; counts = r .counts; states = r .states; collected = r .collected; collectedValues = r .collectedValues; rows = r .rows; bases = r .bases; values = r .values; entries = r .entries; entryValues = r .entryValues; plain = r .plain; sources = r .sources; sourceFloats = r .sourceFloats } ≡ resultFor (outcome b l) l =
       rw (m .by-number, m .by-place, m .by-counts, m .by-states, m .by-collected, m .by-collectedValues, m .by-rows, m .by-bases, m .by-values, m .by-entries, m .by-entryValues, m .by-plain, m .by-sources, m .by-sourceFloats) refl in

@@ -7,37 +7,25 @@ use mathlib.Core.Bool.{Bool, true, false, not, _||_}
 use mathlib.Core.List.{List, [], _∷_, map}
 use mathlib.Core.Logic.{_⊎_, inl, inr}
 use mathlib.Core.Option.{Option, none, some}
-use borrow.Author.Tests.{eqb-true, eq-eqb}
-use lib.Dec.{T, eqb}
+use borrow.Author.Tests.{eq-eqb}
+use lib.Dec.{T}
 use lib.ListN.{length, getD, length-map}
-use Rattle.laws.specs.Lists.{eqZ, some?, put, keep, flat}
-use Rattle.laws.proofs.Bools.{both-ways, not-passed, not-failed, and-left, and-right, and-both, or-true-right}
+use Rattle.laws.specs.Lists.{some?, put, keep, flat}
+use Rattle.laws.proofs.Bools.{both-ways, not-passed, not-failed, and-both, or-true-right}
 use Rattle.laws.proofs.Every.{some-append, some-map}
 use Rattle.laws.proofs.Keep.{keep-none, keep-length}
-use Rattle.laws.proofs.Order.{eqZ-refl, eqZ-true}
+use Rattle.laws.proofs.Order.{eqZ-refl}
 use Rattle.rules.specs.Dispatch.{Row, Key, sameKey}
 use Rattle.rules.specs.Value.{World, Found, findRow}
 use Rattle.rules.specs.Fresh.{needsOf, needsAt, Leads, last, next}
+use Rattle.rules.proofs.Ranked.{passed, same-key}
 use Rattle.promises.specs.NoMemory.{keyOf, keyAt, noRow, Needs, NoLoop}
 use Rattle.promises.proofs.NoMemorySteps.{Each}
 
 -- ---- tests and keys
 
-pub passed : (t : Bool) → T t → t ≡ true
-passed true h = refl
-passed false h = absurd h
-
 pub holds : (t : Bool) → t ≡ true → T t
 holds t e = subst T (sym e) tt
-
-pub same-key : (a b : Key) → sameKey a b ≡ true → a ≡ b
-same-key a b e = λ i. record { object = o i; id = d i }
-  where
-    o : a .object ≡ b .object
-    o = eqb-true (a .object) (b .object) (and-left (eqb (a .object) (b .object)) (eqZ (a .id) (b .id)) e)
-
-    d : a .id ≡ b .id
-    d = eqZ-true (a .id) (b .id) (and-right (eqb (a .object) (b .object)) (eqZ (a .id) (b .id)) e)
 
 pub key-itself : (a : Key) → sameKey a a ≡ true
 key-itself a = and-both (eq-eqb (a .object) (a .object) refl) (eqZ-refl (a .id))

@@ -4,3 +4,4 @@ pub mod Zeros
 pub mod Sheets
 pub mod Result
 pub mod NoMemory
+pub mod Given

@@ -4,4 +4,5 @@ pub mod Marked
 pub mod Slips
 pub mod Tables
 pub mod Verdicts
+pub mod Ranked
 pub mod Loops

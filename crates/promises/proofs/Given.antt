@@ -1,0 +1,187 @@
+-- Demand 3 of what comes back: of bytes, lists lent, and results that meet the definition, with or without a run in between.
+use Prim.Native.Nat.{ℕ, _<_}
+use native.Mathlib.Omega.{arith}
+use mathlib.Core.Path.{_≡_, refl, sym, ap, subst, _∙_}
+use mathlib.Core.Bool.{Bool, true, _&&_}
+use mathlib.Core.List.{List, [], map}
+use mathlib.Core.Option.{Option, none, some, Option·getD}
+use lib.Ieee.{Float}
+use lib.IntN.{ℤ}
+use lib.ListN.{length, getD, replicate, List·getD-map}
+use Rattle.laws.specs.Lists.{every?, flat}
+use Rattle.laws.specs.Floats.{finite, zeroF}
+use Rattle.laws.proofs.Bools.{and-left}
+use Rattle.laws.proofs.Every.{every-at}
+use Rattle.laws.proofs.Maps.{map-itself}
+use Rattle.rules.specs.Answer.{Res, ok, refused, number, place, answerOf}
+use Rattle.rules.specs.Bytes.{signed, bits}
+use Rattle.rules.specs.Columns.{Counts, countsOf, collectedNumbers, rowsNumbers, entryNumbers, plainNumbers, sourceNumbers, sourceFloats, originValue, collectedList, rowList, valueList, entryList, plainList, sourceList, sourcesByRow, collectedColumn, collectedValueColumn, rowColumn, baseColumn, valueColumn, entryColumn, entryValueColumn, plainColumn, sourceColumn, sourceFloatColumn, stateColumn}
+use Rattle.rules.specs.Dispatch.{Row}
+use Rattle.rules.specs.Fresh.{fresh}
+use Rattle.rules.specs.Outcome.{Lent, Done, rowsIn, roomsOf, outcome}
+use Rattle.rules.specs.declared.Answer.the-variants.{Refused}
+use Rattle.rules.specs.declared.Refusal.{Refusal}
+use Rattle.rules.specs.declared.Refusal.the-variants.{Shape, Func, Domain, Category, Operation, Other, Room, Number, Depth}
+use Rattle.promises.specs.Given.{cell, Same, SameResult, SameValues}
+use Rattle.promises.specs.NoMemory.{noRow, NoLoop, SameButAsks, bookIn, fitIn, worldIn}
+use Rattle.promises.specs.Result.{Result, resultFor, Meets}
+use Rattle.promises.specs.Sheets.{Deeper}
+use Rattle.promises.specs.Unless.{Unless, refused-so, the-same}
+use Rattle.promises.specs.Wider.{Longer}
+use Rattle.promises.proofs.Ends.{column-place, column-cell, columns-same, row-cells, rows-four}
+use Rattle.promises.proofs.FloatsCollected.{held, held-is, fineEntry}
+use Rattle.promises.proofs.FloatsSheet.{sheet-fine, sheet-rows}
+use Rattle.promises.proofs.NoMemory.{is-run, no-memory, same-values}
+use Rattle.promises.proofs.NoMemoryRun.{run-rows}
+use Rattle.promises.proofs.OneAnswer.{is-the-one}
+use Rattle.promises.proofs.Room.{more-lent}
+use Rattle.promises.proofs.Sheets.{more-depth-sheet}
+
+-- ---- a result of number 0 is of a run that is done
+
+refused-number : (x : Refusal) → number (Refused x) ≡ 0 → ⊥
+refused-number (Shape p) h = omega (arith, h)
+refused-number (Func p) h = omega (arith, h)
+refused-number (Domain p) h = omega (arith, h)
+refused-number (Category p) h = omega (arith, h)
+refused-number (Operation p) h = omega (arith, h)
+refused-number (Other p) h = omega (arith, h)
+refused-number (Room p) h = omega (arith, h)
+refused-number (Number p) h = omega (arith, h)
+refused-number (Depth p) h = omega (arith, h)
+
+pub record IsDone (b : List ℕ) (l : Lent) : Type 0 where
+  pub done : Done
+  pub is : outcome b l ≡ ok done
+
+pub is-done : (b : List ℕ) (l : Lent) (r : Result) → Meets b l r → r .number ≡ 0 → IsDone b l
+is-done b l r m h = by (outcome b l) refl
+  where
+    by : (o : Res Done) → outcome b l ≡ o → IsDone b l
+    by (ok d) e = record { done = d; is = e }
+    by (refused x) e = absurd (refused-number x (sym (ap (λ (o : Res Done). number (answerOf o)) e) ∙ sym (m .by-number) ∙ h))
+
+-- row i, of a run that is done
+module _ (b : List ℕ) (l : Lent) (r : Result) (m : Meets b l r) (d : Done) (e : outcome b l ≡ ok d) where
+  pub row-count : r .counts .rows ≡ length (d .rows)
+  row-count = ap (λ (c : Counts). c .rows) (m .by-counts) ∙ ap (λ (o : Res Done). length (rowList o)) e
+
+  pub value-given : (i : ℕ) → getD (r .values) i zeroF ≡ Option·getD (getD (d .values) i none) zeroF
+  unfolding valueColumn
+  value-given i =
+      ap (λ (c : List Float). getD c i zeroF) (m .by-values) ∙ ap (λ (o : Res Done). getD (valueColumn o (l .values)) i zeroF) e
+      ∙ column-place (λ x. x) zeroF (valueList (ok d)) (l .values) i ∙ ap (λ (c : List Float). getD c i zeroF) (map-itself (valueList (ok d)))
+      ∙ List·getD-map (λ v. Option·getD v zeroF) (d .values) i none
+
+  pub row-given : (i j : ℕ) → cell (r .rows) i j ≡ cell (rowsNumbers 0 0 (d .rows) (d .sources)) i j
+  unfolding rowColumn
+  row-given i j =
+      ap (λ (c : List (List ℕ)). cell c i j) (m .by-rows) ∙ ap (λ (o : Res Done). cell (rowColumn o (l .rows)) i j) e
+      ∙ column-cell (λ x. x) 6 (rowsNumbers 0 0 (d .rows) (d .sources)) (l .rows) i j ∙ ap (λ (c : List (List ℕ)). cell c i j) (map-itself (rowsNumbers 0 0 (d .rows) (d .sources)))
+
+  pub object-given : (i : ℕ) → i < length (d .rows) → cell (r .rows) i 0 ≡ getD (d .rows) i noRow .object
+  object-given i h = row-given i 0 ∙ row-cells 0 0 (d .rows) (d .sources) i h .0
+
+  -- an attribute's 32 bits are its id
+  id-held : (i : ℕ) → i < length (d .rows) → held (getD (d .rows) i noRow .id) ≡ true
+  id-held i h =
+      let same = run-rows (bookIn b) (fitIn b) (roomsOf l) d (is-run b l d e) in
+      let row = getD (d .rows) i noRow in
+      and-left (held (row .id)) (finite (row .base) && every? (λ x. finite (originValue (x .origin))) (row .entries))
+      (every-at (λ x. held (x .id) && (finite (x .base) && every? (λ y. finite (originValue (y .origin))) (x .entries))) (d .rows) i noRow
+      (subst (λ (rs : List Row). every? (λ x. held (x .id) && (finite (x .base) && every? (λ y. finite (originValue (y .origin))) (x .entries))) rs ≡ true) (sym same) (sheet-rows b l d e)) h)
+
+  pub attribute-given : (i : ℕ) → i < length (d .rows) → signed (cell (r .rows) i 1) ≡ getD (d .rows) i noRow .id
+  attribute-given i h = ap signed (row-given i 1 ∙ row-cells 0 0 (d .rows) (d .sources) i h .1) ∙ held-is (getD (d .rows) i noRow .id) (id-held i h)
+
+-- ---- no memory
+
+-- "Demand 3 is stated over the memoryless definition": of any bytes and lists lent, where the result is DONE and no attribute leads
+-- back to itself, each value that comes back is the one that the rules give, with no memory, for the object and the attribute of its row
+pub no-memory-given : (b : List ℕ) (l : Lent) (r : Result) → Meets b l r → r .number ≡ 0 → NoLoop (worldIn b l)
+    → (i : ℕ) → i < r .counts .rows → fresh (worldIn b l) (cell (r .rows) i 0) (signed (cell (r .rows) i 1)) ≡ ok (getD (r .values) i zeroF)
+no-memory-given b l r m z free i h =
+    let o = is-done b l r m z in
+    let d = o .done in
+    let inside : i < length (d .rows) = subst (λ (n : ℕ). i < n) (row-count b l r m d (o .is)) h in
+    let v = no-memory b l d (o .is) free i inside in
+    rw (object-given b l r m d (o .is) i inside, attribute-given b l r m d (o .is) i inside)
+    (v .is ∙ ap ok (sym (value-given b l r m d (o .is) i ∙ ap (λ (x : Option Float). Option·getD x zeroF) (v .has))))
+
+-- ---- the same values
+
+values-same : (b c : List ℕ) (l n : Lent) (r s : Result) → Meets b l r → Meets c n s → (d e : Done) → outcome b l ≡ ok d → outcome c n ≡ ok e → d .rows ≡ e .rows → d .values ≡ e .values → SameValues r s
+unfolding baseColumn entryColumn entryValueColumn
+values-same b c l n r s m k d e h j rows values =
+    record {
+      row-count = row-count b l r m d h ∙ ap length rows ∙ sym (row-count c n s k e j);
+      entry-count = ap (λ (x : Counts). x .entries) (m .by-counts) ∙ ap length entries ∙ sym (ap (λ (x : Counts). x .entries) (k .by-counts));
+      rows = λ i q p. row-given b l r m d h i q ∙ ap (λ (x : List Row). cell (rowsNumbers 0 0 x (d .sources)) i q) rows ∙ rows-four 0 0 0 (e .rows) (d .sources) (e .sources) i q p ∙ sym (row-given c n s k e j i q);
+      bases = columns-same zeroF baseColumn (λ o. map (λ x. x .base) (rowList o)) (λ o. column-place (λ x. x .base) zeroF (rowList o)) (outcome b l) (outcome c n) (l .bases) (n .bases) (m .by-bases) (k .by-bases) (ap (map (λ x. x .base)) listed);
+      values = λ i. value-given b l r m d h i ∙ ap (λ (x : List (Option Float)). Option·getD (getD x i none) zeroF) values ∙ sym (value-given c n s k e j i);
+      entries = columns-same (replicate 11 0) entryColumn (λ o. map entryNumbers (entryList o)) (λ o. column-place entryNumbers (replicate 11 0) (entryList o)) (outcome b l) (outcome c n) (l .entries) (n .entries) (m .by-entries) (k .by-entries) (ap (map entryNumbers) entries);
+      entryValues = columns-same zeroF entryValueColumn (λ o. map (λ x. originValue (x .origin)) (entryList o)) (λ o. column-place (λ x. originValue (x .origin)) zeroF (entryList o)) (outcome b l) (outcome c n) (l .entryValues) (n .entryValues) (m .by-entryValues) (k .by-entryValues) (ap (map (λ x. originValue (x .origin))) entries);
+    }
+  where
+    listed : rowList (outcome b l) ≡ rowList (outcome c n)
+    listed = ap rowList h ∙ rows ∙ sym (ap rowList j)
+
+    entries : entryList (outcome b l) ≡ entryList (outcome c n)
+    entries = ap (flat (λ x. x .entries)) listed
+
+-- of two sheets that differ in asks, depth and recording alone, and any lists lent for each: where nothing leads back to itself and both
+-- results are DONE, they have the same rows, bases, entries and values
+pub same-values-given : (b c : List ℕ) (l n : Lent) (r s : Result) → Meets b l r → Meets c n s → r .number ≡ 0 → s .number ≡ 0
+    → bookIn b ≡ bookIn c → SameButAsks (fitIn b) (fitIn c) → NoLoop (worldIn b l) → SameValues r s
+same-values-given b c l n r s m k y z book fit free =
+    let o = is-done b l r m y in
+    let p = is-done c n s k z in
+    let both = same-values b c l n (o .done) (p .done) (o .is) (p .is) book fit free in
+    values-same b c l n r s m k (o .done) (p .done) (o .is) (p .is) (both .0) (both .1)
+
+-- ---- more depth
+
+unless-so : (short : ℕ → Refusal) (n : ℕ) → ((p : ℕ) → number (Refused (short p)) ≡ n) → {x y : Res Done} → Unless short x y → (number (answerOf x) ≡ n → ⊥) → y ≡ x
+unless-so short n k (refused-so p e) h = absurd (h (ap (λ (o : Res Done). number (answerOf o)) e ∙ k p))
+unless-so short n k (the-same e) h = e
+
+-- "More depth": bytes c are b but with at least the depth: a result that is not 9 DEPTH is just the same with more, in number, place,
+-- counts and every column, whatever it was, with loops or without
+pub more-depth-given : (b c : List ℕ) (l : Lent) (r s : Result) → Deeper b c → Meets b l r → Meets c l s → (r .number ≡ 9 → ⊥) → r ≡ s
+more-depth-given b c l r s d m n h =
+    is-the-one b l r m
+    ∙ ap (λ (o : Res Done). resultFor o l) (sym (unless-so Depth 9 (λ p. refl) (more-depth-sheet b c l d) (λ e. h (m .by-number ∙ e))))
+    ∙ sym (is-the-one c l s n)
+
+-- ---- more room
+
+-- "More room": lists k lend at least as much as l in every column: a result that is not 7 ROOM is the same with more, in number, place,
+-- counts and every column, with zeros behind
+pub more-room-given : (b : List ℕ) (l k : Lent) (r s : Result) → Longer l k → Meets b l r → Meets b k s → (r .number ≡ 7 → ⊥) → SameResult r s
+unfolding collectedColumn collectedValueColumn rowColumn baseColumn valueColumn entryColumn entryValueColumn plainColumn sourceColumn sourceFloatColumn
+more-room-given b l k r s w m n h =
+    record {
+      number = m .by-number ∙ ap (λ (x : Res Done). number (answerOf x)) same ∙ sym (n .by-number);
+      place = m .by-place ∙ ap (λ (x : Res Done). place (answerOf x)) same ∙ sym (n .by-place);
+      counts = m .by-counts ∙ ap countsOf same ∙ sym (n .by-counts);
+      states = m .by-states ∙ ap stateColumn same ∙ sym (n .by-states);
+      collected = columns-same (replicate 14 0) collectedColumn (λ x. map collectedNumbers (collectedList x)) (λ x. column-place collectedNumbers (replicate 14 0) (collectedList x)) o p (l .collected) (k .collected) (m .by-collected) (n .by-collected) (ap (λ (x : Res Done). map collectedNumbers (collectedList x)) same);
+      collectedValues = columns-same zeroF collectedValueColumn (λ x. map (λ t. originValue (t .origin)) (collectedList x)) (λ x. column-place (λ t. originValue (t .origin)) zeroF (collectedList x)) o p (l .collectedValues) (k .collectedValues) (m .by-collectedValues) (n .by-collectedValues) (ap (λ (x : Res Done). map (λ t. originValue (t .origin)) (collectedList x)) same);
+      rows = columns-same (replicate 6 0) rowColumn (λ x. map (λ y. y) (rowsNumbers 0 0 (rowList x) (sourcesByRow x))) (λ x. column-place (λ y. y) (replicate 6 0) (rowsNumbers 0 0 (rowList x) (sourcesByRow x))) o p (l .rows) (k .rows) (m .by-rows) (n .by-rows) (ap (λ (x : Res Done). map (λ y. y) (rowsNumbers 0 0 (rowList x) (sourcesByRow x))) same);
+      bases = columns-same zeroF baseColumn (λ x. map (λ y. y .base) (rowList x)) (λ x. column-place (λ y. y .base) zeroF (rowList x)) o p (l .bases) (k .bases) (m .by-bases) (n .by-bases) (ap (λ (x : Res Done). map (λ y. y .base) (rowList x)) same);
+      values = columns-same zeroF valueColumn (λ x. map (λ y. y) (valueList x)) (λ x. column-place (λ y. y) zeroF (valueList x)) o p (l .values) (k .values) (m .by-values) (n .by-values) (ap (λ (x : Res Done). map (λ y. y) (valueList x)) same);
+      entries = columns-same (replicate 11 0) entryColumn (λ x. map entryNumbers (entryList x)) (λ x. column-place entryNumbers (replicate 11 0) (entryList x)) o p (l .entries) (k .entries) (m .by-entries) (n .by-entries) (ap (λ (x : Res Done). map entryNumbers (entryList x)) same);
+      entryValues = columns-same zeroF entryValueColumn (λ x. map (λ y. originValue (y .origin)) (entryList x)) (λ x. column-place (λ y. originValue (y .origin)) zeroF (entryList x)) o p (l .entryValues) (k .entryValues) (m .by-entryValues) (n .by-entryValues) (ap (λ (x : Res Done). map (λ y. originValue (y .origin)) (entryList x)) same);
+      plain = columns-same (replicate 2 0) plainColumn (λ x. map plainNumbers (plainList x)) (λ x. column-place plainNumbers (replicate 2 0) (plainList x)) o p (l .plain) (k .plain) (m .by-plain) (n .by-plain) (ap (λ (x : Res Done). map plainNumbers (plainList x)) same);
+      sources = columns-same (replicate 10 0) sourceColumn (λ x. map sourceNumbers (sourceList x)) (λ x. column-place sourceNumbers (replicate 10 0) (sourceList x)) o p (l .sources) (k .sources) (m .by-sources) (n .by-sources) (ap (λ (x : Res Done). map sourceNumbers (sourceList x)) same);
+      sourceFloats = columns-same (replicate 2 zeroF) sourceFloatColumn (λ x. map sourceFloats (sourceList x)) (λ x. column-place sourceFloats (replicate 2 zeroF) (sourceList x)) o p (l .sourceFloats) (k .sourceFloats) (m .by-sourceFloats) (n .by-sourceFloats) (ap (λ (x : Res Done). map sourceFloats (sourceList x)) same);
+    }
+  where
+    o : Res Done
+    o = outcome b l
+
+    p : Res Done
+    p = outcome b k
+
+    same : o ≡ p
+    same = sym (unless-so Room 7 (λ x. refl) (more-lent b l k w) (λ e. h (m .by-number ∙ e)))
