@@ -128,6 +128,8 @@ def by_mark():
         if len(data) <= LONGEST:
             full = reference.answer(data)
             yield f"marked: {name}", Case(data, [max(8, len(full.rows))] * 10, "cases/marked.py")
+            if name == "L":
+                yield "marked: L, one entry lent", Case(data, [8] * 5 + [1, 1] + [8] * 3, "cases/marked.py")
 
 
 def oracle_texts(chosen):

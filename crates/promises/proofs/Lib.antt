@@ -28,3 +28,4 @@ pub mod FloatsSheet
 pub mod Ends
 pub mod Given
 pub mod Floats
+pub mod Numbers

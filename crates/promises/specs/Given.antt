@@ -9,6 +9,7 @@ use lib.ListN.{getD, replicate}
 use Rattle.laws.specs.Lists.{every?}
 use Rattle.laws.specs.Floats.{finite, zeroF}
 use Rattle.rules.specs.Answer.{ok}
+use Rattle.rules.specs.Columns.{zeroEntry}
 use Rattle.rules.specs.Outcome.{Lent, Done, outcome}
 use Rattle.promises.specs.Result.{Result}
 
@@ -31,7 +32,7 @@ pub record SameResult (r s : Result) : Type 0 where
   pub rows : Same (replicate 6 0) (r .rows) (s .rows)
   pub bases : Same zeroF (r .bases) (s .bases)
   pub values : Same zeroF (r .values) (s .values)
-  pub entries : Same (replicate 11 0) (r .entries) (s .entries)
+  pub entries : Same zeroEntry (r .entries) (s .entries)
   pub entryValues : Same zeroF (r .entryValues) (s .entryValues)
   pub plain : Same (replicate 2 0) (r .plain) (s .plain)
   pub sources : Same (replicate 10 0) (r .sources) (s .sources)
@@ -44,7 +45,7 @@ pub record SameValues (r s : Result) : Type 0 where
   pub rows : (i j : ℕ) → j < 4 → cell (r .rows) i j ≡ cell (s .rows) i j
   pub bases : Same zeroF (r .bases) (s .bases)
   pub values : Same zeroF (r .values) (s .values)
-  pub entries : Same (replicate 11 0) (r .entries) (s .entries)
+  pub entries : Same zeroEntry (r .entries) (s .entries)
   pub entryValues : Same zeroF (r .entryValues) (s .entryValues)
 
 -- every float is finite

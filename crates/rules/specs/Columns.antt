@@ -73,6 +73,10 @@ entryNumbers e =
     originNumbers (e .origin)
     ++ (operatorCode (e .operator) ∷ yes1 (e .penalty) ∷ e .quantity ∷ (optionalNumbers (e .resistance) ++ (e .number ∷ [])))
 
+-- an entry of zeros
+abbrev pub zeroEntry : List ℕ
+zeroEntry = replicate 12 0
+
 -- list 4
 abbrev pub plainNumbers : Plain → List ℕ
 plainNumbers p = p .object ∷ bits (p .id) ∷ []
@@ -158,7 +162,7 @@ unfoldable pub valueColumn : Res Done → ℕ → List Float
 valueColumn r n = column (λ x. x) zeroF (valueList r) n
 
 unfoldable pub entryColumn : Res Done → ℕ → List (List ℕ)
-entryColumn r n = column entryNumbers (replicate 12 0) (entryList r) n
+entryColumn r n = column entryNumbers zeroEntry (entryList r) n
 
 unfoldable pub entryValueColumn : Res Done → ℕ → List Float
 entryValueColumn r n = column (λ e. originValue (e .origin)) zeroF (entryList r) n
