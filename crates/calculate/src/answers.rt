@@ -5,8 +5,9 @@ ghost use mathlib.Core.Path.{_≡_};
 ghost use Rattle.rules.specs.Answer.{number, place};
 ghost use Rattle.rules.specs.declared.Answer.the-variants.{Refused};
 
+// The number of a refusal.
 fn refusal_number(r: Refusal) -> u32
-    ensures { λ n. ⌜ n ≡ number (Refused r) ⌝ }
+    ensures defined { λ n. ⌜ n ≡ number (Refused r) ⌝ }
 {
     match r {
         Refusal::Shape(_) => 1,
@@ -21,8 +22,9 @@ fn refusal_number(r: Refusal) -> u32
     }
 }
 
+// The place of a refusal.
 fn refusal_place(r: Refusal) -> u32
-    ensures { λ p. ⌜ p ≡ place (Refused r) ⌝ }
+    ensures defined { λ p. ⌜ p ≡ place (Refused r) ⌝ }
 {
     match r {
         Refusal::Shape(p) => p,
@@ -37,8 +39,9 @@ fn refusal_place(r: Refusal) -> u32
     }
 }
 
+// The number that a caller gets.
 pub fn number_of(a: Answer) -> u32
-    ensures { λ n. ⌜ n ≡ number a ⌝ }
+    ensures defined { λ n. ⌜ n ≡ number a ⌝ }
 {
     match a {
         Answer::Done => 0,
@@ -46,8 +49,9 @@ pub fn number_of(a: Answer) -> u32
     }
 }
 
+// The place that a caller gets beside it.
 pub fn place_of(a: Answer) -> u32
-    ensures { λ p. ⌜ p ≡ place a ⌝ }
+    ensures defined { λ p. ⌜ p ≡ place a ⌝ }
 {
     match a {
         Answer::Done => 0,

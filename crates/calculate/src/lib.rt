@@ -15,8 +15,8 @@ use run::Ran;
 use run::outcome::filled;
 ghost use mathlib.Core.Path.{_≡_};
 ghost use Rattle.promises.specs.Result.{Meets};
-ghost use Rattle.run.specs.Filled.{lentOf};
-ghost use Rattle.calculate.specs.Given.{countsGiven, answerGiven, columns, resultOf};
+ghost use Rattle.run.specs.Filled.{lentColumns, lentOf};
+ghost use Rattle.calculate.specs.Given.{countsGiven, answerGiven, resultOf};
 
 // What comes back of a call: 01's number and place, and how many rows each list has.
 #[repr(C)]
@@ -32,7 +32,7 @@ pub struct Outcome {
 
 // The counts to keep: none after a refusal.
 fn counts_of(ran: Ran) -> KeptCounts
-    ensures { λ r. ⌜ r ≡ countsGiven ran ⌝ }
+    ensures defined { λ r. ⌜ r ≡ countsGiven ran ⌝ }
 {
     match ran {
         Ran::Done(n) => n,
@@ -47,8 +47,9 @@ fn counts_of(ran: Ran) -> KeptCounts
     }
 }
 
+// The answer without its counts.
 fn answer_of(ran: Ran) -> Answer
-    ensures { λ r. ⌜ r ≡ answerGiven ran ⌝ }
+    ensures defined { λ r. ⌜ r ≡ answerGiven ran ⌝ }
 {
     match ran {
         Ran::Done(_) => Answer::Done,
@@ -73,7 +74,7 @@ pub extern "C" fn dogma_calculate(
     sheet: &[u8],
 ) -> Outcome
     ensures the_definitions_answer { λ r.
-        let lists = columns collected «collected_values» rows bases values entries «entry_values» plain sources «source_values» in
+        let lists = lentColumns collected «collected_values» rows bases values entries «entry_values» plain sources «source_values» in
         ⌜ Meets (now (sheet .entry)) (lentOf (lists .entry)) (resultOf r (now (states .exit)) (lists .exit)) ⌝ }
 {
     let ran = filled(

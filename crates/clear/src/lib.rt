@@ -1,75 +1,83 @@
 // Unused ends are zero: every column that is lent, and the states, cleared behind the counts in one pass. With counts of 0 all is zero.
 use columns::AttributeRow;
+use columns::COLLECTED_WIDTH;
 use columns::CollectedRow;
+use columns::ENTRY_WIDTH;
 use columns::EntryRow;
+use columns::OBJECTS;
+use columns::PLAIN_WIDTH;
 use columns::PlainRow;
+use columns::ROW_WIDTH;
+use columns::SOURCE_FLOATS;
+use columns::SOURCE_WIDTH;
+use columns::STATE_WIDTH;
 use columns::SourceFloats;
 use columns::SourceRow;
 use columns::States;
 ghost use mathlib.Core.Path.{_≡_};
 ghost use lib.ListN.{length, replicate};
 ghost use Rattle.laws.specs.Floats.{zeroF};
-ghost use Rattle.clear.specs.Ends.{cleared};
+ghost use Rattle.clear.specs.Ends.{ClearedFrom};
 
 // ---- one column: zero from a place on; a place past the end changes nothing
 
 fn zero_collected(collected: &mut [CollectedRow], from: usize)
-    ensures { λ _. ⌜ now (collected .exit) ≡ cleared (replicate 14 0) from (now (collected .entry)) ⌝ }
+    ensures cleared { λ _. ⌜ ClearedFrom collected (replicate 14 0) from ⌝ }
 {
     let n = collected.len();
     let mut i = from;
     while i < n {
-        collected[i] = [0; 14];
+        collected[i] = [0; COLLECTED_WIDTH];
         i += 1;
     }
 }
 
 fn zero_entries(entries: &mut [EntryRow], from: usize)
-    ensures { λ _. ⌜ now (entries .exit) ≡ cleared (replicate 11 0) from (now (entries .entry)) ⌝ }
+    ensures cleared { λ _. ⌜ ClearedFrom entries (replicate 11 0) from ⌝ }
 {
     let n = entries.len();
     let mut i = from;
     while i < n {
-        entries[i] = [0; 11];
+        entries[i] = [0; ENTRY_WIDTH];
         i += 1;
     }
 }
 
 fn zero_sources(sources: &mut [SourceRow], from: usize)
-    ensures { λ _. ⌜ now (sources .exit) ≡ cleared (replicate 10 0) from (now (sources .entry)) ⌝ }
+    ensures cleared { λ _. ⌜ ClearedFrom sources (replicate 10 0) from ⌝ }
 {
     let n = sources.len();
     let mut i = from;
     while i < n {
-        sources[i] = [0; 10];
+        sources[i] = [0; SOURCE_WIDTH];
         i += 1;
     }
 }
 
 fn zero_rows(rows: &mut [AttributeRow], from: usize)
-    ensures { λ _. ⌜ now (rows .exit) ≡ cleared (replicate 6 0) from (now (rows .entry)) ⌝ }
+    ensures cleared { λ _. ⌜ ClearedFrom rows (replicate 6 0) from ⌝ }
 {
     let n = rows.len();
     let mut i = from;
     while i < n {
-        rows[i] = [0; 6];
+        rows[i] = [0; ROW_WIDTH];
         i += 1;
     }
 }
 
 fn zero_plain(plain: &mut [PlainRow], from: usize)
-    ensures { λ _. ⌜ now (plain .exit) ≡ cleared (replicate 2 0) from (now (plain .entry)) ⌝ }
+    ensures cleared { λ _. ⌜ ClearedFrom plain (replicate 2 0) from ⌝ }
 {
     let n = plain.len();
     let mut i = from;
     while i < n {
-        plain[i] = [0; 2];
+        plain[i] = [0; PLAIN_WIDTH];
         i += 1;
     }
 }
 
 fn zero_values(floats: &mut [f64], from: usize)
-    ensures { λ _. ⌜ now (floats .exit) ≡ cleared zeroF from (now (floats .entry)) ⌝ }
+    ensures cleared { λ _. ⌜ ClearedFrom floats zeroF from ⌝ }
 {
     let n = floats.len();
     let mut i = from;
@@ -80,30 +88,30 @@ fn zero_values(floats: &mut [f64], from: usize)
 }
 
 fn zero_source_values(pairs: &mut [SourceFloats], from: usize)
-    ensures { λ _. ⌜ now (pairs .exit) ≡ cleared (replicate 2 zeroF) from (now (pairs .entry)) ⌝ }
+    ensures cleared { λ _. ⌜ ClearedFrom pairs (replicate 2 zeroF) from ⌝ }
 {
     let n = pairs.len();
     let mut i = from;
     while i < n {
-        pairs[i] = [0.0; 2];
+        pairs[i] = [0.0; SOURCE_FLOATS];
         i += 1;
     }
 }
 
 // A lent array's length is told where it is handed on by value; the compiler drops the copy.
 fn full(given: States)
-    ensures { λ _. ⌜ length given ≡ 1024 ⌝ }
+    ensures whole { λ _. ⌜ length given ≡ 1024 ⌝ }
 {}
 
 fn zero_states(states: &mut States, from: usize)
-    ensures { λ _. ⌜ now (states .exit) ≡ cleared (replicate 2 0) from (now (states .entry)) ⌝ }
-    ensures { λ _. ⌜ length (now (states .entry)) ≡ 1024 ⌝ }
+    ensures cleared { λ _. ⌜ ClearedFrom states (replicate 2 0) from ⌝ }
+    ensures whole { λ _. ⌜ length (now (states .entry)) ≡ 1024 ⌝ }
 {
     let given = *states;
     full(given);
     let mut o = from;
-    while o < 1024 {
-        states[o] = [0; 2];
+    while o < OBJECTS {
+        states[o] = [0; STATE_WIDTH];
         o += 1;
     }
 }
@@ -135,18 +143,18 @@ pub fn clear(
     source_values: &mut [SourceFloats],
     counts: KeptCounts,
 )
-    ensures { λ _. ⌜ now (collected .exit) ≡ cleared (replicate 14 0) (counts .collected) (now (collected .entry)) ⌝ }
-    ensures { λ _. ⌜ now («collected_values» .exit) ≡ cleared zeroF (counts .collected) (now («collected_values» .entry)) ⌝ }
-    ensures { λ _. ⌜ now (rows .exit) ≡ cleared (replicate 6 0) (counts .rows) (now (rows .entry)) ⌝ }
-    ensures { λ _. ⌜ now (bases .exit) ≡ cleared zeroF (counts .rows) (now (bases .entry)) ⌝ }
-    ensures { λ _. ⌜ now (values .exit) ≡ cleared zeroF (counts .rows) (now (values .entry)) ⌝ }
-    ensures { λ _. ⌜ now (entries .exit) ≡ cleared (replicate 11 0) (counts .entries) (now (entries .entry)) ⌝ }
-    ensures { λ _. ⌜ now («entry_values» .exit) ≡ cleared zeroF (counts .entries) (now («entry_values» .entry)) ⌝ }
-    ensures { λ _. ⌜ now (plain .exit) ≡ cleared (replicate 2 0) (counts .plain) (now (plain .entry)) ⌝ }
-    ensures { λ _. ⌜ now (sources .exit) ≡ cleared (replicate 10 0) (counts .sources) (now (sources .entry)) ⌝ }
-    ensures { λ _. ⌜ now («source_values» .exit) ≡ cleared (replicate 2 zeroF) (counts .sources) (now («source_values» .entry)) ⌝ }
-    ensures { λ _. ⌜ now (states .exit) ≡ cleared (replicate 2 0) (counts .objects) (now (states .entry)) ⌝ }
-    ensures { λ _. ⌜ length (now (states .entry)) ≡ 1024 ⌝ }
+    ensures collected { λ _. ⌜ ClearedFrom collected (replicate 14 0) (counts .collected) ⌝ }
+    ensures collected_values { λ _. ⌜ ClearedFrom «collected_values» zeroF (counts .collected) ⌝ }
+    ensures rows { λ _. ⌜ ClearedFrom rows (replicate 6 0) (counts .rows) ⌝ }
+    ensures bases { λ _. ⌜ ClearedFrom bases zeroF (counts .rows) ⌝ }
+    ensures values { λ _. ⌜ ClearedFrom values zeroF (counts .rows) ⌝ }
+    ensures entries { λ _. ⌜ ClearedFrom entries (replicate 11 0) (counts .entries) ⌝ }
+    ensures entry_values { λ _. ⌜ ClearedFrom «entry_values» zeroF (counts .entries) ⌝ }
+    ensures plain { λ _. ⌜ ClearedFrom plain (replicate 2 0) (counts .plain) ⌝ }
+    ensures sources { λ _. ⌜ ClearedFrom sources (replicate 10 0) (counts .sources) ⌝ }
+    ensures source_values { λ _. ⌜ ClearedFrom «source_values» (replicate 2 zeroF) (counts .sources) ⌝ }
+    ensures states { λ _. ⌜ ClearedFrom states (replicate 2 0) (counts .objects) ⌝ }
+    ensures whole { λ _. ⌜ length (now (states .entry)) ≡ 1024 ⌝ }
 {
     zero_collected(collected, counts.collected);
     zero_values(collected_values, counts.collected);

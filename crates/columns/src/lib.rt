@@ -4,21 +4,41 @@
 pub const OBJECTS: usize = 1024;
 
 // states: one row for each object.
-pub type StateRow = [u32; 2];
+pub const STATE_WIDTH: usize = 2;
+
+pub type StateRow = [u32; STATE_WIDTH];
 
 pub type States = [StateRow; OBJECTS];
 
+pub const STATE: usize = 0;
+
+pub const MAX_STATE: usize = 1;
+
 // Of each of the ten tables of a sheet the count of its records and its byte offset.
-pub type TablePairs = [[u32; 2]; 10];
+pub type TablePair = [u32; 2];
+
+pub const PAIR_COUNT: usize = 0;
+
+pub const PAIR_OFFSET: usize = 1;
+
+pub type TablePairs = [TablePair; 10];
 
 // Of each object its first row in list 2, and the row past its last.
 pub type Stretches = [[u32; 2]; OBJECTS];
 
+pub const STRETCH_FIRST: usize = 0;
+
+pub const STRETCH_END: usize = 1;
+
 // Marks of the attributes that may have a limit, by their ids modulo 1,024.
-pub type Limits = [u32; 1024];
+pub const LIMIT_MARKS: usize = 1024;
+
+pub type Limits = [u32; LIMIT_MARKS];
 
 // List 1, collected effects.
-pub type CollectedRow = [u32; 14];
+pub const COLLECTED_WIDTH: usize = 14;
+
+pub type CollectedRow = [u32; COLLECTED_WIDTH];
 
 pub const COLLECTED_ORIGIN: usize = 0;
 
@@ -32,9 +52,15 @@ pub const COLLECTED_MODIFYING_ATTRIBUTE: usize = 4;
 
 pub const COLLECTED_BUFF: usize = 5;
 
+pub const COLLECTED_FUNC: usize = 6;
+
+pub const COLLECTED_SKILL_OR_GROUP: usize = 7;
+
 pub const COLLECTED_OPERATOR: usize = 8;
 
 pub const COLLECTED_SOURCE_QUANTITY: usize = 9;
+
+pub const COLLECTED_TARGET: usize = 10;
 
 pub const COLLECTED_TARGET_ATTRIBUTE: usize = 11;
 
@@ -43,7 +69,9 @@ pub const COLLECTED_RESISTANCE_GIVEN: usize = 12;
 pub const COLLECTED_RESISTANCE: usize = 13;
 
 // List 2, attribute rows.
-pub type AttributeRow = [u32; 6];
+pub const ROW_WIDTH: usize = 6;
+
+pub type AttributeRow = [u32; ROW_WIDTH];
 
 pub const ROW_OBJECT: usize = 0;
 
@@ -58,18 +86,93 @@ pub const ROW_FIRST_SOURCE: usize = 4;
 pub const ROW_SOURCE_COUNT: usize = 5;
 
 // List 3, entries. Until `entries` writes them out, number 0 is a hit's effect and number 1 the effect at a place.
-pub type EntryRow = [u32; 11];
+pub const ENTRY_WIDTH: usize = 11;
+
+pub type EntryRow = [u32; ENTRY_WIDTH];
 
 pub const ENTRY_HIT: usize = 0;
 
 pub const ENTRY_PLACED: usize = 1;
 
+pub const ENTRY_ORIGIN: usize = 0;
+
+pub const ENTRY_EFFECT: usize = 1;
+
+pub const ENTRY_SOURCE: usize = 2;
+
+pub const ENTRY_SOURCE_CATEGORY: usize = 3;
+
+pub const ENTRY_MODIFYING_ATTRIBUTE: usize = 4;
+
+pub const ENTRY_BUFF: usize = 5;
+
 pub const ENTRY_OPERATOR: usize = 6;
 
+pub const ENTRY_PENALTY: usize = 7;
+
+pub const ENTRY_QUANTITY: usize = 8;
+
+pub const ENTRY_RESISTANCE_GIVEN: usize = 9;
+
+pub const ENTRY_RESISTANCE: usize = 10;
+
 // List 4, plain effects.
-pub type PlainRow = [u32; 2];
+pub const PLAIN_WIDTH: usize = 2;
+
+pub type PlainRow = [u32; PLAIN_WIDTH];
+
+pub const PLAIN_OBJECT: usize = 0;
+
+pub const PLAIN_EFFECT: usize = 1;
 
 // List 5, source rows, and the two floats of one.
-pub type SourceRow = [u32; 10];
+pub const SOURCE_WIDTH: usize = 10;
 
-pub type SourceFloats = [f64; 2];
+pub type SourceRow = [u32; SOURCE_WIDTH];
+
+pub const SOURCE_FROM: usize = 0;
+
+pub const SOURCE_OBJECT_OR_BUFF: usize = 1;
+
+pub const SOURCE_EFFECT_GIVEN: usize = 2;
+
+pub const SOURCE_EFFECT: usize = 3;
+
+pub const SOURCE_ATTRIBUTE_GIVEN: usize = 4;
+
+pub const SOURCE_ATTRIBUTE: usize = 5;
+
+pub const SOURCE_OPERATOR: usize = 6;
+
+pub const SOURCE_QUANTITY: usize = 7;
+
+pub const SOURCE_PENALTY_GIVEN: usize = 8;
+
+pub const SOURCE_APPLIED: usize = 9;
+
+pub const SOURCE_FLOATS: usize = 2;
+
+pub type SourceFloats = [f64; SOURCE_FLOATS];
+
+pub const SOURCE_VALUE: usize = 0;
+
+pub const SOURCE_PENALTY: usize = 1;
+
+// The copies of a penalised value that are weighed: their values, and the source row of each.
+pub const COPIES: usize = 8;
+
+pub type CopyValues = [f64; COPIES];
+
+pub type CopySources = [u32; COPIES];
+
+// A mark for each operator, at its code.
+pub const OPERATORS: usize = 9;
+
+pub type OperatorMarks = [u32; OPERATORS];
+
+// The tables of a sheet that are counted by their numbers.
+pub const TABLE_ATTRIBUTES: usize = 1;
+
+pub const TABLE_OBJECTS: usize = 6;
+
+pub const TABLE_ASKS: usize = 10;

@@ -1,1 +1,2 @@
 pub mod Piles
+pub mod Adds

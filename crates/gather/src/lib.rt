@@ -1,4 +1,6 @@
 // What one operator gathers of a row's entries, entry by entry (pass_3.rs).
+use columns::CopySources;
+use columns::CopyValues;
 use columns::SourceFloats;
 use columns::SourceRow;
 use numbers::less;
@@ -19,22 +21,20 @@ use sources::notes::note;
 use sources::notes::note_penalised;
 use sources::rows::to_source;
 ghost use mathlib.Core.Path.{_≡_};
-ghost use mathlib.Core.Bool.{Bool, true, false, _&&_};
-ghost use mathlib.Core.List.{List, []};
-ghost use Prim.Native.Nat.{ℕ, _+_, _≤_, _<_, _^_, min};
+ghost use mathlib.Core.Bool.{true, false};
+ghost use Prim.Native.Nat.{_+_, _≤_, _<_, _^_, min};
 ghost use lib.Dec.{T};
 ghost use lib.Ieee.{Float, lt};
-ghost use lib.ListN.{length, getD};
+ghost use lib.ListN.{length};
 ghost use Rattle.laws.specs.Floats.{finite, zeroF};
-ghost use Rattle.rules.specs.Dispatch.{Row};
 ghost use Rattle.rules.specs.Columns.{yes1};
-ghost use Rattle.rules.specs.Operate.{Values, hasPenalty};
-ghost use Rattle.rules.specs.Value.{World, Mem, Gathered, ownSources, nothing, withStack};
+ghost use Rattle.rules.specs.Operate.{Values};
+ghost use Rattle.rules.specs.Value.{nothing, withStack};
 ghost use Rattle.rules.specs.Value as values;
-ghost use Rattle.operate.specs.Held as bucket;
 ghost use Rattle.operate.specs.SoFar.{RunningOf, copiesFrom, withCopies};
-ghost use Rattle.sources.specs.Keeping.{RunOf, Begins, Keeping, moreOf};
-ghost use Rattle.gather.specs.Piles.{PileOf, PiledAs, whole, Eights, entered, enteredCount};
+ghost use Rattle.sources.specs.Keeping.{moreOf};
+ghost use Rattle.gather.specs.Piles.{whole, entered, enteredCount};
+ghost use Rattle.gather.specs.Adds.{piled, EightsAt, PileBegins, CopiesGive, EntryGives, PenalisedGives, PlainGives, IdleGives};
 
 // Why nothing more is gathered.
 pub enum Stop {
@@ -64,12 +64,12 @@ pub struct Growing {
 }
 
 // Nothing is gathered yet.
-pub fn empty(v: f64, own: u32, used: u32) -> Growing
-    ensures { λ r. ⌜ ((counts : List ℕ) (room : ℕ) (s₀ : List (List ℕ)) (f₀ : List (List Float)) (i : ℕ) (high : Bool) (op : EffectOperator) (m : Mem) (s : List (List ℕ)) (f : List (List Float)) (pv : List Float) (ps : List ℕ) (nv : List Float) (ns : List ℕ) → T (finite v) → Keeping counts room s₀ f₀ i m s f own used → PileOf counts room s₀ f₀ i high op v (record { mem = m; values = nothing }) (whole pv ps nv ns r) s f) ⌝ }
-    ensures { λ r. ⌜ (r .own ≡ own) × (r .used ≡ used) × (r .stop ≡ Stop.No) ⌝ }
+pub fn empty(value: f64, own: u32, used: u32) -> Growing
+    ensures defined { λ r. ⌜ PileBegins value own used r nothing ⌝ }
+    ensures counted { λ r. ⌜ (r .own ≡ own) × (r .used ≡ used) × (r .stop ≡ Stop.No) ⌝ }
 {
     Growing {
-        running: start(v),
+        running: start(value),
         positive: 0,
         negative: 0,
         own,
@@ -80,7 +80,7 @@ pub fn empty(v: f64, own: u32, used: u32) -> Growing
 
 // The same, stopped.
 pub fn stopped(p: Growing, y: Refusal) -> Growing
-    ensures { λ r. ⌜ (r .own ≡ p .own) × (r .used ≡ p .used) × (r .stop ≡ Stop.Because y) ⌝ }
+    ensures stopped { λ r. ⌜ (r .own ≡ p .own) × (r .used ≡ p .used) × (r .stop ≡ Stop.Because y) ⌝ }
 {
     let running = p.running;
     Growing {
@@ -95,7 +95,8 @@ pub fn stopped(p: Growing, y: Refusal) -> Growing
 
 // The source rows are so many now.
 pub fn counted(p: Growing, own: u32, used: u32) -> Growing
-    ensures { λ r. ⌜ (r .own ≡ own) × (r .used ≡ used) × (r .stop ≡ p .stop) × (r .running ≡ p .running) × (r .positive ≡ p .positive) × (r .negative ≡ p .negative) ⌝ }
+    ensures counted { λ r. ⌜ (r .own ≡ own) × (r .used ≡ used) × (r .stop ≡ p .stop) × (r .running ≡ p .running)
+        × (r .positive ≡ p .positive) × (r .negative ≡ p .negative) ⌝ }
 {
     let running = p.running;
     let stop = p.stop;
@@ -111,8 +112,9 @@ pub fn counted(p: Growing, own: u32, used: u32) -> Growing
 
 // An unpenalised value more.
 fn with_value(p: Growing, high: bool, operator: EffectOperator, x: f64, quantity: u32) -> Growing
-    ensures { λ r. ⌜ ((v : Float) (g : Values) → T (finite x) → RunningOf high operator v (g .unpenalized) (p .running) → RunningOf high operator v (withStack x quantity g .unpenalized) (r .running)) ⌝ }
-    ensures { λ r. ⌜ (r .own ≡ p .own) × (r .used ≡ p .used) × (r .stop ≡ p .stop) × (r .positive ≡ p .positive) × (r .negative ≡ p .negative) ⌝ }
+    ensures defined { λ r. ⌜ ((v : Float) (g : Values) → T (finite x) → RunningOf high operator v (g .unpenalized) (p .running)
+        → RunningOf high operator v (withStack x quantity g .unpenalized) (r .running)) ⌝ }
+    ensures kept { λ r. ⌜ (r .own ≡ p .own) × (r .used ≡ p .used) × (r .stop ≡ p .stop) × (r .positive ≡ p .positive) × (r .negative ≡ p .negative) ⌝ }
 {
     let running = p.running;
     let stop = p.stop;
@@ -128,7 +130,7 @@ fn with_value(p: Growing, high: bool, operator: EffectOperator, x: f64, quantity
 
 // How far apart the source rows of copies are.
 fn step_of(recording: bool) -> u32
-    ensures { λ r. ⌜ r ≡ yes1 recording ⌝ }
+    ensures defined { λ r. ⌜ r ≡ yes1 recording ⌝ }
 {
     if recording {
         return 1;
@@ -138,20 +140,22 @@ fn step_of(recording: bool) -> u32
 
 // So many copies of a penalised value more, whose source rows follow those that the row has; 0.0 of either sign is among the positive ones.
 fn with_copies(
-    positives: &mut [f64; 8],
-    positive_sources: &mut [u32; 8],
-    negatives: &mut [f64; 8],
-    negative_sources: &mut [u32; 8],
+    positives: &mut CopyValues,
+    positive_sources: &mut CopySources,
+    negatives: &mut CopyValues,
+    negative_sources: &mut CopySources,
     p: Growing,
     recording: bool,
     x: f64,
     copies: u32,
 ) -> Growing
-    requires { ⌜ p .own + moreOf recording copies < 2 ^ 32 ⌝ }
-    requires { ⌜ Eights (now positives) (now «positive_sources») (now negatives) (now «negative_sources») ⌝ }
-    ensures { λ r. ⌜ ((g : Values) → T (finite x) → bucket.Gathered (g .positive) (bucket.bucket (now (positives .entry)) (now («positive_sources» .entry)) (p .positive)) → bucket.Gathered (g .negative) (bucket.bucket (now (negatives .entry)) (now («negative_sources» .entry)) (p .negative)) → bucket.Gathered (withCopies (lt x zeroF) (copiesFrom x (p .own) (yes1 recording) copies) g .positive) (bucket.bucket (now (positives .exit)) (now («positive_sources» .exit)) (r .positive)) × bucket.Gathered (withCopies (lt x zeroF) (copiesFrom x (p .own) (yes1 recording) copies) g .negative) (bucket.bucket (now (negatives .exit)) (now («negative_sources» .exit)) (r .negative))) ⌝ }
-    ensures { λ r. ⌜ (r .own ≡ p .own) × (r .used ≡ p .used) × (r .stop ≡ p .stop) × (r .running ≡ p .running) ⌝ }
-    ensures { λ _. ⌜ Eights (now (positives .exit)) (now («positive_sources» .exit)) (now (negatives .exit)) (now («negative_sources» .exit)) ⌝ }
+    requires few { ⌜ p .own + moreOf recording copies < 2 ^ 32 ⌝ }
+    requires eights { ⌜ EightsAt positives «positive_sources» negatives «negative_sources» ⌝ }
+    ensures defined { λ r.
+        let pile = piled positives «positive_sources» negatives «negative_sources» p r in
+        ⌜ CopiesGive pile x (withCopies (lt x zeroF) (copiesFrom x (p .own) (yes1 recording) copies)) ⌝ }
+    ensures kept { λ r. ⌜ (r .own ≡ p .own) × (r .used ≡ p .used) × (r .stop ≡ p .stop) × (r .running ≡ p .running) ⌝ }
+    ensures eights { λ _. ⌜ EightsAt (positives .exit) («positive_sources» .exit) (negatives .exit) («negative_sources» .exit) ⌝ }
 {
     let running = p.running;
     let mut positive = p.positive;
@@ -191,33 +195,35 @@ fn with_copies(
 
 // How many copies of a quantity are weighed.
 fn copies_of(quantity: u32) -> u32
-    ensures { λ r. ⌜ r ≡ min quantity 8 ⌝ }
+    ensures defined { λ r. ⌜ r ≡ min quantity 8 ⌝ }
 {
     if quantity < 8 { quantity } else { 8 }
 }
 
-// A penalised entry of strength v, whose simplified value is x.
+// A penalised entry by its strength, and by x, its simplified value.
 fn add_penalised(
-    positives: &mut [f64; 8],
-    positive_sources: &mut [u32; 8],
-    negatives: &mut [f64; 8],
-    negative_sources: &mut [u32; 8],
+    positives: &mut CopyValues,
+    positive_sources: &mut CopySources,
+    negatives: &mut CopyValues,
+    negative_sources: &mut CopySources,
     sources: &mut [SourceRow],
     floats: &mut [SourceFloats],
     run: Recording,
     first: u32,
     e: Effect,
-    v: f64,
+    strength: f64,
     x: f64,
     p: Growing,
 ) -> Growing
-    requires { ⌜ (run .room ≤ length (now sources)) × (run .room ≤ length (now floats)) × (p .own ≤ p .used) ⌝ }
-    requires { ⌜ Eights (now positives) (now «positive_sources») (now negatives) (now «negative_sources») ⌝ }
-    ensures { λ r. ⌜ ((w : World) (counts : List ℕ) (s₀ : List (List ℕ)) (f₀ : List (List Float)) (i : ℕ) (row : Row) (high : Bool) (op : EffectOperator) (found : Float) (g : Gathered) → RunOf w run → Begins counts i first → T (finite x) → p .stop ≡ Stop.No → PileOf counts (w .room) s₀ f₀ i high op found g (whole (now (positives .entry)) (now («positive_sources» .entry)) (now (negatives .entry)) (now («negative_sources» .entry)) p) (now (sources .entry)) (now (floats .entry)) → (w .recording ≡ true → length (ownSources i (g .mem)) + min (e .quantity) 9 ≤ getD counts i 0) → PiledAs counts (w .room) s₀ f₀ i high op found (values.penalised w i row e v x g) (whole (now (positives .exit)) (now («positive_sources» .exit)) (now (negatives .exit)) (now («negative_sources» .exit)) r) (now (sources .exit)) (now (floats .exit))) ⌝ }
-    ensures { λ r. ⌜ r .own ≤ r .used ⌝ }
-    ensures { λ _. ⌜ Eights (now (positives .exit)) (now («positive_sources» .exit)) (now (negatives .exit)) (now («negative_sources» .exit)) ⌝ }
+    requires roomy { ⌜ (run .room ≤ length (now sources)) × (run .room ≤ length (now floats)) × (p .own ≤ p .used) ⌝ }
+    requires eights { ⌜ EightsAt positives «positive_sources» negatives «negative_sources» ⌝ }
+    ensures defined { λ r.
+        let pile = piled positives «positive_sources» negatives «negative_sources» p r in
+        ⌜ PenalisedGives run first x pile sources floats (min (e .quantity) 9) (λ w i row. values.penalised w i row e strength x) ⌝ }
+    ensures counted { λ r. ⌜ r .own ≤ r .used ⌝ }
+    ensures eights { λ _. ⌜ EightsAt (positives .exit) («positive_sources» .exit) (negatives .exit) («negative_sources» .exit) ⌝ }
 {
-    let noted = note_penalised(sources, floats, run, first, e, v, p.own, p.used);
+    let noted = note_penalised(sources, floats, run, first, e, strength, p.own, p.used);
     match noted {
         Noted::At(own, used) => {
             let q = with_copies(
@@ -236,7 +242,7 @@ fn add_penalised(
     }
 }
 
-// An unpenalised entry of strength v, whose simplified value is x.
+// An unpenalised entry by its strength, and by x, its simplified value.
 fn add_plain(
     sources: &mut [SourceRow],
     floats: &mut [SourceFloats],
@@ -244,17 +250,18 @@ fn add_plain(
     first: u32,
     high: bool,
     e: Effect,
-    v: f64,
+    strength: f64,
     x: f64,
     p: Growing,
 ) -> Growing
-    requires { ⌜ (run .room ≤ length (now sources)) × (run .room ≤ length (now floats)) × (p .own ≤ p .used) ⌝ }
-    ensures { λ r. ⌜ ((w : World) (counts : List ℕ) (s₀ : List (List ℕ)) (f₀ : List (List Float)) (i : ℕ) (row : Row) (op : EffectOperator) (found : Float) (g : Gathered) (pv : List Float) (ps : List ℕ) (nv : List Float) (ns : List ℕ) → RunOf w run → Begins counts i first → T (finite x) → e .operator ≡ op → p .stop ≡ Stop.No → PileOf counts (w .room) s₀ f₀ i high op found g (whole pv ps nv ns p) (now (sources .entry)) (now (floats .entry)) → (w .recording ≡ true → length (ownSources i (g .mem)) + 1 ≤ getD counts i 0) → PiledAs counts (w .room) s₀ f₀ i high op found (values.unpenalised w i row e v x g) (whole pv ps nv ns r) (now (sources .exit)) (now (floats .exit))) ⌝ }
-    ensures { λ r. ⌜ r .own ≤ r .used ⌝ }
+    requires roomy { ⌜ (run .room ≤ length (now sources)) × (run .room ≤ length (now floats)) × (p .own ≤ p .used) ⌝ }
+    ensures defined { λ r.
+        ⌜ PlainGives run first high e x p r sources floats 1 (λ w i row. values.unpenalised w i row e strength x) ⌝ }
+    ensures counted { λ r. ⌜ r .own ≤ r .used ⌝ }
 {
     let quantity = e.quantity;
     let operator = e.operator;
-    let s = to_source(e, v, true, quantity, false);
+    let s = to_source(e, strength, true, quantity, false);
     let noted = note(sources, floats, run, first, s, p.own, p.used);
     match noted {
         Noted::At(own, used) => {
@@ -272,14 +279,14 @@ fn add_idle(
     run: Recording,
     first: u32,
     e: Effect,
-    v: f64,
+    strength: f64,
     p: Growing,
 ) -> Growing
-    requires { ⌜ (run .room ≤ length (now sources)) × (run .room ≤ length (now floats)) × (p .own ≤ p .used) ⌝ }
-    ensures { λ r. ⌜ ((w : World) (counts : List ℕ) (s₀ : List (List ℕ)) (f₀ : List (List Float)) (i : ℕ) (row : Row) (high : Bool) (op : EffectOperator) (found : Float) (g : Gathered) (pv : List Float) (ps : List ℕ) (nv : List Float) (ns : List ℕ) → RunOf w run → Begins counts i first → p .stop ≡ Stop.No → PileOf counts (w .room) s₀ f₀ i high op found g (whole pv ps nv ns p) (now (sources .entry)) (now (floats .entry)) → (w .recording ≡ true → length (ownSources i (g .mem)) + 1 ≤ getD counts i 0) → PiledAs counts (w .room) s₀ f₀ i high op found (entered w i row false e v g) (whole pv ps nv ns r) (now (sources .exit)) (now (floats .exit))) ⌝ }
-    ensures { λ r. ⌜ r .own ≤ r .used ⌝ }
+    requires roomy { ⌜ (run .room ≤ length (now sources)) × (run .room ≤ length (now floats)) × (p .own ≤ p .used) ⌝ }
+    ensures defined { λ r. ⌜ IdleGives run first p r sources floats 1 (λ w i row. entered w i row false e strength) ⌝ }
+    ensures counted { λ r. ⌜ r .own ≤ r .used ⌝ }
 {
-    let s = to_source(e, v, false, e.quantity, false);
+    let s = to_source(e, strength, false, e.quantity, false);
     let noted = note(sources, floats, run, first, s, p.own, p.used);
     match noted {
         Noted::At(own, used) => counted(p, own, used),
@@ -287,12 +294,12 @@ fn add_idle(
     }
 }
 
-// An entry that runs, of strength v: its simplified value must be finite, or the object has the refusal.
+// An entry that runs, by its strength: its simplified value must be finite, or the object has the refusal.
 fn add_running(
-    positives: &mut [f64; 8],
-    positive_sources: &mut [u32; 8],
-    negatives: &mut [f64; 8],
-    negative_sources: &mut [u32; 8],
+    positives: &mut CopyValues,
+    positive_sources: &mut CopySources,
+    negatives: &mut CopyValues,
+    negative_sources: &mut CopySources,
     sources: &mut [SourceRow],
     floats: &mut [SourceFloats],
     run: Recording,
@@ -300,17 +307,19 @@ fn add_running(
     object: u32,
     high: bool,
     e: Effect,
-    v: f64,
+    strength: f64,
     p: Growing,
 ) -> Growing
-    requires { ⌜ (run .room ≤ length (now sources)) × (run .room ≤ length (now floats)) × (p .own ≤ p .used) ⌝ }
-    requires { ⌜ Eights (now positives) (now «positive_sources») (now negatives) (now «negative_sources») ⌝ }
-    ensures { λ r. ⌜ ((w : World) (counts : List ℕ) (s₀ : List (List ℕ)) (f₀ : List (List Float)) (i : ℕ) (row : Row) (op : EffectOperator) (found : Float) (g : Gathered) → RunOf w run → Begins counts i first → row .object ≡ object → e .operator ≡ op → T (finite v) → p .stop ≡ Stop.No → PileOf counts (w .room) s₀ f₀ i high op found g (whole (now (positives .entry)) (now («positive_sources» .entry)) (now (negatives .entry)) (now («negative_sources» .entry)) p) (now (sources .entry)) (now (floats .entry)) → (w .recording ≡ true → length (ownSources i (g .mem)) + enteredCount true e ≤ getD counts i 0) → PiledAs counts (w .room) s₀ f₀ i high op found (entered w i row true e v g) (whole (now (positives .exit)) (now («positive_sources» .exit)) (now (negatives .exit)) (now («negative_sources» .exit)) r) (now (sources .exit)) (now (floats .exit))) ⌝ }
-    ensures { λ r. ⌜ r .own ≤ r .used ⌝ }
-    ensures { λ _. ⌜ Eights (now (positives .exit)) (now («positive_sources» .exit)) (now (negatives .exit)) (now («negative_sources» .exit)) ⌝ }
+    requires roomy { ⌜ (run .room ≤ length (now sources)) × (run .room ≤ length (now floats)) × (p .own ≤ p .used) ⌝ }
+    requires eights { ⌜ EightsAt positives «positive_sources» negatives «negative_sources» ⌝ }
+    ensures defined { λ r.
+        let pile = piled positives «positive_sources» negatives «negative_sources» p r in
+        ⌜ EntryGives run first object high e strength pile sources floats (enteredCount true e) (λ w i row. entered w i row true e strength) ⌝ }
+    ensures counted { λ r. ⌜ r .own ≤ r .used ⌝ }
+    ensures eights { λ _. ⌜ EightsAt (positives .exit) («positive_sources» .exit) (negatives .exit) («negative_sources» .exit) ⌝ }
 {
     let operator = e.operator;
-    let step = simplified(operator, v);
+    let step = simplified(operator, strength);
     match step {
         Step::Finite(x) => {
             if e.penalty & has_penalty(operator) {
@@ -324,23 +333,23 @@ fn add_running(
                     run,
                     first,
                     e,
-                    v,
+                    strength,
                     x,
                     p,
                 );
             }
-            add_plain(sources, floats, run, first, high, e, v, x, p)
+            add_plain(sources, floats, run, first, high, e, strength, x, p)
         }
         Step::NotFinite => stopped(p, Refusal::Number(object)),
     }
 }
 
-// An entry of strength v, which runs or does not.
+// An entry by its strength, which runs or does not.
 pub fn add_entry(
-    positives: &mut [f64; 8],
-    positive_sources: &mut [u32; 8],
-    negatives: &mut [f64; 8],
-    negative_sources: &mut [u32; 8],
+    positives: &mut CopyValues,
+    positive_sources: &mut CopySources,
+    negatives: &mut CopyValues,
+    negative_sources: &mut CopySources,
     sources: &mut [SourceRow],
     floats: &mut [SourceFloats],
     run: Recording,
@@ -349,14 +358,16 @@ pub fn add_entry(
     high: bool,
     runs: bool,
     e: Effect,
-    v: f64,
+    strength: f64,
     p: Growing,
 ) -> Growing
-    requires { ⌜ (run .room ≤ length (now sources)) × (run .room ≤ length (now floats)) × (p .own ≤ p .used) ⌝ }
-    requires { ⌜ Eights (now positives) (now «positive_sources») (now negatives) (now «negative_sources») ⌝ }
-    ensures { λ r. ⌜ ((w : World) (counts : List ℕ) (s₀ : List (List ℕ)) (f₀ : List (List Float)) (i : ℕ) (row : Row) (op : EffectOperator) (found : Float) (g : Gathered) → RunOf w run → Begins counts i first → row .object ≡ object → e .operator ≡ op → T (finite v) → p .stop ≡ Stop.No → PileOf counts (w .room) s₀ f₀ i high op found g (whole (now (positives .entry)) (now («positive_sources» .entry)) (now (negatives .entry)) (now («negative_sources» .entry)) p) (now (sources .entry)) (now (floats .entry)) → (w .recording ≡ true → length (ownSources i (g .mem)) + enteredCount runs e ≤ getD counts i 0) → PiledAs counts (w .room) s₀ f₀ i high op found (entered w i row runs e v g) (whole (now (positives .exit)) (now («positive_sources» .exit)) (now (negatives .exit)) (now («negative_sources» .exit)) r) (now (sources .exit)) (now (floats .exit))) ⌝ }
-    ensures { λ r. ⌜ r .own ≤ r .used ⌝ }
-    ensures { λ _. ⌜ Eights (now (positives .exit)) (now («positive_sources» .exit)) (now (negatives .exit)) (now («negative_sources» .exit)) ⌝ }
+    requires roomy { ⌜ (run .room ≤ length (now sources)) × (run .room ≤ length (now floats)) × (p .own ≤ p .used) ⌝ }
+    requires eights { ⌜ EightsAt positives «positive_sources» negatives «negative_sources» ⌝ }
+    ensures defined { λ r.
+        let pile = piled positives «positive_sources» negatives «negative_sources» p r in
+        ⌜ EntryGives run first object high e strength pile sources floats (enteredCount runs e) (λ w i row. entered w i row runs e strength) ⌝ }
+    ensures counted { λ r. ⌜ r .own ≤ r .used ⌝ }
+    ensures eights { λ _. ⌜ EightsAt (positives .exit) («positive_sources» .exit) (negatives .exit) («negative_sources» .exit) ⌝ }
 {
     if runs {
         return add_running(
@@ -371,22 +382,22 @@ pub fn add_entry(
             object,
             high,
             e,
-            v,
+            strength,
             p,
         );
     }
-    add_idle(sources, floats, run, first, e, v, p)
+    add_idle(sources, floats, run, first, e, strength, p)
 }
 
 // The pile that has grown in lent columns.
 pub fn grown(
-    positives: [f64; 8],
-    positive_sources: [u32; 8],
-    negatives: [f64; 8],
-    negative_sources: [u32; 8],
+    positives: CopyValues,
+    positive_sources: CopySources,
+    negatives: CopyValues,
+    negative_sources: CopySources,
     p: Growing,
 ) -> Pile
-    ensures { λ r. ⌜ r ≡ whole positives «positive_sources» negatives «negative_sources» p ⌝ }
+    ensures defined { λ r. ⌜ r ≡ whole positives «positive_sources» negatives «negative_sources» p ⌝ }
 {
     let running = p.running;
     let stop = p.stop;

@@ -1,4 +1,3 @@
-pub mod Signs
 pub mod Nans
 pub mod Elements
 pub mod Defaults

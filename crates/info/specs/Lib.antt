@@ -1,3 +1,4 @@
 pub mod Sound
 pub mod LookUps
 pub mod Stands
+pub mod At

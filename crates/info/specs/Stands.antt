@@ -1,18 +1,26 @@
--- Where the objects of a sound sheet stand, and when a row of list 1 points at them. Definitions only.
+-- Where the objects of a sound sheet stand, when a row of list 1 points at them, and collected effects by place. Definitions only.
 use Prim.Native.Nat.{ℕ, _+_, _≤_, _<_}
 use mathlib.Core.Path.{_≡_}
 use mathlib.Core.Bool.{Bool, true, false, _||_}
 use mathlib.Core.List.{List, map}
 use lib.ListN.{length, getD}
 use lib.Dec.{eqb, leb}
+use lib.IntN.{pos}
 use mir.Syntax.{w32}
 use mir.Val.{SFits}
 use Rattle.laws.specs.Lists.{ascends}
+use Rattle.laws.specs.Floats.{zeroF}
 use Rattle.rules.specs.Sheet.{Fit, basesOf}
 use Rattle.rules.specs.Item.{object, isShip, isChar, isItem, isCharge, isSkill, charOf}
 use Rattle.rules.specs.declared.Item.{Item}
 use Rattle.rules.specs.declared.Modifier.{Modifier}
 use Rattle.rules.specs.declared.Modifier.the-variants.{LocationRequiredSkillModifier, LocationGroupModifier, LocationModifier, OwnerRequiredSkillModifier, ItemModifier}
+use Rattle.rules.specs.declared.Origin.{Origin}
+use Rattle.rules.specs.declared.Origin.the-variants as origin
+use Rattle.rules.specs.declared.EffectOperator.the-variants.{PreAssign}
+use Rattle.rules.specs.declared.OptionalId.{OptionalId}
+use Rattle.rules.specs.declared.OptionalId.the-variants.{Absent, Given}
+use Rattle.rules.specs.declared.Pass2Effect.{Pass2Effect}
 use Rattle.info.specs.declared.standing.Spans.{Spans}
 
 abbrev pub isFitted : Item → Bool
@@ -58,3 +66,28 @@ Narrow (LocationGroupModifier g) = SFits w32 g
 Narrow LocationModifier = Unit {0}
 Narrow (OwnerRequiredSkillModifier s) = SFits w32 s
 Narrow ItemModifier = Unit {0}
+
+-- so have the ids of an origin, and an id that may be absent
+abbrev pub NarrowOrigin : Origin → Type 0
+NarrowOrigin (origin.Effect e o c a) = SFits w32 e × SFits w32 a
+NarrowOrigin (origin.Buff b v) = SFits w32 b
+
+abbrev pub NarrowId : OptionalId → Type 0
+NarrowId Absent = Unit {0}
+NarrowId (Given a) = SFits w32 a
+
+-- past the last collected effect there is none
+abbrev pub noEffect : Pass2Effect
+noEffect =
+    record {
+      origin = origin.Buff (pos 0) zeroF;
+      modifier = ItemModifier;
+      operator = PreAssign;
+      «source_quantity» = 0;
+      target = 0;
+      «target_attribute_id» = pos 0;
+      resistance = Absent;
+    }
+
+abbrev pub effectAt : List Pass2Effect → ℕ → Pass2Effect
+effectAt es j = getD es j noEffect

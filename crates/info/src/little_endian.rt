@@ -1,9 +1,10 @@
 // Little-endian numbers in a slice of bytes.
+use numbers::integers::signed;
 ghost use mathlib.Core.Path.{_≡_};
 ghost use Prim.Native.Nat.{_+_, _*_, _≤_, _<_, _^_};
 ghost use lib.Ieee.{binary64, ofBits};
 ghost use lib.ListN.{length};
-ghost use Rattle.rules.specs.Bytes.{u32At, signed, i32At, f64At};
+ghost use Rattle.rules.specs.Bytes.{u32At, i32At, f64At};
 
 // A byte as a wider number.
 fn wide(x: u8) -> u32
@@ -21,14 +22,15 @@ fn wider(x: u32) -> u64
 
 // A number of 32 bits as an index.
 pub fn index(x: u32) -> usize
-    ensures { λ r. ⌜ (r ≡ x) × (r < 2 ^ 32) ⌝ }
+    ensures defined { λ r. ⌜ (r ≡ x) × (r < 2 ^ 32) ⌝ }
 {
     x as usize
 }
 
+// The unsigned number in the four bytes from a place on.
 pub fn u32_at(b: &[u8], at: usize) -> u32
-    requires { ⌜ at + 4 ≤ length (now b) ⌝ }
-    ensures { λ r. ⌜ r ≡ u32At (now (b .entry)) at ⌝ }
+    requires inside { ⌜ at + 4 ≤ length (now b) ⌝ }
+    ensures defined { λ r. ⌜ r ≡ u32At (now (b .entry)) at ⌝ }
 {
     wide(b[at])
         + 0x100 * wide(b[at + 1])
@@ -36,22 +38,12 @@ pub fn u32_at(b: &[u8], at: usize) -> u32
         + 0x100_0000 * wide(b[at + 3])
 }
 
-// The number whose 32 bits these are.
-pub fn signed_of(x: u32) -> i32
-    ensures { λ r. ⌜ r ≡ signed x ⌝ }
-{
-    if x < 0x8000_0000 {
-        x as i32
-    } else {
-        -1 - ((0xffff_ffff - x) as i32)
-    }
-}
-
+// The signed number in the four bytes from a place on.
 pub fn i32_at(b: &[u8], at: usize) -> i32
-    requires { ⌜ at + 4 ≤ length (now b) ⌝ }
-    ensures { λ r. ⌜ r ≡ i32At (now (b .entry)) at ⌝ }
+    requires inside { ⌜ at + 4 ≤ length (now b) ⌝ }
+    ensures defined { λ r. ⌜ r ≡ i32At (now (b .entry)) at ⌝ }
 {
-    signed_of(u32_at(b, at))
+    signed(u32_at(b, at))
 }
 
 fn u64_at(b: &[u8], at: usize) -> u64
@@ -71,9 +63,10 @@ fn float_of(n: u64) -> f64
     f64::from_bits(n)
 }
 
+// The float in the eight bytes from a place on.
 pub fn f64_at(b: &[u8], at: usize) -> f64
-    requires { ⌜ at + 8 ≤ length (now b) ⌝ }
-    ensures { λ r. ⌜ r ≡ f64At (now (b .entry)) at ⌝ }
+    requires inside { ⌜ at + 8 ≤ length (now b) ⌝ }
+    ensures defined { λ r. ⌜ r ≡ f64At (now (b .entry)) at ⌝ }
 {
     float_of(u64_at(b, at))
 }

@@ -19,8 +19,9 @@ ghost use mathlib.Core.Path.{_≡_};
 ghost use Prim.Native.Nat.{_+_, _*_, _≤_, _<_};
 ghost use lib.ListN.{length};
 ghost use Rattle.laws.specs.Lists.{eqZ, first, from};
-ghost use Rattle.rules.specs.Sheet.{bookOf, fitOf};
+ghost use Rattle.rules.specs.Sheet.{fitOf};
 ghost use Rattle.rules.specs.Info.{getDogmaAttribute, getDogmaEffect, getDogmaEffects, getDbuffCollection, getBase};
+ghost use Rattle.info.specs.At.{bookAt, fitAt};
 ghost use Rattle.info.specs.Sound.{HeldFit, SoundBook, Based};
 ghost use Rattle.info.specs.LookUps.{keyAt, Keyed, Bounds, Lower, RunTo, Stretch, placeFound, effectFound, collectionFound, baseFound};
 
@@ -130,8 +131,8 @@ fn run_end(b: &[u8], at: usize, w: usize, n: usize, id: i32, low: usize) -> usiz
 
 // A missing attribute record: not stackable, high not good, default 0.0.
 pub fn get_dogma_attribute(book: &[u8], pairs: &TablePairs, id: i32) -> DogmaAttribute
-    requires { ⌜ SoundBook (now book) (now pairs) ⌝ }
-    ensures { λ r. ⌜ r ≡ getDogmaAttribute (bookOf (now (book .entry)) (now (pairs .entry))) id ⌝ }
+    requires sound_book { ⌜ SoundBook (now book) (now pairs) ⌝ }
+    ensures defined { λ r. ⌜ r ≡ getDogmaAttribute (bookAt book pairs) id ⌝ }
 {
     let found = find(book, offset_of(pairs, 1), 24, count_of(pairs, 1), id);
     let Found::At(i) = found else {
@@ -146,9 +147,10 @@ pub fn get_dogma_attribute(book: &[u8], pairs: &TablePairs, id: i32) -> DogmaAtt
     attribute(book, pairs, i)
 }
 
+// The effect of an id; one may be missing.
 pub fn get_dogma_effect(book: &[u8], pairs: &TablePairs, id: i32) -> FoundEffect
-    requires { ⌜ SoundBook (now book) (now pairs) ⌝ }
-    ensures { λ r. ⌜ effectFound r ≡ getDogmaEffect (bookOf (now (book .entry)) (now (pairs .entry))) id ⌝ }
+    requires sound_book { ⌜ SoundBook (now book) (now pairs) ⌝ }
+    ensures defined { λ r. ⌜ effectFound r ≡ getDogmaEffect (bookAt book pairs) id ⌝ }
 {
     let found = find(book, offset_of(pairs, 2), 24, count_of(pairs, 2), id);
     let Found::At(i) = found else {
@@ -157,9 +159,10 @@ pub fn get_dogma_effect(book: &[u8], pairs: &TablePairs, id: i32) -> FoundEffect
     FoundEffect::At(effect(book, pairs, i))
 }
 
+// The buff collection of an id; one may be missing.
 pub fn get_dbuff_collection(book: &[u8], pairs: &TablePairs, id: i32) -> FoundCollection
-    requires { ⌜ SoundBook (now book) (now pairs) ⌝ }
-    ensures { λ r. ⌜ collectionFound r ≡ getDbuffCollection (bookOf (now (book .entry)) (now (pairs .entry))) id ⌝ }
+    requires sound_book { ⌜ SoundBook (now book) (now pairs) ⌝ }
+    ensures defined { λ r. ⌜ collectionFound r ≡ getDbuffCollection (bookAt book pairs) id ⌝ }
 {
     let found = find(book, offset_of(pairs, 5), 16, count_of(pairs, 5), id);
     let Found::At(i) = found else {
@@ -170,8 +173,9 @@ pub fn get_dbuff_collection(book: &[u8], pairs: &TablePairs, id: i32) -> FoundCo
 
 // The effects of a type stand together.
 pub fn get_dogma_effects(book: &[u8], pairs: &TablePairs, id: i32) -> TypeEffects
-    requires { ⌜ SoundBook (now book) (now pairs) ⌝ }
-    ensures { λ r. ⌜ Stretch (getDogmaEffects (bookOf (now (book .entry)) (now (pairs .entry))) id) (bookOf (now (book .entry)) (now (pairs .entry)) .typeEffects) (r .first) (r .count) ⌝ }
+    requires sound_book { ⌜ SoundBook (now book) (now pairs) ⌝ }
+    ensures together { λ r. let k = bookAt book pairs in
+        ⌜ Stretch (getDogmaEffects k id) (k .typeEffects) (r .first) (r .count) ⌝ }
 {
     let at = offset_of(pairs, 4);
     let n = count_of(pairs, 4);
@@ -185,9 +189,9 @@ pub fn get_dogma_effects(book: &[u8], pairs: &TablePairs, id: i32) -> TypeEffect
 
 // A base attribute of an object.
 pub fn get_base(fit: &[u8], pairs: &TablePairs, o: Item, id: i32) -> FoundBase
-    requires { ⌜ HeldFit (now fit) (now pairs) ⌝ }
-    requires { ⌜ Based (fitOf (now fit) (now pairs)) o ⌝ }
-    ensures { λ r. ⌜ baseFound r ≡ getBase (fitOf (now (fit .entry)) (now (pairs .entry))) o id ⌝ }
+    requires held_fit { ⌜ HeldFit (now fit) (now pairs) ⌝ }
+    requires its_bases { ⌜ Based (fitOf (now fit) (now pairs)) o ⌝ }
+    ensures defined { λ r. ⌜ baseFound r ≡ getBase (fitAt fit pairs) o id ⌝ }
 {
     let first = index(o.first_attribute);
     let n = index(o.attributes);

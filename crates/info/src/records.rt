@@ -17,7 +17,7 @@ ghost use mathlib.Core.Path.{_≡_};
 ghost use Prim.Native.Nat.{_+_, _*_, _≤_, _<_};
 ghost use lib.ListN.{length, take, drop};
 ghost use Rattle.rules.specs.Bytes.{countOf};
-ghost use Rattle.rules.specs.Sheet.{bookOf, fitOf};
+ghost use Rattle.info.specs.At.{bookAt, fitAt};
 ghost use Rattle.info.specs.Sound.{HeldBook, HeldFit, Nth};
 
 // The bytes of record i of a table that begins at `at`, each of w bytes.
@@ -30,10 +30,11 @@ fn record_of(b: &[u8], at: usize, w: usize, i: usize) -> &[u8]
     &b[start..end]
 }
 
+// Record i of table 1.
 pub fn attribute(book: &[u8], pairs: &TablePairs, i: usize) -> DogmaAttribute
-    requires { ⌜ HeldBook (now book) (now pairs) ⌝ }
-    requires { ⌜ i < countOf (now pairs) 1 ⌝ }
-    ensures { λ r. ⌜ Nth (bookOf (now (book .entry)) (now (pairs .entry)) .attributes) i r ⌝ }
+    requires held_book { ⌜ HeldBook (now book) (now pairs) ⌝ }
+    requires inside { ⌜ i < countOf (now pairs) 1 ⌝ }
+    ensures record_i { λ r. ⌜ Nth (bookAt book pairs .attributes) i r ⌝ }
 {
     let r = record_of(book, offset_of(pairs, 1), 24, i);
     DogmaAttribute {
@@ -45,10 +46,11 @@ pub fn attribute(book: &[u8], pairs: &TablePairs, i: usize) -> DogmaAttribute
     }
 }
 
+// Record i of table 2, with its number.
 pub fn effect(book: &[u8], pairs: &TablePairs, i: usize) -> DogmaEffect
-    requires { ⌜ HeldBook (now book) (now pairs) ⌝ }
-    requires { ⌜ i < countOf (now pairs) 2 ⌝ }
-    ensures { λ r. ⌜ Nth (bookOf (now (book .entry)) (now (pairs .entry)) .effects) i r ⌝ }
+    requires held_book { ⌜ HeldBook (now book) (now pairs) ⌝ }
+    requires inside { ⌜ i < countOf (now pairs) 2 ⌝ }
+    ensures record_i { λ r. ⌜ Nth (bookAt book pairs .effects) i r ⌝ }
 {
     let r = record_of(book, offset_of(pairs, 2), 24, i);
     DogmaEffect {
@@ -62,10 +64,11 @@ pub fn effect(book: &[u8], pairs: &TablePairs, i: usize) -> DogmaEffect
     }
 }
 
+// Record i of table 3, with its number.
 pub fn modifier(book: &[u8], pairs: &TablePairs, i: usize) -> DogmaModifier
-    requires { ⌜ HeldBook (now book) (now pairs) ⌝ }
-    requires { ⌜ i < countOf (now pairs) 3 ⌝ }
-    ensures { λ r. ⌜ Nth (bookOf (now (book .entry)) (now (pairs .entry)) .modifiers) i r ⌝ }
+    requires held_book { ⌜ HeldBook (now book) (now pairs) ⌝ }
+    requires inside { ⌜ i < countOf (now pairs) 3 ⌝ }
+    ensures record_i { λ r. ⌜ Nth (bookAt book pairs .modifiers) i r ⌝ }
 {
     let r = record_of(book, offset_of(pairs, 3), 28, i);
     DogmaModifier {
@@ -80,10 +83,11 @@ pub fn modifier(book: &[u8], pairs: &TablePairs, i: usize) -> DogmaModifier
     }
 }
 
+// Record i of table 4.
 pub fn type_effect(book: &[u8], pairs: &TablePairs, i: usize) -> TypeDogmaEffect
-    requires { ⌜ HeldBook (now book) (now pairs) ⌝ }
-    requires { ⌜ i < countOf (now pairs) 4 ⌝ }
-    ensures { λ r. ⌜ Nth (bookOf (now (book .entry)) (now (pairs .entry)) .typeEffects) i r ⌝ }
+    requires held_book { ⌜ HeldBook (now book) (now pairs) ⌝ }
+    requires inside { ⌜ i < countOf (now pairs) 4 ⌝ }
+    ensures record_i { λ r. ⌜ Nth (bookAt book pairs .typeEffects) i r ⌝ }
 {
     let r = record_of(book, offset_of(pairs, 4), 12, i);
     TypeDogmaEffect {
@@ -93,10 +97,11 @@ pub fn type_effect(book: &[u8], pairs: &TablePairs, i: usize) -> TypeDogmaEffect
     }
 }
 
+// Record i of table 5, with its number.
 pub fn buff_collection(book: &[u8], pairs: &TablePairs, i: usize) -> DbuffCollection
-    requires { ⌜ HeldBook (now book) (now pairs) ⌝ }
-    requires { ⌜ i < countOf (now pairs) 5 ⌝ }
-    ensures { λ r. ⌜ Nth (bookOf (now (book .entry)) (now (pairs .entry)) .buffCollections) i r ⌝ }
+    requires held_book { ⌜ HeldBook (now book) (now pairs) ⌝ }
+    requires inside { ⌜ i < countOf (now pairs) 5 ⌝ }
+    ensures record_i { λ r. ⌜ Nth (bookAt book pairs .buffCollections) i r ⌝ }
 {
     let r = record_of(book, offset_of(pairs, 5), 16, i);
     DbuffCollection {
@@ -108,10 +113,11 @@ pub fn buff_collection(book: &[u8], pairs: &TablePairs, i: usize) -> DbuffCollec
     }
 }
 
+// Record i of table 6, with its number.
 pub fn object(fit: &[u8], pairs: &TablePairs, i: usize) -> Item
-    requires { ⌜ HeldFit (now fit) (now pairs) ⌝ }
-    requires { ⌜ i < countOf (now pairs) 6 ⌝ }
-    ensures { λ r. ⌜ Nth (fitOf (now (fit .entry)) (now (pairs .entry)) .objects) i r ⌝ }
+    requires held_fit { ⌜ HeldFit (now fit) (now pairs) ⌝ }
+    requires inside { ⌜ i < countOf (now pairs) 6 ⌝ }
+    ensures record_i { λ r. ⌜ Nth (fitAt fit pairs .objects) i r ⌝ }
 {
     let r = record_of(fit, offset_of(pairs, 6), 68, i);
     Item {
@@ -136,10 +142,11 @@ pub fn object(fit: &[u8], pairs: &TablePairs, i: usize) -> Item
     }
 }
 
+// Record i of table 7.
 pub fn base_attribute(fit: &[u8], pairs: &TablePairs, i: usize) -> BaseAttribute
-    requires { ⌜ HeldFit (now fit) (now pairs) ⌝ }
-    requires { ⌜ i < countOf (now pairs) 7 ⌝ }
-    ensures { λ r. ⌜ Nth (fitOf (now (fit .entry)) (now (pairs .entry)) .bases) i r ⌝ }
+    requires held_fit { ⌜ HeldFit (now fit) (now pairs) ⌝ }
+    requires inside { ⌜ i < countOf (now pairs) 7 ⌝ }
+    ensures record_i { λ r. ⌜ Nth (fitAt fit pairs .bases) i r ⌝ }
 {
     let r = record_of(fit, offset_of(pairs, 7), 12, i);
     BaseAttribute {
@@ -148,19 +155,21 @@ pub fn base_attribute(fit: &[u8], pairs: &TablePairs, i: usize) -> BaseAttribute
     }
 }
 
+// Record i of table 8: an id of an ability or a side effect.
 pub fn id_at(fit: &[u8], pairs: &TablePairs, i: usize) -> i32
-    requires { ⌜ HeldFit (now fit) (now pairs) ⌝ }
-    requires { ⌜ i < countOf (now pairs) 8 ⌝ }
-    ensures { λ r. ⌜ Nth (fitOf (now (fit .entry)) (now (pairs .entry)) .ids) i r ⌝ }
+    requires held_fit { ⌜ HeldFit (now fit) (now pairs) ⌝ }
+    requires inside { ⌜ i < countOf (now pairs) 8 ⌝ }
+    ensures record_i { λ r. ⌜ Nth (fitAt fit pairs .ids) i r ⌝ }
 {
     let r = record_of(fit, offset_of(pairs, 8), 4, i);
     i32_at(r, 0)
 }
 
+// Record i of table 9.
 pub fn projected_buff(fit: &[u8], pairs: &TablePairs, i: usize) -> ProjectedBuff
-    requires { ⌜ HeldFit (now fit) (now pairs) ⌝ }
-    requires { ⌜ i < countOf (now pairs) 9 ⌝ }
-    ensures { λ r. ⌜ Nth (fitOf (now (fit .entry)) (now (pairs .entry)) .buffs) i r ⌝ }
+    requires held_fit { ⌜ HeldFit (now fit) (now pairs) ⌝ }
+    requires inside { ⌜ i < countOf (now pairs) 9 ⌝ }
+    ensures record_i { λ r. ⌜ Nth (fitAt fit pairs .buffs) i r ⌝ }
 {
     let r = record_of(fit, offset_of(pairs, 9), 12, i);
     ProjectedBuff {
@@ -169,10 +178,11 @@ pub fn projected_buff(fit: &[u8], pairs: &TablePairs, i: usize) -> ProjectedBuff
     }
 }
 
+// Record i of table 10.
 pub fn ask(fit: &[u8], pairs: &TablePairs, i: usize) -> Ask
-    requires { ⌜ HeldFit (now fit) (now pairs) ⌝ }
-    requires { ⌜ i < countOf (now pairs) 10 ⌝ }
-    ensures { λ r. ⌜ Nth (fitOf (now (fit .entry)) (now (pairs .entry)) .asks) i r ⌝ }
+    requires held_fit { ⌜ HeldFit (now fit) (now pairs) ⌝ }
+    requires inside { ⌜ i < countOf (now pairs) 10 ⌝ }
+    ensures record_i { λ r. ⌜ Nth (fitAt fit pairs .asks) i r ⌝ }
 {
     let r = record_of(fit, offset_of(pairs, 10), 8, i);
     Ask {

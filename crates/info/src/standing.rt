@@ -7,8 +7,8 @@ use rules::SKILL;
 ghost use mathlib.Core.Path.{_≡_};
 ghost use Prim.Native.Nat.{_≤_};
 ghost use Rattle.rules.specs.Bytes.{countOf};
-ghost use Rattle.rules.specs.Sheet.{fitOf};
 ghost use Rattle.rules.specs.Item.{charOf};
+ghost use Rattle.info.specs.At.{fitAt};
 ghost use Rattle.info.specs.Sound.{HeldFit, SoundFit};
 ghost use Rattle.info.specs.Stands.{FirstSkill, Stands};
 
@@ -22,8 +22,8 @@ pub struct Spans {
 
 // The char's number: it stands right after the ship or its mode.
 pub fn char_of(fit: &[u8], pairs: &TablePairs) -> u32
-    requires { ⌜ SoundFit (now fit) (now pairs) ⌝ }
-    ensures { λ r. ⌜ r ≡ charOf (fitOf (now (fit .entry)) (now (pairs .entry))) ⌝ }
+    requires sound_fit { ⌜ SoundFit (now fit) (now pairs) ⌝ }
+    ensures defined { λ r. ⌜ r ≡ charOf (fitAt fit pairs) ⌝ }
 {
     let next = object(fit, pairs, 1);
     if next.kind == CHAR {
@@ -36,7 +36,7 @@ pub fn char_of(fit: &[u8], pairs: &TablePairs) -> u32
 fn first_skill(fit: &[u8], pairs: &TablePairs, from: usize) -> usize
     requires { ⌜ HeldFit (now fit) (now pairs) ⌝ }
     requires { ⌜ from ≤ countOf (now pairs) 6 ⌝ }
-    ensures { λ r. ⌜ FirstSkill (fitOf (now (fit .entry)) (now (pairs .entry))) from r ⌝ }
+    ensures { λ r. ⌜ FirstSkill (fitAt fit pairs) from r ⌝ }
 {
     let objects = count_of(pairs, 6);
     let mut i = from;
@@ -50,9 +50,10 @@ fn first_skill(fit: &[u8], pairs: &TablePairs, from: usize) -> usize
     i
 }
 
+// Where the char, the items and charges, and the skills of a sound sheet stand.
 pub fn spans_of(fit: &[u8], pairs: &TablePairs) -> Spans
-    requires { ⌜ SoundFit (now fit) (now pairs) ⌝ }
-    ensures { λ r. ⌜ Stands (fitOf (now (fit .entry)) (now (pairs .entry))) r ⌝ }
+    requires sound_fit { ⌜ SoundFit (now fit) (now pairs) ⌝ }
+    ensures standing { λ r. ⌜ Stands (fitAt fit pairs) r ⌝ }
 {
     let character = char_of(fit, pairs);
     let first = character as usize + 1;

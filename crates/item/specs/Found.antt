@@ -1,14 +1,11 @@
--- What the answers of item.rs that may be nothing mean, and when three numbers are a book's categories.
+-- What the answers of item.rs that may be nothing mean.
 use mathlib.Core.Option.{Option, none, some}
 use Rattle.rules.specs.declared.EffectCategory.{EffectCategory}
 use Rattle.rules.specs.declared.EffectOperator.{EffectOperator}
-use Rattle.rules.specs.declared.ItemState.{ItemState}
 use Rattle.item.specs.declared.CategoryFound.{CategoryFound}
 use Rattle.item.specs.declared.CategoryFound.the-variants as category
 use Rattle.item.specs.declared.OperatorFound.{OperatorFound}
 use Rattle.item.specs.declared.OperatorFound.the-variants as operator
-use Rattle.item.specs.declared.StateFound.{StateFound}
-use Rattle.item.specs.declared.StateFound.the-variants as state
 
 abbrev pub categoryOf : CategoryFound → Option EffectCategory
 categoryOf (category.At c) = some c
@@ -17,7 +14,3 @@ categoryOf category.Nothing = none
 abbrev pub operatorOf : OperatorFound → Option EffectOperator
 operatorOf (operator.At o) = some o
 operatorOf operator.Nothing = none
-
-abbrev pub stateOf : StateFound → Option ItemState
-stateOf (state.At s) = some s
-stateOf state.Nothing = none

@@ -9,9 +9,10 @@ ghost use lib.ListN.{length};
 ghost use Rattle.rules.specs.Sheet.{bookOf};
 ghost use Rattle.item.specs.Categories.{CategoriesOf};
 
+// The category numbers that tell a module, from the header.
 pub fn categories_of(book: &[u8]) -> Categories
-    requires { ⌜ 100 ≤ length (now book) ⌝ }
-    ensures { λ r. ⌜ ((pairs : List (List ℕ)) → CategoriesOf (bookOf (now (book .entry)) pairs) r) ⌝ }
+    requires a_header { ⌜ 100 ≤ length (now book) ⌝ }
+    ensures of_the_header { λ r. ⌜ ((pairs : List (List ℕ)) → CategoriesOf (bookOf (now (book .entry)) pairs) r) ⌝ }
 {
     Categories {
         modules: category_module(book),

@@ -7,8 +7,9 @@ ghost use mathlib.Core.Path.{_≡_};
 ghost use Rattle.rules.specs.Codes.{categoryAt, categoryCode, operatorAt, operatorCode};
 ghost use Rattle.item.specs.Found.{categoryOf, operatorOf};
 
+// The category that a code of the sheet stands for; it may stand for none.
 pub fn category_at(code: u32) -> CategoryFound
-    ensures { λ r. ⌜ categoryOf r ≡ categoryAt code ⌝ }
+    ensures defined { λ r. ⌜ categoryOf r ≡ categoryAt code ⌝ }
 {
     match code {
         0 => CategoryFound::At(EffectCategory::Passive),
@@ -23,8 +24,9 @@ pub fn category_at(code: u32) -> CategoryFound
     }
 }
 
+// A category's code.
 pub fn category_code(category: EffectCategory) -> u32
-    ensures { λ r. ⌜ r ≡ categoryCode category ⌝ }
+    ensures defined { λ r. ⌜ r ≡ categoryCode category ⌝ }
 {
     match category {
         EffectCategory::Passive => 0,
@@ -38,8 +40,9 @@ pub fn category_code(category: EffectCategory) -> u32
     }
 }
 
+// The operator that a code of the sheet stands for; it may stand for none.
 pub fn operator_at(code: u32) -> OperatorFound
-    ensures { λ r. ⌜ operatorOf r ≡ operatorAt code ⌝ }
+    ensures defined { λ r. ⌜ operatorOf r ≡ operatorAt code ⌝ }
 {
     match code {
         0 => OperatorFound::At(EffectOperator::PreAssign),
@@ -55,8 +58,9 @@ pub fn operator_at(code: u32) -> OperatorFound
     }
 }
 
+// An operator's code.
 pub fn operator_code(operator: EffectOperator) -> u32
-    ensures { λ r. ⌜ r ≡ operatorCode operator ⌝ }
+    ensures defined { λ r. ⌜ r ≡ operatorCode operator ⌝ }
 {
     match operator {
         EffectOperator::PreAssign => 0,

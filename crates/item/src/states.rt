@@ -1,6 +1,5 @@
 // The states that effects run in. A state goes by its code.
 use super::CategoryFound;
-use super::StateFound;
 use super::codes::category_at;
 use super::codes::category_code;
 use super::locations::is_rig;
@@ -8,14 +7,13 @@ use rules::EffectCategory;
 use rules::Item;
 use rules::ItemState;
 ghost use mathlib.Core.Path.{_≡_};
-ghost use lib.Dec.{leb};
 ghost use Rattle.rules.specs.Codes.{categoryAt, stateCode};
 ghost use Rattle.rules.specs.Item.{requiredState, lowestState, runsAt, isPassive, categoryOn};
 ghost use Rattle.rules.specs.States.{codeOr0, raisedTo};
-ghost use Rattle.item.specs.Found.{stateOf};
 
+// A state's code.
 pub fn state_code(state: ItemState) -> u32
-    ensures { λ r. ⌜ r ≡ stateCode state ⌝ }
+    ensures defined { λ r. ⌜ r ≡ stateCode state ⌝ }
 {
     match state {
         ItemState::Passive => 0,
@@ -26,30 +24,9 @@ pub fn state_code(state: ItemState) -> u32
     }
 }
 
-pub fn is_active(state: u32) -> bool
-    ensures { λ r. ⌜ r ≡ leb (stateCode ItemState.Active) state ⌝ }
-{
-    2 <= state
-}
-
-pub fn required_state(category: EffectCategory) -> StateFound
-    ensures { λ r. ⌜ stateOf r ≡ requiredState category ⌝ }
-{
-    match category {
-        EffectCategory::Passive => StateFound::At(ItemState::Passive),
-        EffectCategory::Online => StateFound::At(ItemState::Online),
-        EffectCategory::Active => StateFound::At(ItemState::Active),
-        EffectCategory::Overload => StateFound::At(ItemState::Overload),
-        EffectCategory::Target => StateFound::Nothing,
-        EffectCategory::Area => StateFound::Nothing,
-        EffectCategory::Dungeon => StateFound::Nothing,
-        EffectCategory::System => StateFound::Nothing,
-    }
-}
-
 // The lowest state that would do: what asks for none runs once the item is active.
 pub fn lowest_state(category: EffectCategory) -> ItemState
-    ensures { λ r. ⌜ r ≡ lowestState category ⌝ }
+    ensures defined { λ r. ⌜ r ≡ lowestState category ⌝ }
 {
     match category {
         EffectCategory::Passive => ItemState::Passive,
@@ -65,20 +42,21 @@ pub fn lowest_state(category: EffectCategory) -> ItemState
 
 // Whether an effect of the category runs on an item in the state.
 pub fn runs_at(category: EffectCategory, state: u32) -> bool
-    ensures { λ r. ⌜ r ≡ runsAt category state ⌝ }
+    ensures defined { λ r. ⌜ r ≡ runsAt category state ⌝ }
 {
     state_code(lowest_state(category)) <= state
 }
 
+// Whether a category is Passive.
 pub fn is_passive(category: EffectCategory) -> bool
-    ensures { λ r. ⌜ r ≡ isPassive category ⌝ }
+    ensures defined { λ r. ⌜ r ≡ isPassive category ⌝ }
 {
     category_code(category) == 0
 }
 
 // The category that an object has an effect in: a rig's Passive is Online.
 pub fn category_on(o: Item, category: EffectCategory) -> EffectCategory
-    ensures { λ r. ⌜ r ≡ categoryOn o category ⌝ }
+    ensures defined { λ r. ⌜ r ≡ categoryOn o category ⌝ }
 {
     if is_rig(o) & is_passive(category) {
         return EffectCategory::Online;
@@ -104,7 +82,7 @@ fn reaches(category: EffectCategory) -> u32
 
 // The same of an effect that has a category's code, on this object.
 pub fn raises_to(o: Item, code: u32) -> u32
-    ensures { λ r. ⌜ r ≡ raisedTo o (categoryAt code) ⌝ }
+    ensures defined { λ r. ⌜ r ≡ raisedTo o (categoryAt code) ⌝ }
 {
     let found = category_at(code);
     match found {

@@ -1,18 +1,16 @@
 -- Ascending and not descending lists: what holds of neighbours holds at a distance.
-use Prim.Native.Nat.{ℕ, zero, suc, _+_, _≤_, _<_}
-use native.Mathlib.Omega.{arith}
-use native.Mathlib.Nat.{not-suc-le-zero, le-of-suc-le-suc, le-trans, le-of-lt, lt-of-le-of-lt}
-use mathlib.Core.Path.{_≡_, refl, sym, ap, _∙_}
-use mathlib.Core.Bool.{Bool, true, false, _&&_}
+use Prim.Native.Nat.{ℕ, zero, suc, _≤_, _<_}
+use native.Mathlib.Nat.{not-suc-le-zero, le-of-suc-le-suc, lt-of-le-of-lt}
+use mathlib.Core.Path.{_≡_, refl}
+use mathlib.Core.Bool.{true}
 use mathlib.Core.List.{List, [], _∷_, map}
 use lib.IntN.{ℤ, pos}
-use lib.ListN.{length, getD, drop, length-map, length-drop}
+use lib.ListN.{length, getD, length-map}
 use lib.Signed.{ltZ, leZ}
 use Rattle.laws.specs.Lists.{every?, ascends, notDescending}
 use Rattle.laws.proofs.Bools.{and-left, and-right, and-both}
 use Rattle.laws.proofs.Every.{every-weaker, every-at}
 use Rattle.laws.proofs.Maps.{map-at}
-use Rattle.laws.proofs.Scans.{drop-step}
 use Rattle.laws.proofs.Order.{ltZ-trans, ltZ-leZ, leZ-trans, leZ-refl}
 
 -- the first is less than all after it
@@ -47,13 +45,6 @@ ascends-notDescending (x ∷ []) h = refl
 ascends-notDescending (x ∷ y ∷ r) h =
     and-both (ltZ-leZ x y (and-left (ltZ x y) (ascends (y ∷ r)) h)) (ascends-notDescending (y ∷ r) (and-right (ltZ x y) (ascends (y ∷ r)) h))
 
--- at a distance
-pub ascends-far : (l : List ℤ) (d : ℤ) → ascends l ≡ true → (i j : ℕ) → i < j → j < length l → ltZ (getD l i d) (getD l j d) ≡ true
-ascends-far [] d h i j k m = absurd (not-suc-le-zero m)
-ascends-far (x ∷ r) d h i zero k m = absurd (not-suc-le-zero k)
-ascends-far (x ∷ r) d h zero (suc j) k m = every-at (ltZ x) r j d (ascends-head x r h) (le-of-suc-le-suc m)
-ascends-far (x ∷ r) d h (suc i) (suc j) k m = ascends-far r d (ascends-tail x r h) i j (le-of-suc-le-suc k) (le-of-suc-le-suc m)
-
 pub notDescending-far : (l : List ℤ) (d : ℤ) → notDescending l ≡ true → (i j : ℕ) → i ≤ j → j < length l → leZ (getD l i d) (getD l j d) ≡ true
 notDescending-far [] d h i j k m = absurd (not-suc-le-zero m)
 notDescending-far (x ∷ r) d h zero zero k m = leZ-refl x
@@ -66,51 +57,6 @@ module _ {A : Type 0} (key : A → ℤ) (xs : List A) (d : A) (i j : ℕ) where
   keyed : (k : ℕ) → k < length xs → getD (map key xs) k (pos 0) ≡ key (getD xs k d)
   keyed k h = map-at key xs k d (pos 0) h
 
-  pub keys-ascend : ascends (map key xs) ≡ true → i < j → j < length xs → ltZ (key (getD xs i d)) (key (getD xs j d)) ≡ true
-  keys-ascend h k m =
-      rw (← keyed i (le-trans k (le-of-lt m)), ← keyed j m) (ascends-far (map key xs) (pos 0) h i j k (rw (length-map xs key) m))
-
   pub keys-not-descend : notDescending (map key xs) ≡ true → i ≤ j → j < length xs → leZ (key (getD xs i d)) (key (getD xs j d)) ≡ true
   keys-not-descend h k m =
       rw (← keyed i (lt-of-le-of-lt k m), ← keyed j m) (notDescending-far (map key xs) (pos 0) h i j k (rw (length-map xs key) m))
-
--- ---- a loop over neighbours: what is left decides
-
-module _ (l : List ℤ) (i : ℕ) (d : ℤ) (h : i + 1 < length l) where
-  two : drop i l ≡ getD l i d ∷ getD l (i + 1) d ∷ drop (i + 1 + 1) l
-  two = drop-step l i d (omega arith) ∙ ap (λ (r : List ℤ). getD l i d ∷ r) (drop-step l (i + 1) d h)
-
-  pub ascends-step : ascends (drop i l) ≡ ltZ (getD l i d) (getD l (i + 1) d) && ascends (drop (i + 1) l)
-  ascends-step = ap ascends two ∙ ap (λ (r : List ℤ). ltZ (getD l i d) (getD l (i + 1) d) && ascends r) (sym (drop-step l (i + 1) d h))
-
-  pub ascends-on : ltZ (getD l i d) (getD l (i + 1) d) ≡ true → ascends (drop i l) ≡ ascends (drop (i + 1) l)
-  ascends-on t = ascends-step ∙ ap (λ (s : Bool). s && ascends (drop (i + 1) l)) t
-
-  pub ascends-off : ltZ (getD l i d) (getD l (i + 1) d) ≡ false → ascends (drop i l) ≡ false
-  ascends-off t = ascends-step ∙ ap (λ (s : Bool). s && ascends (drop (i + 1) l)) t
-
-  pub notDescending-step : notDescending (drop i l) ≡ leZ (getD l i d) (getD l (i + 1) d) && notDescending (drop (i + 1) l)
-  notDescending-step =
-      ap notDescending two ∙ ap (λ (r : List ℤ). leZ (getD l i d) (getD l (i + 1) d) && notDescending r) (sym (drop-step l (i + 1) d h))
-
-  pub notDescending-on : leZ (getD l i d) (getD l (i + 1) d) ≡ true → notDescending (drop i l) ≡ notDescending (drop (i + 1) l)
-  notDescending-on t = notDescending-step ∙ ap (λ (s : Bool). s && notDescending (drop (i + 1) l)) t
-
-  pub notDescending-off : leZ (getD l i d) (getD l (i + 1) d) ≡ false → notDescending (drop i l) ≡ false
-  notDescending-off t = notDescending-step ∙ ap (λ (s : Bool). s && notDescending (drop (i + 1) l)) t
-
--- at most one is left
-short : (l : List ℤ) → length l ≤ 1 → (ascends l ≡ true) × (notDescending l ≡ true)
-short [] h = (refl, refl)
-short (x ∷ []) h = (refl, refl)
-short (x ∷ y ∷ r) h = absurd (omega arith)
-
-module _ (l : List ℤ) (i : ℕ) (h : length l ≤ i + 1) where
-  few : length (drop i l) ≤ 1
-  few = rw (length-drop i l) (omega arith)
-
-  pub ascends-end : ascends (drop i l) ≡ true
-  ascends-end = short (drop i l) few .0
-
-  pub notDescending-end : notDescending (drop i l) ≡ true
-  notDescending-end = short (drop i l) few .1

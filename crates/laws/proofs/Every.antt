@@ -7,7 +7,7 @@ use mathlib.Core.Bool.{Bool, true, false, not, _&&_, _||_}
 use mathlib.Core.List.{List, [], _∷_, _++_, map}
 use lib.ListN.{length, take, drop, getD}
 use Rattle.laws.specs.Lists.{some?, every?, flat}
-use Rattle.laws.proofs.Bools.{and-left, and-right, and-both, and-assoc, and-true-right, or-false-left, or-false-right, or-assoc, or-none-right, or-true-right, both-ways, not-passed}
+use Rattle.laws.proofs.Bools.{and-left, and-right, and-both, and-assoc, and-true-right, or-false-left, or-false-right, or-assoc, or-none-right, or-true-right, both-ways}
 use Rattle.laws.proofs.Maps.{take-next}
 
 module _ {A : Type 0} (p : A → Bool) where
@@ -26,9 +26,6 @@ module _ {A : Type 0} (p : A → Bool) where
   some-snoc xs x = some-append xs (x ∷ []) ∙ ap (λ (t : Bool). some? p xs || t) (or-none-right (p x))
 
   -- one more element of a loop
-  pub every-next : (xs : List A) (i : ℕ) (d : A) → i < length xs → every? p (take (i + 1) xs) ≡ every? p (take i xs) && p (getD xs i d)
-  every-next xs i d h = ap (every? p) (take-next xs i d h) ∙ every-snoc (take i xs) (getD xs i d)
-
   pub some-next : (xs : List A) (i : ℕ) (d : A) → i < length xs → some? p (take (i + 1) xs) ≡ some? p (take i xs) || p (getD xs i d)
   some-next xs i d h = ap (some? p) (take-next xs i d h) ∙ some-snoc (take i xs) (getD xs i d)
 
@@ -57,9 +54,6 @@ module _ {A : Type 0} (p : A → Bool) where
   some-by [] i d h e = absurd (not-suc-le-zero h)
   some-by (x ∷ xs) zero d h e = rw e refl
   some-by (x ∷ xs) (suc i) d h e = ap (λ (t : Bool). p x || t) (some-by xs i d (le-of-suc-le-suc h) e) ∙ or-true-right (p x)
-
-  pub not-every-by : (xs : List A) (i : ℕ) (d : A) → i < length xs → p (getD xs i d) ≡ false → every? p xs ≡ false
-  not-every-by xs i d h e = not-passed (every? p xs) (λ all. both-ways (every-at xs i d all h) e)
 
   -- the place of one that passes
   pub record Place (xs : List A) (d : A) : Type 0 where
@@ -102,11 +96,6 @@ module _ {A : Type 0} (p : A → Bool) where
 pub every-weaker : {A : Type 0} (p q : A → Bool) → ((x : A) → p x ≡ true → q x ≡ true) → (xs : List A) → every? p xs ≡ true → every? q xs ≡ true
 every-weaker p q f [] e = refl
 every-weaker p q f (x ∷ xs) e = and-both (f x (and-left (p x) (every? p xs) e)) (every-weaker p q f xs (and-right (p x) (every? p xs) e))
-
--- tests that agree
-pub every-same : {A : Type 0} (p q : A → Bool) → ((x : A) → p x ≡ q x) → (xs : List A) → every? p xs ≡ every? q xs
-every-same p q e [] = refl
-every-same p q e (x ∷ xs) = rw (e x, every-same p q e xs) refl
 
 pub some-same : {A : Type 0} (p q : A → Bool) → ((x : A) → p x ≡ q x) → (xs : List A) → some? p xs ≡ some? q xs
 some-same p q e [] = refl

@@ -3,21 +3,12 @@ use Prim.Native.Nat.{ℕ, zero, suc, _<_, suc-le-suc, zero-le}
 use native.Mathlib.Nat.{not-suc-le-zero, le-of-suc-le-suc}
 use mathlib.Core.Path.{_≡_, refl, sym, ap, _∙_}
 use mathlib.Core.Bool.{Bool, true, false, _||_}
-use mathlib.Core.List.{List, [], _∷_, _++_, map}
+use mathlib.Core.List.{List, [], _∷_, map}
 use mathlib.Core.Option.{Option, none, some}
 use lib.ListN.{length, getD}
 use Rattle.laws.specs.Lists.{some?, orElse, first}
 
 module _ {A : Type 0} where
-  -- the one, or else the other
-  abbrev pub orOther : Option A → Option A → Option A
-  orOther none o = o
-  orOther (some x) o = some x
-
-  orElse-other : (t : Bool) (x : A) (o o′ : Option A) → orElse t x (orOther o o′) ≡ orOther (orElse t x o) o′
-  orElse-other true x o o′ = refl
-  orElse-other false x o o′ = refl
-
   -- whether there is one
   abbrev pub there? : Option A → Bool
   there? none = false
@@ -32,10 +23,6 @@ module _ {A : Type 0} where
   not-there (some x) e = cc
 
   module _ (p : A → Bool) where
-    pub first-append : (xs ys : List A) → first p (xs ++ ys) ≡ orOther (first p xs) (first p ys)
-    first-append [] ys = refl
-    first-append (x ∷ xs) ys = ap (orElse (p x) x) (first-append xs ys) ∙ orElse-other (p x) x (first p xs) (first p ys)
-
     -- there is a first one where one passes
     pub first-there : (xs : List A) → there? (first p xs) ≡ some? p xs
     first-there [] = refl
@@ -55,17 +42,6 @@ module _ {A : Type 0} where
     first-at [] i d h f e = absurd (not-suc-le-zero h)
     first-at (x ∷ xs) zero d h f e = rw e refl
     first-at (x ∷ xs) (suc i) d h f e = rw (f zero (suc-le-suc zero-le)) (first-at xs i d (le-of-suc-le-suc h) (λ k l. f (suc k) (suc-le-suc l)) e)
-
-    orElse-passes : (t : Bool) (x y : A) (o : Option A) → p x ≡ t → (o ≡ some y → p y ≡ true) → orElse t x o ≡ some y → p y ≡ true
-    orElse-passes true x y o e f h =
-        let same : x ≡ y = cc in
-        ap p (sym same) ∙ e
-    orElse-passes false x y o e f h = f h
-
-    -- the first one passes
-    pub first-passes : (xs : List A) (x : A) → first p xs ≡ some x → p x ≡ true
-    first-passes [] x e = cc
-    first-passes (y ∷ xs) x e = orElse-passes (p y) y x (first p xs) refl (first-passes xs x) e
 
   -- tests that agree
   pub first-same : (p q : A → Bool) → ((x : A) → p x ≡ q x) → (xs : List A) → first p xs ≡ first q xs

@@ -5,8 +5,7 @@ use mathlib.Core.Bool.{Bool, true, false, cond}
 use mathlib.Core.List.{List, [], _∷_, _++_, map, append-nil, append-assoc}
 use lib.ListN.{length, take, getD, length-append}
 use Rattle.laws.specs.Lists.{put, keep, flat}
-use Rattle.laws.proofs.Maps.{take-next, map-append, map-snoc}
-use Rattle.laws.proofs.Keep.{keep-append, keep-more, keep-skip}
+use Rattle.laws.proofs.Maps.{take-next, map-append}
 
 -- the sum of a list
 abbrev pub total : List ℕ → ℕ
@@ -29,31 +28,10 @@ module _ {A B : Type 0} (f : A → List B) where
   flat-length [] = refl
   flat-length (x ∷ xs) = length-append (f x) (flat f xs) ∙ ap (λ (n : ℕ). length (f x) + n) (flat-length xs)
 
-  pub keep-flat : (p : B → Bool) (xs : List A) → keep p (flat f xs) ≡ flat (λ x. keep p (f x)) xs
-  keep-flat p [] = refl
-  keep-flat p (x ∷ xs) = keep-append p (f x) (flat f xs) ∙ ap (λ (l : List B). keep p (f x) ++ l) (keep-flat p xs)
-
 -- functions that agree give the same
 pub flat-same : {A B : Type 0} (f g : A → List B) → ((x : A) → f x ≡ g x) → (xs : List A) → flat f xs ≡ flat g xs
 flat-same f g e [] = refl
 flat-same f g e (x ∷ xs) = rw (e x, flat-same f g e xs) refl
-
-pub flat-none : {A B : Type 0} (xs : List A) → flat {A = A} {B = B} (λ x. []) xs ≡ []
-flat-none [] = refl
-flat-none (x ∷ xs) = flat-none xs
-
--- one each is a map; one or none each is a keep
-pub flat-one : {A B : Type 0} (f : A → B) (xs : List A) → flat (λ x. f x ∷ []) xs ≡ map f xs
-flat-one f [] = refl
-flat-one {B = B} f (x ∷ xs) = ap (λ (l : List B). f x ∷ l) (flat-one f xs)
-
-put-one : {A : Type 0} (t : Bool) (x : A) (xs : List A) → put t x [] ++ xs ≡ put t x xs
-put-one true x xs = refl
-put-one false x xs = refl
-
-pub flat-put : {A : Type 0} (p : A → Bool) (xs : List A) → flat (λ x. put (p x) x []) xs ≡ keep p xs
-flat-put p [] = refl
-flat-put {A} p (x ∷ xs) = ap (λ (l : List A). put (p x) x [] ++ l) (flat-put p xs) ∙ put-one (p x) x (keep p xs)
 
 -- what f gives for those that pass
 module _ {A B : Type 0} (f : A → List B) (p : A → Bool) where
@@ -65,20 +43,6 @@ module _ {A B : Type 0} (f : A → List B) (p : A → Bool) where
   flat-keep [] = refl
   flat-keep (x ∷ xs) = put-flat (p x) x (keep p xs) ∙ ap (λ (l : List B). cond (p x) (f x) [] ++ l) (flat-keep xs)
 
-  -- one more element of a loop, that passes or fails
-  pub flat-keep-more : (xs : List A) (i : ℕ) (d : A) → i < length xs → p (getD xs i d) ≡ true → flat f (keep p (take (i + 1) xs)) ≡ flat f (keep p (take i xs)) ++ f (getD xs i d)
-  flat-keep-more xs i d h t = ap (flat f) (keep-more p xs i d h t) ∙ flat-snoc f (keep p (take i xs)) (getD xs i d)
-
-  pub flat-keep-skip : (xs : List A) (i : ℕ) (d : A) → i < length xs → p (getD xs i d) ≡ false → flat f (keep p (take (i + 1) xs)) ≡ flat f (keep p (take i xs))
-  flat-keep-skip xs i d h t = ap (flat f) (keep-skip p xs i d h t)
-
-module _ {A B : Type 0} (f : A → B) (p : A → Bool) where
-  pub map-keep-more : (xs : List A) (i : ℕ) (d : A) → i < length xs → p (getD xs i d) ≡ true → map f (keep p (take (i + 1) xs)) ≡ map f (keep p (take i xs)) ++ (f (getD xs i d) ∷ [])
-  map-keep-more xs i d h t = ap (map f) (keep-more p xs i d h t) ∙ map-snoc f (keep p (take i xs)) (getD xs i d)
-
-  pub map-keep-skip : (xs : List A) (i : ℕ) (d : A) → i < length xs → p (getD xs i d) ≡ false → map f (keep p (take (i + 1) xs)) ≡ map f (keep p (take i xs))
-  map-keep-skip xs i d h t = ap (map f) (keep-skip p xs i d h t)
-
 module _ {A B C : Type 0} where
   pub flat-map : (f : B → List C) (g : A → B) (xs : List A) → flat f (map g xs) ≡ flat (λ x. f (g x)) xs
   flat-map f g [] = refl
@@ -87,7 +51,3 @@ module _ {A B C : Type 0} where
   pub map-flat : (f : B → C) (g : A → List B) (xs : List A) → map f (flat g xs) ≡ flat (λ x. map f (g x)) xs
   map-flat f g [] = refl
   map-flat f g (x ∷ xs) = map-append f (g x) (flat g xs) ∙ ap (λ (l : List C). map f (g x) ++ l) (map-flat f g xs)
-
-  pub flat-flat : (f : B → List C) (g : A → List B) (xs : List A) → flat f (flat g xs) ≡ flat (λ x. flat f (g x)) xs
-  flat-flat f g [] = refl
-  flat-flat f g (x ∷ xs) = flat-append f (g x) (flat g xs) ∙ ap (λ (l : List C). flat f (g x) ++ l) (flat-flat f g xs)

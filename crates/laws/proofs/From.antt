@@ -4,13 +4,11 @@ use native.Mathlib.Nat.{add-zero, zero-add, suc-add, add-suc, le-of-suc-le-suc}
 use native.Mathlib.Numerals.{add-one}
 use native.Mathlib.Omega.{arith}
 use mathlib.Core.Path.{_≡_, refl, sym, ap, _∙_}
-use mathlib.Core.Bool.{Bool}
 use mathlib.Core.List.{List, [], _∷_, _++_, map}
-use lib.ListN.{length, take, drop, getD, length-map}
+use lib.ListN.{length, take, getD, length-map}
 use lib.Seq.{ext-getD}
-use Rattle.laws.specs.Lists.{put, keep, flat, from}
+use Rattle.laws.specs.Lists.{flat, from}
 use Rattle.laws.proofs.Maps.{map-append, map-snoc, map-at}
-use Rattle.laws.proofs.Keep.{keep-snoc}
 use Rattle.laws.proofs.Flat.{flat-snoc}
 
 pub from-length : (a n : ℕ) → length (from a n) ≡ n
@@ -47,36 +45,6 @@ from-take a zero n h = refl
 from-take a (suc m) zero h = absurd (omega arith)
 from-take a (suc m) (suc n) h = ap (λ (l : List ℕ). a ∷ l) (from-take (suc a) m n (le-of-suc-le-suc h))
 
-pub from-drop : (a m n : ℕ) → drop m (from a n) ≡ from (a + m) (n - m)
-from-drop a zero n = rw (add-zero a, same) refl
-  where
-    same : n - 0 ≡ n
-    same = omega arith
-from-drop a (suc m) zero = rw none-left refl
-  where
-    none-left : 0 - suc m ≡ 0
-    none-left = omega arith
-from-drop a (suc m) (suc n) = from-drop (suc a) m n ∙ rw (there, less) refl
-  where
-    there : suc a + m ≡ a + suc m
-    there = omega arith
-
-    less : suc n - suc m ≡ n - m
-    less = omega arith
-
--- the same numbers, counted from 0
-pub from-shift : (a n : ℕ) → from a n ≡ map (λ k. a + k) (from 0 n)
-from-shift a n = ext-getD 0 (from a n) (map (λ k. a + k) (from 0 n)) long at
-  where
-    long : length (from a n) ≡ length (map (λ k. a + k) (from 0 n))
-    long = from-length a n ∙ sym (length-map (from 0 n) (λ k. a + k) ∙ from-length 0 n)
-
-    at : (i : ℕ) → i < length (from a n) → getD (from a n) i 0 ≡ getD (map (λ k. a + k) (from 0 n)) i 0
-    at i h =
-        let l : i < n = rw (from-length a n) at h in
-        let m : i < length (from 0 n) = rw (from-length 0 n) l in
-        from-at a n i 0 l ∙ sym (map-at (λ k. a + k) (from 0 n) i 0 0 m ∙ ap (λ (k : ℕ). a + k) (from-at 0 n i 0 l ∙ zero-add i))
-
 module _ {A : Type 0} (f : ℕ → A) where
   pub table-length : (a n : ℕ) → length (map f (from a n)) ≡ n
   table-length a n = length-map (from a n) f ∙ from-length a n
@@ -89,12 +57,6 @@ module _ {A : Type 0} (f : ℕ → A) where
 
   pub table-append : (a m n : ℕ) → map f (from a (m + n)) ≡ map f (from a m) ++ map f (from (a + m) n)
   table-append a m n = ap (map f) (from-append a m n) ∙ map-append f (from a m) (from (a + m) n)
-
-  pub table-step : (k n : ℕ) → k < n → map f (from k (n - k)) ≡ f k ∷ map f (from (k + 1) (n - (k + 1)))
-  table-step k n h = ap (map f) (from-step k n h)
-
-  pub table-end : (k n : ℕ) → n ≤ k → map f (from k (n - k)) ≡ []
-  table-end k n h = ap (map f) (from-end k n h)
 
   -- functions that agree on the numbers give the same table
   pub table-same : (g : ℕ → A) (a n : ℕ) → ((k : ℕ) → a ≤ k → k < a + n → f k ≡ g k) → map f (from a n) ≡ map g (from a n)
@@ -109,16 +71,6 @@ module _ {A : Type 0} (f : ℕ → A) where
 
 pub flat-from-next : {A : Type 0} (f : ℕ → List A) (a n : ℕ) → flat f (from a (n + 1)) ≡ flat f (from a n) ++ f (a + n)
 flat-from-next f a n = ap (flat f) (from-next a n) ∙ flat-snoc f (from a n) (a + n)
-
-pub keep-from-next : (p : ℕ → Bool) (a n : ℕ) → keep p (from a (n + 1)) ≡ keep p (from a n) ++ put (p (a + n)) (a + n) []
-keep-from-next p a n = ap (keep p) (from-next a n) ∙ keep-snoc p (from a n) (a + n)
-
--- one more element of a table
-pub flat-table-next : {A B : Type 0} (f : A → List B) (g : ℕ → A) (a n : ℕ) → flat f (map g (from a (n + 1))) ≡ flat f (map g (from a n)) ++ f (g (a + n))
-flat-table-next f g a n = ap (flat f) (table-next g a n) ∙ flat-snoc f (map g (from a n)) (g (a + n))
-
-pub keep-table-next : {A : Type 0} (p : A → Bool) (g : ℕ → A) (a n : ℕ) → keep p (map g (from a (n + 1))) ≡ keep p (map g (from a n)) ++ put (p (g (a + n))) (g (a + n)) []
-keep-table-next p g a n = ap (keep p) (table-next g a n) ∙ keep-snoc p (map g (from a n)) (g (a + n))
 
 -- a list is the table of its elements
 pub table-of : {A : Type 0} (xs : List A) (d : A) → map (λ k. getD xs k d) (from 0 (length xs)) ≡ xs

@@ -3,8 +3,8 @@ use Prim.Native.Nat.{ℕ, suc, _+_, _≤_, _<_}
 use native.Mathlib.Omega.{arith}
 use mathlib.Core.Path.{_≡_, refl, ap, _∙_}
 use mathlib.Core.Bool.{Bool, true, false, _&&_}
-use mathlib.Core.List.{List, [], _∷_, _++_, map, append-nil}
-use lib.ListN.{length, take, getD, length-take}
+use mathlib.Core.List.{List, [], _∷_, _++_, map}
+use lib.ListN.{length, take, getD}
 use Rattle.laws.specs.Lists.{put, keep, some?, every?}
 use Rattle.laws.proofs.Bools.{and-left, and-right, or-false-left, or-false-right}
 use Rattle.laws.proofs.Maps.{take-next}
@@ -30,19 +30,9 @@ module _ {A : Type 0} where
     pub keep-next : (xs : List A) (i : ℕ) (d : A) → i < length xs → keep p (take (i + 1) xs) ≡ keep p (take i xs) ++ put (p (getD xs i d)) (getD xs i d) []
     keep-next xs i d h = ap (keep p) (take-next xs i d h) ∙ keep-snoc (take i xs) (getD xs i d)
 
-    pub keep-more : (xs : List A) (i : ℕ) (d : A) → i < length xs → p (getD xs i d) ≡ true → keep p (take (i + 1) xs) ≡ keep p (take i xs) ++ (getD xs i d ∷ [])
-    keep-more xs i d h t = keep-next xs i d h ∙ ap (λ (s : Bool). keep p (take i xs) ++ put s (getD xs i d) []) t
-
-    pub keep-skip : (xs : List A) (i : ℕ) (d : A) → i < length xs → p (getD xs i d) ≡ false → keep p (take (i + 1) xs) ≡ keep p (take i xs)
-    keep-skip xs i d h t = keep-next xs i d h ∙ ap (λ (s : Bool). keep p (take i xs) ++ put s (getD xs i d) []) t ∙ append-nil (keep p (take i xs))
-
     pub keep-length : (xs : List A) → length (keep p xs) ≤ length xs
     keep-length [] = omega arith
     keep-length (x ∷ xs) = omega (arith, put-length (p x) x (keep p xs), keep-length xs)
-
-    -- at most as many were kept as were looked at
-    pub keep-count : (xs : List A) (i : ℕ) → length (keep p (take i xs)) ≤ i
-    keep-count xs i = omega (arith, keep-length (take i xs), length-take i xs)
 
     pub keep-all : (xs : List A) → every? p xs ≡ true → keep p xs ≡ xs
     keep-all [] h = refl

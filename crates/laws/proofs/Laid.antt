@@ -130,11 +130,3 @@ module _ {R B : Type 0} (enc : R → B) where
 
   pub column-past : (z : B) (rs : List R) (n k : ℕ) (d : B) → length rs ≤ k → k < n → getD (column enc z rs n) k d ≡ z
   column-past z rs n k d h l = ap (λ (c : List B). getD c k d) (column-laid z rs n) ∙ laid-past rs (replicate n z) k d h ∙ getD-replicate n k z d l
-
--- how many rows there are, in a loop
-module _ {R : Type 0} (rs : List R) (n : ℕ) {ss : List R} where
-  pub count-next : (r : R) → ss ≡ rs ++ (r ∷ []) → n ≡ length rs → n + 1 ≡ length ss
-  count-next r s k = ap (λ (m : ℕ). m + 1) k ∙ sym (ap length s ∙ length-append rs (r ∷ []))
-
-  pub count-same : ss ≡ rs → n ≡ length rs → n ≡ length ss
-  count-same s k = k ∙ sym (ap length s)

@@ -1,11 +1,17 @@
--- Laws of map.
+-- Laws of map, and of the elements of a list.
 use Prim.Native.Nat.{ℕ, zero, suc, _+_, _<_}
 use native.Mathlib.Nat.{not-suc-le-zero, le-of-suc-le-suc}
 use native.Mathlib.Numerals.{add-one}
 use mathlib.Core.Path.{_≡_, refl, ap, _∙_}
 use mathlib.Core.List.{List, [], _∷_, _++_, map}
-use lib.ListN.{length, take, drop, getD, replicate}
+use lib.ListN.{length, take, drop, getD}
 use lib.Seq.{take-suc}
+
+-- whatever stands past the end
+pub same-default : {A : Type 0} (xs : List A) (i : ℕ) (d e : A) → i < length xs → getD xs i d ≡ getD xs i e
+same-default [] i d e h = absurd (not-suc-le-zero h)
+same-default (x ∷ xs) zero d e h = refl
+same-default (x ∷ xs) (suc i) d e h = same-default xs i d e (le-of-suc-le-suc h)
 
 -- the first i + 1 are the first i, and the next
 pub take-next : {A : Type 0} (xs : List A) (i : ℕ) (d : A) → i < length xs → take (i + 1) xs ≡ take i xs ++ (getD xs i d ∷ [])
@@ -37,10 +43,6 @@ module _ {A B : Type 0} (f : A → B) where
   map-at [] i d e h = absurd (not-suc-le-zero h)
   map-at (x ∷ xs) zero d e h = refl
   map-at (x ∷ xs) (suc i) d e h = map-at xs i d e (le-of-suc-le-suc h)
-
-  pub map-replicate : (n : ℕ) (x : A) → map f (replicate n x) ≡ replicate n (f x)
-  map-replicate zero x = refl
-  map-replicate (suc n) x = ap (λ (l : List B). f x ∷ l) (map-replicate n x)
 
 -- functions that agree give the same
 pub map-same : {A B : Type 0} (f g : A → B) → ((x : A) → f x ≡ g x) → (xs : List A) → map f xs ≡ map g xs

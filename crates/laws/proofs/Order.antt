@@ -1,14 +1,14 @@
 -- Laws of the tests on signed numbers: eqZ, ltZ and leZ.
 use Prim.Native.Nat.{ℕ}
 use mathlib.Core.Path.{_≡_, refl, sym, ap, subst, _∙_}
-use mathlib.Core.Bool.{Bool, true, false, not, _&&_}
+use mathlib.Core.Bool.{Bool, true, false, not}
 use lib.IntN.{ℤ, pos, negsuc}
 use lib.Dec.{T, leb, ltb}
 use lib.Signed.{ltZ, leZ, ltZ-yes, leZ-yes, <ℤ-≤ℤ-trans, <ℤ-irrefl}
 use native.Mathlib.Omega.{arith}
 use borrow.Author.Tests.{eqb-true, eq-eqb, ltb-true, ltb-false, le-leb, lt-leb, not-true, not-false}
 use Rattle.laws.specs.Lists.{eqZ}
-use Rattle.laws.proofs.Bools.{both-ways, not-passed, not-failed, same-test, and-both, and-left, and-right}
+use Rattle.laws.proofs.Bools.{both-ways, not-passed, not-failed, same-test}
 
 passed : (t : Bool) → T t → t ≡ true
 passed true h = refl
@@ -104,19 +104,9 @@ ltZ-neither (pos a) (negsuc b) h k = both-ways refl k
 ltZ-neither (negsuc a) (pos b) h k = both-ways refl h
 ltZ-neither (negsuc a) (negsuc b) h k = ap negsuc (antisym a b k h)
 
-pub leZ-antisym : (a b : ℤ) → leZ a b ≡ true → leZ b a ≡ true → a ≡ b
-leZ-antisym a b h k = ltZ-neither a b (leZ-true b a k) (leZ-true a b h)
-
 -- not less and not the same is more
 pub ltZ-else : (a b : ℤ) → ltZ a b ≡ false → eqZ a b ≡ false → ltZ b a ≡ true
 ltZ-else a b h n = not-failed (ltZ b a) (λ k. eqZ-false a b n (ltZ-neither a b h k))
-
--- the test of sameness, by the order
-pub eqZ-order : (a b : ℤ) → eqZ a b ≡ leZ a b && leZ b a
-eqZ-order a b =
-    same-test (eqZ a b) (leZ a b && leZ b a)
-    (λ e. let s = eqZ-true a b e in and-both (ap (leZ a) (sym s) ∙ leZ-refl a) (ap (λ (x : ℤ). leZ x a) (sym s) ∙ leZ-refl a))
-    (λ e. eqZ-same a b (leZ-antisym a b (and-left (leZ a b) (leZ b a) e) (and-right (leZ a b) (leZ b a) e)))
 
 -- exactly one of three
 pub data Ordered (a b : ℤ) : Type 0 where

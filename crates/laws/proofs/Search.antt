@@ -2,9 +2,9 @@
 use Prim.Native.Nat.{ℕ, _+_, _-_, _/_, _≤_, _<_, zero-le}
 use native.Mathlib.Nat.{not-suc-le-zero}
 use native.Mathlib.Omega.{arith}
-use mathlib.Core.Path.{_≡_, refl, ap, _∙_}
+use mathlib.Core.Path.{_≡_, ap, _∙_}
 use mathlib.Core.Logic.{⊎-elim}
-use mathlib.Core.Bool.{Bool, true, false, _&&_}
+use mathlib.Core.Bool.{Bool, true, false}
 use mathlib.Core.List.{List, map}
 use mathlib.Core.Option.{none, some}
 use lib.IntN.{ℤ}
@@ -12,12 +12,12 @@ use lib.Dec.{ltb}
 use lib.ListN.{length, getD}
 use lib.Signed.{ltZ, leZ}
 use borrow.Author.Tests.{ltb-true, ltb-false}
-use Rattle.laws.specs.Lists.{eqZ, keep, first, orElse, span, notDescending}
+use Rattle.laws.specs.Lists.{eqZ, keep, first, span, notDescending}
 use Rattle.laws.proofs.Bools.{both-ways, not-passed, true-or-false}
 use Rattle.laws.proofs.Every.{none-by}
 use Rattle.laws.proofs.Runs.{keep-run}
 use Rattle.laws.proofs.First.{first-at, first-none}
-use Rattle.laws.proofs.Order.{eqZ-true, eqZ-same, eqZ-sym, ltZ-apart, ltZ-else, ltZ-leZ, leZ-true, leZ-trans, leZ-ltZ-trans, ltZ-neither, leZ-false, ltZ-leZ-trans, ltZ-true, leZ-refl}
+use Rattle.laws.proofs.Order.{eqZ-true, eqZ-same, eqZ-sym, ltZ-apart, ltZ-else, ltZ-leZ, leZ-true, leZ-ltZ-trans, ltZ-neither, leZ-false, ltZ-leZ-trans, ltZ-true, leZ-refl}
 use Rattle.laws.proofs.Ascending.{keys-not-descend}
 
 -- the middle of two places is one that is looked at
@@ -98,12 +98,6 @@ module _ {A : Type 0} (key : A → ℤ) (xs : List A) (d : A) (a : ℤ) where
           before = λ i j l h e. leZ-ltZ-trans (key (getD xs i d)) (key (getD xs j d)) a (keys-not-descend key xs d i j o l h) e;
         }
 
-    pub falls-most : Falls (atMost key a) xs d
-    falls-most =
-        record {
-          before = λ i j l h e. leZ-trans (key (getD xs i d)) (key (getD xs j d)) a (keys-not-descend key xs d i j o l h) e;
-        }
-
     module _ {lo : ℕ} (b : Between (lessThan key a) xs d lo lo) where
       -- the key at the lower bound is a: that is the first
       pub lower-found : lo < length xs → hasKey key a (getD xs lo d) ≡ true → first (hasKey key a) xs ≡ some (getD xs lo d)
@@ -126,15 +120,6 @@ module _ {A : Type 0} (key : A → ℤ) (xs : List A) (d : A) (a : ℤ) where
 
       pub lower-past : length xs ≤ lo → first (hasKey key a) xs ≡ none
       lower-past p = first-none (hasKey key a) xs (none-by (hasKey key a) xs d (λ i h. missing i h (λ l. absurd (omega arith))))
-
-      by-tests : (s u : Bool) → ltb lo (length xs) ≡ s → hasKey key a (getD xs lo d) ≡ u → first (hasKey key a) xs ≡ orElse (s && u) (getD xs lo d) none
-      by-tests true true e k = lower-found (ltb-true lo (length xs) e) k
-      by-tests true false e k = lower-missing k
-      by-tests false u e k = lower-past (ltb-false lo (length xs) e)
-
-      -- in one equation
-      pub lower-first : first (hasKey key a) xs ≡ orElse (ltb lo (length xs) && hasKey key a (getD xs lo d)) (getD xs lo d) none
-      lower-first = by-tests (ltb lo (length xs)) (hasKey key a (getD xs lo d)) refl refl
 
       -- all whose key is a stand from the lower bound to the upper
       module _ {hi : ℕ} (c : Between (atMost key a) xs d hi hi) where

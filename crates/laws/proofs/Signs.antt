@@ -1,9 +1,8 @@
 -- What the machine's tests of two signed numbers say, at any width.
 use mathlib.Core.Path.{_≡_, sym, ap, _∙_}
-use mathlib.Core.Bool.{Bool, true, false}
+use mathlib.Core.Bool.{true, false}
 use lib.IntN.{ℤ}
 use lib.Dec.{eqb}
-use lib.Signed.{ltZ, leZ}
 use mir.Syntax.{Width}
 use mir.Val.{SFits, ofZ, toZ}
 use mir.Facts.{toZ-ofZ}
@@ -12,24 +11,9 @@ use Rattle.laws.specs.Lists.{eqZ}
 use Rattle.laws.proofs.Bools.{same-test}
 use Rattle.laws.proofs.Order.{eqZ-true, eqZ-same, eqZ-apart}
 
--- a number that was read, against one whose bits a loop keeps
-module _ {w : Width} (a c : ℤ) (p : SFits w a) where
-  pub tested-left : (t : Bool) → ltZ (toZ w (ofZ w a)) c ≡ t → ltZ a c ≡ t
-  tested-left t e = rw (toZ-ofZ p) at e
-
-  pub tested-right : (t : Bool) → ltZ c (toZ w (ofZ w a)) ≡ t → ltZ c a ≡ t
-  tested-right t e = rw (toZ-ofZ p) at e
-
 module _ {w : Width} (a b : ℤ) (p : SFits w a) (q : SFits w b) where
   pub same-bits : ofZ w a ≡ ofZ w b → a ≡ b
   same-bits e = sym (toZ-ofZ p) ∙ ap (toZ w) e ∙ toZ-ofZ q
-
-  -- what < said, and what <= said
-  pub tested : (t : Bool) → ltZ (toZ w (ofZ w a)) (toZ w (ofZ w b)) ≡ t → ltZ a b ≡ t
-  tested t e = rw (toZ-ofZ p, toZ-ofZ q) at e
-
-  pub tested-le : (t : Bool) → leZ (toZ w (ofZ w a)) (toZ w (ofZ w b)) ≡ t → leZ a b ≡ t
-  tested-le t e = rw (toZ-ofZ p, toZ-ofZ q) at e
 
   -- what == said, as an equation or its denial
   pub tested-same : ofZ w a ≡ ofZ w b → eqZ a b ≡ true

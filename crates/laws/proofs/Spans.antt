@@ -4,13 +4,11 @@ use native.Mathlib.Nat.{add-zero}
 use native.Mathlib.Numerals.{add-one}
 use native.Mathlib.Omega.{arith}
 use mathlib.Core.Path.{_≡_, sym, ap, _∙_}
-use mathlib.Core.Bool.{Bool}
 use mathlib.Core.List.{List, [], _∷_, _++_, map}
 use lib.ListN.{length, take, drop, getD, length-drop, take-append-drop}
 use lib.Seq.{getD-take, getD-drop, drop-cons, drop-drop, take-add, take-suc, take-length, drop-append-add, take-append-le, length-take-le}
-use Rattle.laws.specs.Lists.{span, from, flat, keep, put}
+use Rattle.laws.specs.Lists.{span, from, flat}
 use Rattle.laws.proofs.Maps.{map-take, map-drop, map-snoc}
-use Rattle.laws.proofs.Keep.{keep-snoc}
 use Rattle.laws.proofs.Flat.{flat-snoc}
 use Rattle.laws.proofs.From.{table-at, table-length}
 use lib.Seq.{ext-getD}
@@ -82,6 +80,3 @@ module _ {A B : Type 0} (f n : ℕ) (xs : List A) (d : A) (h : f + n < length xs
 
   pub flat-span-next : (g : A → List B) → flat g (span f (n + 1) xs) ≡ flat g (span f n xs) ++ g (getD xs (f + n) d)
   flat-span-next g = ap (flat g) (span-next f n xs d h) ∙ flat-snoc g (span f n xs) (getD xs (f + n) d)
-
-pub keep-span-next : {A : Type 0} (p : A → Bool) (f n : ℕ) (xs : List A) (d : A) → f + n < length xs → keep p (span f (n + 1) xs) ≡ keep p (span f n xs) ++ put (p (getD xs (f + n) d)) (getD xs (f + n) d) []
-keep-span-next p f n xs d h = ap (keep p) (span-next f n xs d h) ∙ keep-snoc p (span f n xs) (getD xs (f + n) d)

@@ -11,8 +11,8 @@ pub struct Window {
 
 // How far on: so many where the test passed, else none.
 pub fn step(n: usize, passed: bool) -> usize
-    ensures { λ r. ⌜ r ≡ cond passed n 0 ⌝ }
-    ensures { λ r. ⌜ r ≤ n ⌝ }
+    ensures defined { λ r. ⌜ r ≡ cond passed n 0 ⌝ }
+    ensures at_most { λ r. ⌜ r ≤ n ⌝ }
 {
     if passed { n } else { 0 }
 }

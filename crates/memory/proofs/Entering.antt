@@ -29,7 +29,7 @@ use Rattle.sources.proofs.Marking.{more-fresh, copy-fresh}
 use Rattle.sources.proofs.Noting.{note-off, note-full, note-on}
 use Rattle.sources.proofs.Results.{apart, got}
 use Rattle.gather.specs.Piles.{entered}
-use Rattle.memory.specs.Memory.{valueAt, Growing}
+use Rattle.memory.specs.Memory.{valueAt, GrowingReader}
 use Rattle.memory.proofs.Kept.{entered-kept, gather-kept}
 
 -- ---- an entry is entered, the copies are marked
@@ -65,7 +65,7 @@ marked-values i g = beside-own i (g .mem) _ (g .mem .used)
 -- ---- the copies of an operator
 
 -- where source rows are recorded, those of the copies wait for their penalties
-pub gather-fresh : (w : World) (i : ℕ) (row : Row) (read : Reader) (op : EffectOperator) (es : List Effect) (m : Mem) (x : Float) (g : Gathered) → w .recording ≡ true → Growing read → valueAt m i ≡ some x → i < length (m .sources)
+pub gather-fresh : (w : World) (i : ℕ) (row : Row) (read : Reader) (op : EffectOperator) (es : List Effect) (m : Mem) (x : Float) (g : Gathered) → w .recording ≡ true → GrowingReader read → valueAt m i ≡ some x → i < length (m .sources)
     → gather w i row read op es (record { mem = m; values = nothing }) ≡ ok g → Fresh (ownSources i (g .mem)) (g .values .positive ++ g .values .negative)
 gather-fresh w i row read op es m x g on growing valued there p = gather-kept w i row Kept noted stacked read looked op (λ e s u. copied) es (record { mem = m; values = nothing }) g p (empty, valued, there) .0
   where

@@ -19,7 +19,7 @@ use Rattle.rules.specs.declared.Origin.the-variants as origin
 use Rattle.sources.specs.Planned.{runsIn}
 use Rattle.sources.proofs.Results.{got, then, bind-same}
 use Rattle.gather.specs.Piles.{entered}
-use Rattle.memory.specs.Memory.{Grows, Growing}
+use Rattle.memory.specs.Memory.{Grows, GrowingReader}
 use Rattle.memory.specs.Steps.{strengthOf}
 use Rattle.memory.proofs.Growth.{grows-same, grows-on, resisted-grows}
 
@@ -117,7 +117,7 @@ module _ (w : World) (i : ℕ) (row : Row) (read : Reader) where
         each r = bind-same (strong r) (λ s. ends (runsAt c (stateOf w source)) s) enter (by (runsAt c (stateOf w source)))
 
   -- what reads a strength lets the memory grow
-  pub strength-grows : Growing read → (e : Effect) (o : Origin) (m : Mem) (s : Read) → strengthOf w read i row e o m ≡ ok s → Grows m (s .mem)
+  pub strength-grows : GrowingReader read → (e : Effect) (o : Origin) (m : Mem) (s : Read) → strengthOf w read i row e o m ≡ ok s → Grows m (s .mem)
   unfolding strengthOf
   strength-grows growing e (origin.Buff b v) m s p = subst (λ (y : Read). Grows m (y .mem)) (got p) (grows-same m)
   strength-grows growing e (origin.Effect f source c a) m s p =

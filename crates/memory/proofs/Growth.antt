@@ -31,7 +31,7 @@ use Rattle.rules.specs.declared.Origin.the-variants as origin
 use Rattle.rules.specs.declared.Refusal.{Refusal}
 use Rattle.rules.specs.declared.Refusal.the-variants.{Room, Depth}
 use Rattle.sources.proofs.Results.{apart, got, then}
-use Rattle.memory.specs.Memory.{valueAt, Grows, GrowsBut, Growing}
+use Rattle.memory.specs.Memory.{valueAt, Grows, GrowsBut, GrowingReader}
 
 -- growing is kept by going on
 pub grows-same : (m : Mem) → Grows m m
@@ -119,7 +119,7 @@ module _ (i : ℕ) where
         by true x q = penalised-grows e v x g h q
         by false x q = unpenalised-grows e v x g h q
 
-    module _ (read : Reader) (growing : Growing read) where
+    module _ (read : Reader) (growing : GrowingReader read) where
       pub resisted-grows : (o : OptionalId) (r q : Read) → resisted w i row read o r ≡ ok q → Grows (r .mem) (q .mem)
       unfolding resisted
       resisted-grows Absent r q e = subst (λ (y : Read). Grows (r .mem) (y .mem)) (got e) (grows-same (r .mem))
@@ -192,7 +192,7 @@ module _ (i : ℕ) where
               subst (λ (y : Read). Grows (r .mem) (y .mem)) (got (t .rest)) (growing o a (r .mem) (t .given) (t .first))
 
 -- a row that was not started: what was started before stays
-module _ (i : ℕ) (w : World) (row : Row) (read : Reader) (growing : Growing read) where
+module _ (i : ℕ) (w : World) (row : Row) (read : Reader) (growing : GrowingReader read) where
   not-it : (m : Mem) (j : ℕ) (v : Float) → valueAt m i ≡ none → valueAt m j ≡ some v → j ≡ i → ⊥
   not-it m j v n e p = subst Missing (sym (ap (valueAt m) p ∙ n) ∙ e) tt
     where
@@ -233,7 +233,7 @@ module _ (i : ℕ) (w : World) (row : Row) (read : Reader) (growing : Growing re
           }
 
 -- what reads an attribute lets the memory grow
-pub read-grows : (w : World) (start : ℕ → Row → Mem → Res Read) → ((i : ℕ) (row : Row) (m : Mem) (q : Read) → valueAt m i ≡ none → start i row m ≡ ok q → Grows m (q .mem)) → Growing (calculatedValue w start)
+pub read-grows : (w : World) (start : ℕ → Row → Mem → Res Read) → ((i : ℕ) (row : Row) (m : Mem) (q : Read) → valueAt m i ≡ none → start i row m ≡ ok q → Grows m (q .mem)) → GrowingReader (calculatedValue w start)
 unfolding calculatedValue
 read-grows w start h o a m q = by (findRow o a 0 (w .rows))
   where
@@ -249,7 +249,7 @@ read-grows w start h o a m q = by (findRow o a 0 (w .rows))
     by none e = subst (λ (y : Read). Grows m (y .mem)) (got e) (grows-same m)
     by (some f) e = known f (valueAt m (f .index)) refl e
 
-pub value-grows : (w : World) (d : ℕ) → Growing (valueOf w d)
+pub value-grows : (w : World) (d : ℕ) → GrowingReader (valueOf w d)
 unfolding valueOf
 value-grows w zero o a m q = read-grows w (λ i row m′. refused (Depth o)) (λ i row m′ q′ n e. absurd (apart e)) o a m q
 value-grows w (suc d) o a m q = read-grows w (λ i row m′. calculate w (valueOf w d) i row m′) (λ i row m′ q′ n e. calculate-grows i w row (valueOf w d) (value-grows w d) m′ q′ n e) o a m q

@@ -37,5 +37,5 @@ pub record GrowsBut (i : ℕ) (m m′ : Mem) : Type 0 where
   pub own : (j : ℕ) (v : Float) → (j ≡ i → ⊥) → valueAt m j ≡ some v → ownSources j m′ ≡ ownSources j m
 
 -- a reader under which the memory grows
-abbrev pub Growing : Reader → Type 0
-Growing read = (o : ℕ) (a : ℤ) (m : Mem) (q : Read) → read o a m ≡ ok q → Grows m (q .mem)
+abbrev pub GrowingReader : Reader → Type 0
+GrowingReader read = (o : ℕ) (a : ℤ) (m : Mem) (q : Read) → read o a m ≡ ok q → Grows m (q .mem)

@@ -6,3 +6,4 @@ pub mod Cuts
 pub mod Signs
 pub mod Counts
 pub mod HundredthsLaws
+pub mod Pairs

@@ -29,8 +29,9 @@ fn counted(field: u64, digits: u64) -> u64
     LIMIT
 }
 
+// The hundredths of a value, cut toward zero, or that it is too large to print.
 pub fn in_hundredths(x: f64) -> Hundredths
-    ensures { λ r. ⌜ r ≡ hundredthsOf x ⌝ }
+    ensures defined { λ r. ⌜ r ≡ hundredthsOf x ⌝ }
 {
     if x != x {
         return Hundredths::Star;

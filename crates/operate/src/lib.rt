@@ -1,6 +1,8 @@
 // What one operator does to a value with the values that it gathers, one by one (pass_3.rs).
 use buckets::Bucket;
 use buckets::insert;
+use columns::CopySources;
+use columns::CopyValues;
 use numbers::as_float;
 use numbers::less;
 use numbers::power;
@@ -18,7 +20,7 @@ ghost use Rattle.laws.specs.Floats.{finite};
 ghost use Rattle.rules.specs.Number as N;
 ghost use Rattle.rules.specs.Operate.{Copy, Values, hasPenalty, applied};
 ghost use Rattle.rules.specs.Value.{withStack};
-ghost use Rattle.operate.specs.Held.{Gathered, bucket};
+ghost use Rattle.operate.specs.Held.{Gathered, bucketBefore, bucketAfter};
 ghost use lib.ListN.{length};
 ghost use Rattle.operate.specs.SoFar.{better, chosenOf, addedOne, multipliedOne, plainlyOne, stepOf, RunningOf, copiesFrom};
 
@@ -31,7 +33,7 @@ pub struct Running {
 
 // No value is there yet.
 pub fn start(v: f64) -> Running
-    ensures { λ r. ⌜ ((high : Bool) (op : EffectOperator) → T (finite v) → RunningOf high op v [] r) ⌝ }
+    ensures nothing_yet { λ r. ⌜ ((high : Bool) (op : EffectOperator) → T (finite v) → RunningOf high op v [] r) ⌝ }
 {
     Running {
         value: v,
@@ -132,7 +134,9 @@ pub fn more(
     x: f64,
     quantity: u32,
 ) -> Running
-    ensures { λ r. ⌜ ((v : Float) (g : Values) → T (finite x) → RunningOf high operator v (g .unpenalized) running → RunningOf high operator v (withStack x quantity g .unpenalized) r) ⌝ }
+    ensures one_more { λ r.
+        ⌜ ((v : Float) (g : Values) → T (finite x) → RunningOf high operator v (g .unpenalized) running
+        → RunningOf high operator v (withStack x quantity g .unpenalized) r) ⌝ }
 {
     if quantity == 0 {
         return running;
@@ -154,7 +158,10 @@ pub fn more(
 
 // The penalised copies after the unpenalised values: positives go first.
 pub fn finished(running: Running, positive: Bucket, negative: Bucket) -> Step
-    ensures { λ r. ⌜ ((high : Bool) (op : EffectOperator) (v : Float) (g : Values) → RunningOf high op v (g .unpenalized) running → Gathered (g .positive) positive → Gathered (g .negative) negative → (hasPenalty op ≡ false → (g .positive ≡ []) × (g .negative ≡ [])) → r ≡ applied high op v g) ⌝ }
+    ensures defined { λ r.
+        ⌜ ((high : Bool) (op : EffectOperator) (v : Float) (g : Values) → RunningOf high op v (g .unpenalized) running
+        → Gathered (g .positive) positive → Gathered (g .negative) negative → (hasPenalty op ≡ false → (g .positive ≡ []) × (g .negative ≡ []))
+        → r ≡ applied high op v g) ⌝ }
 {
     let step = step_so_far(running);
     let Step::Finite(plain) = step else {
@@ -169,18 +176,20 @@ pub fn finished(running: Running, positive: Bucket, negative: Bucket) -> Step
 
 // So many copies more in the columns of a bucket, whose source rows are the first, and a step on each time: how many were put in then.
 pub fn put_copies(
-    values: &mut [f64; 8],
-    sources: &mut [u32; 8],
+    values: &mut CopyValues,
+    sources: &mut CopySources,
     count: usize,
     x: f64,
     first: u32,
     step: u32,
     copies: u32,
 ) -> usize
-    requires { ⌜ first + copies * step < 2 ^ 32 ⌝ }
-    requires { ⌜ (length (now values) ≡ 8) × (length (now sources) ≡ 8) ⌝ }
-    ensures { λ r. ⌜ ((xs : List Copy) → Gathered xs (bucket (now (values .entry)) (now (sources .entry)) count) → T (finite x) → Gathered (xs ++ copiesFrom x first step copies) (bucket (now (values .exit)) (now (sources .exit)) r)) ⌝ }
-    ensures { λ _. ⌜ (length (now (values .exit)) ≡ 8) × (length (now (sources .exit)) ≡ 8) ⌝ }
+    requires counted { ⌜ first + copies * step < 2 ^ 32 ⌝ }
+    requires eight { ⌜ (length (now values) ≡ 8) × (length (now sources) ≡ 8) ⌝ }
+    ensures so_many_more { λ r.
+        ⌜ ((xs : List Copy) → Gathered xs (bucketBefore values sources count) → T (finite x)
+        → Gathered (xs ++ copiesFrom x first step copies) (bucketAfter values sources r)) ⌝ }
+    ensures eight_still { λ _. ⌜ (length (now (values .exit)) ≡ 8) × (length (now (sources .exit)) ≡ 8) ⌝ }
 {
     let mut n = count;
     let mut source = first;

@@ -16,7 +16,7 @@ use Rattle.laws.proofs.Bools.{true-or-false}
 use Rattle.rules.specs.Dispatch.{Row}
 use Rattle.reading.specs.Held.{noRow, isBefore, ascending, RowsHeld}
 use Rattle.reading.proofs.Orders.{ascending-far}
-use Rattle.reading.specs.Stretched.{AllOf, Stretched, Past}
+use Rattle.reading.specs.Stretched.{OfObject, Stretched, Past}
 
 -- ---- the rows of one object
 
@@ -70,7 +70,7 @@ objects-ascend rs e i j l h = by (eq-or-lt-of-le {n = i} {m = j} l)
 record Stretch (rs : List Row) (o first end : ℕ) : Type 0 where
   inside : (first ≤ end) × (end ≤ length rs)
   before : (i : ℕ) → i < first → getD rs i noRow .object < o
-  own : AllOf o rs first end
+  own : OfObject o rs first end
   after : (i : ℕ) → i < length rs → end ≤ i → o < getD rs i noRow .object
 
 -- the rows from first on are of object o and later ones, and the stretches of all before are laid

@@ -24,7 +24,7 @@ use Rattle.rules.specs.Value.{findRow}
 use Rattle.reading.specs.Held.{noRow, isBefore, isOf, rowBefore, RowsHeld, indexOf}
 use Rattle.reading.proofs.Orders.{lower, tested}
 use Rattle.reading.proofs.Finds.{falls, id-read, is-found, is-missing, is-past}
-use Rattle.reading.specs.Stretched.{AllOf, Stretched, Narrowed}
+use Rattle.reading.specs.Stretched.{OfObject, Stretched, Narrowed}
 
 -- an object's own row stands before its attribute a by the id alone
 own-before : (p : ℕ) (x : ℤ) (o : ℕ) (a : ℤ) → p ≡ o → isBefore p x o a ≡ ltZ x a
@@ -50,7 +50,7 @@ module _ (c : List (List ℕ)) (a : ℤ) (first end : ℕ) where
   pub record CountedFound (k found : ℕ) : Type 0 where
     pub within : first ≤ found
     pub upTo : found ≤ k
-    pub counted : (o : ℕ) (rs : List Row) → RowsHeld rs c → AllOf o rs first end → Between (rowBefore o a) rs noRow first end → Counted (rowBefore o a) rs noRow k found
+    pub counted : (o : ℕ) (rs : List Row) → RowsHeld rs c → OfObject o rs first end → Between (rowBefore o a) rs noRow first end → Counted (rowBefore o a) rs noRow k found
 
   pub counts-start : {lo hi : ℕ} → Narrowed c a first end lo hi → CountedFound lo lo
   counts-start n =
@@ -71,7 +71,7 @@ module _ (c : List (List ℕ)) (a : ℤ) (first end : ℕ) where
     -- a step by the id that was read in row k
     stepped
         : {x : ℕ} {t : Bool} (m k : ℕ) → first ≤ k → k < end → ltZ (toZ w32 (getD (getD c k []) 1 0)) a ≡ t → x ≡ cond t m 0
-        → (o : ℕ) (rs : List Row) → RowsHeld rs c → AllOf o rs first end → x ≡ cond (rowBefore o a (getD rs k noRow)) m 0
+        → (o : ℕ) (rs : List Row) → RowsHeld rs c → OfObject o rs first end → x ≡ cond (rowBefore o a (getD rs k noRow)) m 0
     stepped m k l h e p o rs H w =
         p
         ∙ ap (λ (t : Bool). cond t m 0)
@@ -139,7 +139,7 @@ module _ {rs : List Row} {c t : List (List ℕ)} {o first end : ℕ} (a : ℤ) (
   pub stretch-inside : end ≤ length c
   stretch-inside = omega (arith, T .ends, S .inside o (T .few) .1, H .long)
 
-  all-own : AllOf o rs first end
+  all-own : OfObject o rs first end
   all-own i l h = S .own o (T .few) i (omega (arith, T .begins)) (omega (arith, T .ends))
 
   stretch-between : Between (rowBefore o a) rs noRow first end

@@ -12,20 +12,20 @@ use Rattle.rules.specs.Sheet.{Book}
 use Rattle.reading.specs.Held.{noRow, rowBefore, RowsHeld}
 
 -- the rows from first to end are of object o
-abbrev pub AllOf : ℕ → List Row → ℕ → ℕ → Type 0
-AllOf o rs first end = (i : ℕ) → first ≤ i → i < end → getD rs i noRow .object ≡ o
+abbrev pub OfObject : ℕ → List Row → ℕ → ℕ → Type 0
+OfObject o rs first end = (i : ℕ) → first ≤ i → i < end → getD rs i noRow .object ≡ o
 
 -- of each object its first row, and the row past its last
 pub record Stretched (rs : List Row) (c : List (List ℕ)) : Type 0 where
   pub inside : (o : ℕ) → o < 1024 → (getD (getD c o []) 0 0 ≤ getD (getD c o []) 1 0) × (getD (getD c o []) 1 0 ≤ length rs)
   pub before : (o i : ℕ) → o < 1024 → i < getD (getD c o []) 0 0 → getD rs i noRow .object < o
-  pub own : (o : ℕ) → o < 1024 → AllOf o rs (getD (getD c o []) 0 0) (getD (getD c o []) 1 0)
+  pub own : (o : ℕ) → o < 1024 → OfObject o rs (getD (getD c o []) 0 0) (getD (getD c o []) 1 0)
   pub after : (o i : ℕ) → o < 1024 → i < length rs → getD (getD c o []) 1 0 ≤ i → o < getD rs i noRow .object
 
 -- attribute a of the object that the rows from first to end are of is sought from lo to hi
 pub record Narrowed (c : List (List ℕ)) (a : ℤ) (first end lo hi : ℕ) : Type 0 where
   pub within : first ≤ lo
-  pub between : (o : ℕ) (rs : List Row) → RowsHeld rs c → AllOf o rs first end → Between (rowBefore o a) rs noRow first end → Between (rowBefore o a) rs noRow lo hi
+  pub between : (o : ℕ) (rs : List Row) → RowsHeld rs c → OfObject o rs first end → Between (rowBefore o a) rs noRow first end → Between (rowBefore o a) rs noRow lo hi
 
 -- of the rows from first on, those before end are of objects up to o, and the next is of a later one
 pub record Past (c : List (List ℕ)) (o first end : ℕ) : Type 0 where
@@ -33,6 +33,10 @@ pub record Past (c : List (List ℕ)) (o first end : ℕ) : Type 0 where
   pub inside : end ≤ length c
   pub upTo : (i : ℕ) → first ≤ i → i < end → getD (getD c i []) 0 0 ≤ o
   pub next : end < length c → o < getD (getD c end []) 0 0
+
+-- attribute a has no limit
+abbrev pub Unlimited : Book → ℤ → Type 0
+Unlimited k a = (getDogmaAttribute k a .«min_attribute_id» ≡ pos 0) × (getDogmaAttribute k a .«max_attribute_id» ≡ pos 0)
 
 -- an attribute whose number is not marked has no limit; ids are counted modulo 1,024
 pub record Limits (k : Book) (c : List ℕ) : Type 0 where

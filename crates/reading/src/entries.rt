@@ -1,5 +1,19 @@
 // Entries by value, and what is asked of them.
+use columns::ENTRY_BUFF;
+use columns::ENTRY_EFFECT;
+use columns::ENTRY_MODIFYING_ATTRIBUTE;
+use columns::ENTRY_OPERATOR;
+use columns::ENTRY_ORIGIN;
+use columns::ENTRY_PENALTY;
+use columns::ENTRY_QUANTITY;
+use columns::ENTRY_RESISTANCE;
+use columns::ENTRY_RESISTANCE_GIVEN;
+use columns::ENTRY_SOURCE;
+use columns::ENTRY_SOURCE_CATEGORY;
 use columns::EntryRow;
+use columns::OPERATORS;
+use columns::OperatorMarks;
+use columns::STATE;
 use columns::States;
 use info::little_endian::index;
 use item::CategoryFound;
@@ -26,7 +40,7 @@ ghost use Rattle.reading.specs.Held.{NarrowOrigin, NarrowId, EntryHeld, 
 
 // What the code of a category stands for; no other number is met.
 fn category_of(code: u32) -> EffectCategory
-    ensures { λ r. ⌜ ((c : EffectCategory) → code ≡ categoryCode c → r ≡ c) ⌝ }
+    ensures defined { λ r. ⌜ ((c : EffectCategory) → code ≡ categoryCode c → r ≡ c) ⌝ }
 {
     let found = category_at(code);
     match found {
@@ -35,8 +49,9 @@ fn category_of(code: u32) -> EffectCategory
     }
 }
 
+// What the code of an operator stands for; no other number is met.
 pub fn operator_of(code: u32) -> EffectOperator
-    ensures { λ r. ⌜ ((o : EffectOperator) → code ≡ operatorCode o → r ≡ o) ⌝ }
+    ensures defined { λ r. ⌜ ((o : EffectOperator) → code ≡ operatorCode o → r ≡ o) ⌝ }
 {
     let found = operator_at(code);
     match found {
@@ -45,8 +60,10 @@ pub fn operator_of(code: u32) -> EffectOperator
     }
 }
 
+// An id and the flag beside it, which says whether it is given.
 fn optional_id(given: u32, id: u32) -> OptionalId
-    ensures { λ r. ⌜ ((o : OptionalId) → NarrowId o → given ≡ getD (optionalNumbers o) 0 0 → id ≡ getD (optionalNumbers o) 1 0 → r ≡ o) ⌝ }
+    ensures defined { λ r. ⌜ ((o : OptionalId) → NarrowId o → given ≡ getD (optionalNumbers o) 0 0 → id ≡ getD (optionalNumbers o) 1 0
+        → r ≡ o) ⌝ }
 {
     if given == 1 {
         return OptionalId::Given(signed(id));
@@ -54,43 +71,45 @@ fn optional_id(given: u32, id: u32) -> OptionalId
     OptionalId::Absent
 }
 
-fn origin_of(e: EntryRow, value: f64) -> Origin
-    ensures { λ r. ⌜ ((g : Origin) (rest : List ℕ) → NarrowOrigin g → e ≡ originNumbers g ++ rest → value ≡ originValue g → r ≡ g) ⌝ }
+// Where an entry comes from: an effect of an object, or a buff with its value.
+fn origin_of(row: EntryRow, value: f64) -> Origin
+    ensures defined { λ r. ⌜ ((g : Origin) (rest : List ℕ) → NarrowOrigin g → row ≡ originNumbers g ++ rest → value ≡ originValue g
+        → r ≡ g) ⌝ }
 {
-    if e[0] == 0 {
+    if row[ENTRY_ORIGIN] == 0 {
         return Origin::Effect {
-            effect_id: signed(e[1]),
-            source: e[2],
-            source_category: category_of(e[3]),
-            attribute_id: signed(e[4]),
+            effect_id: signed(row[ENTRY_EFFECT]),
+            source: row[ENTRY_SOURCE],
+            source_category: category_of(row[ENTRY_SOURCE_CATEGORY]),
+            attribute_id: signed(row[ENTRY_MODIFYING_ATTRIBUTE]),
         };
     }
     Origin::Buff {
-        buff_id: signed(e[5]),
+        buff_id: signed(row[ENTRY_BUFF]),
         value,
     }
 }
 
 // Entry i, by value: a buff's value is in its origin.
 pub fn entry_at(entries: &[EntryRow], values: &[f64], i: usize) -> Effect
-    requires { ⌜ (i < length (now entries)) × (i < length (now values)) ⌝ }
-    ensures { λ r. ⌜ ((e : Effect) → EntryHeld e (getD (now (entries .entry)) i []) (getD (now (values .entry)) i nan) → r ≡ e) ⌝ }
+    requires inside { ⌜ (i < length (now entries)) × (i < length (now values)) ⌝ }
+    ensures defined { λ r. ⌜ ((e : Effect) → EntryHeld e (getD (now (entries .entry)) i []) (getD (now (values .entry)) i nan) → r ≡ e) ⌝ }
 {
-    let e = entries[i];
+    let row = entries[i];
     let value = values[i];
     Effect {
-        origin: origin_of(e, value),
-        operator: operator_of(e[6]),
-        penalty: e[7] == 1,
-        quantity: e[8],
-        resistance: optional_id(e[9], e[10]),
+        origin: origin_of(row, value),
+        operator: operator_of(row[ENTRY_OPERATOR]),
+        penalty: row[ENTRY_PENALTY] == 1,
+        quantity: row[ENTRY_QUANTITY],
+        resistance: optional_id(row[ENTRY_RESISTANCE_GIVEN], row[ENTRY_RESISTANCE]),
     }
 }
 
 // Whether an entry runs: a buff always does.
 pub fn is_running(states: &States, origin: Origin) -> bool
-    requires { ⌜ Sourced origin ⌝ }
-    ensures { λ r. ⌜ r ≡ isRunning (now (states .entry)) origin ⌝ }
+    requires sourced { ⌜ Sourced origin ⌝ }
+    ensures defined { λ r. ⌜ r ≡ isRunning (now (states .entry)) origin ⌝ }
 {
     match origin {
         Origin::Effect {
@@ -100,7 +119,7 @@ pub fn is_running(states: &States, origin: Origin) -> bool
             attribute_id: _,
         } => {
             let s = index(source);
-            let state = states[s][0];
+            let state = states[s][STATE];
             runs_at(source_category, state)
         }
         Origin::Buff {
@@ -111,16 +130,16 @@ pub fn is_running(states: &States, origin: Origin) -> bool
 }
 
 // A mark for each operator that an entry from first to end is of, at its code.
-pub fn operators_in(entries: &[EntryRow], first: usize, end: usize) -> [u32; 9]
-    requires { ⌜ end ≤ length (now entries) ⌝ }
-    ensures { λ r. ⌜ ((c : ℕ) → c < 9 → isMarked r c ≡ some? (hasCode c) (span first (end - first) (now (entries .entry)))) ⌝ }
+pub fn operators_in(entries: &[EntryRow], first: usize, end: usize) -> OperatorMarks
+    requires inside { ⌜ end ≤ length (now entries) ⌝ }
+    ensures marked { λ r. ⌜ ((c : ℕ) → c < 9 → isMarked r c ≡ some? (hasCode c) (span first (end - first) (now (entries .entry)))) ⌝ }
 {
-    let mut marks = [0u32; 9];
+    let mut marks = [0u32; OPERATORS];
     let mut i = first;
     while i < end {
-        let code = index(entries[i][6]);
+        let code = index(entries[i][ENTRY_OPERATOR]);
         i += 1;
-        if code < 9 {
+        if code < OPERATORS {
             marks[code] = 1;
         }
     }
@@ -129,7 +148,7 @@ pub fn operators_in(entries: &[EntryRow], first: usize, end: usize) -> [u32; 9]
 
 // Whether an operator takes the stacking penalty.
 pub fn has_penalty(operator: EffectOperator) -> bool
-    ensures { λ r. ⌜ r ≡ hasPenalty operator ⌝ }
+    ensures defined { λ r. ⌜ r ≡ hasPenalty operator ⌝ }
 {
     match operator {
         EffectOperator::PreAssign => false,

@@ -1,8 +1,15 @@
 // A row found in its object's stretch of list 2, whether an attribute may have a limit, and the two tables that tell.
 use super::rows::Found;
 use columns::AttributeRow;
+use columns::LIMIT_MARKS;
 use columns::Limits;
+use columns::OBJECTS;
+use columns::ROW_ATTRIBUTE;
+use columns::ROW_OBJECT;
+use columns::STRETCH_END;
+use columns::STRETCH_FIRST;
 use columns::Stretches;
+use columns::TABLE_ATTRIBUTES;
 use columns::TablePairs;
 use info::header::count_of;
 use info::little_endian::index;
@@ -15,30 +22,28 @@ ghost use mathlib.Core.Path.{_≡_};
 ghost use mathlib.Core.Bool.{false};
 ghost use mathlib.Core.List.{List};
 ghost use Prim.Native.Nat.{_+_, _≤_, _<_, _^_};
-ghost use lib.IntN.{pos};
 ghost use lib.ListN.{length};
 ghost use Rattle.rules.specs.Dispatch.{Row};
-ghost use Rattle.rules.specs.Info.{getDogmaAttribute};
 ghost use Rattle.rules.specs.Sheet.{Book, bookOf};
 ghost use Rattle.info.specs.Sound.{HeldBook};
 ghost use Rattle.rules.specs.Value.{findRow};
 ghost use Rattle.reading.specs.Held.{RowsHeld, placed, indexOf};
-ghost use Rattle.reading.specs.Stretched.{Stretched, Narrowed, Past, Limits};
+ghost use Rattle.reading.specs.Stretched.{Stretched, Narrowed, Past, Limits, Unlimited};
 
 // Where the first row from one to another whose attribute is not before the one sought lies: of eight or more a quarter and what is over is left.
 fn narrowed(rows: &[AttributeRow], first: usize, end: usize, id: i32) -> Window
-    requires { ⌜ first ≤ end ⌝ }
-    requires { ⌜ end ≤ length (now rows) ⌝ }
-    ensures { λ r. ⌜ r .low + r .left ≤ end ⌝ }
-    ensures { λ r. ⌜ Narrowed (now (rows .entry)) id first end (r .low) (r .low + r .left) ⌝ }
+    requires ordered { ⌜ first ≤ end ⌝ }
+    requires inside { ⌜ end ≤ length (now rows) ⌝ }
+    ensures inside { λ r. ⌜ r .low + r .left ≤ end ⌝ }
+    ensures narrowed { λ r. ⌜ Narrowed (now (rows .entry)) id first end (r .low) (r .low + r .left) ⌝ }
 {
     let mut low = first;
     let mut left = end - first;
     while 7 < left {
         let q = left / 4;
-        let a = signed(rows[low + q - 1][1]);
-        let m = signed(rows[low + 2 * q - 1][1]);
-        let z = signed(rows[low + 3 * q - 1][1]);
+        let a = signed(rows[low + q - 1][ROW_ATTRIBUTE]);
+        let m = signed(rows[low + 2 * q - 1][ROW_ATTRIBUTE]);
+        let z = signed(rows[low + 3 * q - 1][ROW_ATTRIBUTE]);
         low = low + step(q, a < id) + step(q, m < id) + step(q, z < id);
         left -= 3 * q;
     }
@@ -50,8 +55,8 @@ fn narrowed(rows: &[AttributeRow], first: usize, end: usize, id: i32) -> Window
 
 // The first row from one to another whose attribute is not before the one sought: in its window those before it are counted.
 fn lower(rows: &[AttributeRow], first: usize, end: usize, id: i32) -> usize
-    requires { ⌜ end ≤ length (now rows) ⌝ }
-    ensures { λ r. ⌜ Narrowed (now (rows .entry)) id first end r r ⌝ }
+    requires inside { ⌜ end ≤ length (now rows) ⌝ }
+    ensures narrowed { λ r. ⌜ Narrowed (now (rows .entry)) id first end r r ⌝ }
 {
     if end <= first {
         return first;
@@ -61,7 +66,7 @@ fn lower(rows: &[AttributeRow], first: usize, end: usize, id: i32) -> usize
     let last = k + window.left;
     let mut found = k;
     while k < last {
-        let own = signed(rows[k][1]);
+        let own = signed(rows[k][ROW_ATTRIBUTE]);
         found = found + step(1, own < id);
         k += 1;
     }
@@ -70,17 +75,18 @@ fn lower(rows: &[AttributeRow], first: usize, end: usize, id: i32) -> usize
 
 // The row of an attribute of an object.
 pub fn find(rows: &[AttributeRow], stretches: &Stretches, object: u32, id: i32) -> Found
-    requires { ⌜ object < 1024 ⌝ }
-    ensures { λ r. ⌜ ((rs : List Row) → RowsHeld rs (now (rows .entry)) → Stretched rs (now (stretches .entry)) → placed r ≡ indexOf (findRow object id 0 rs)) ⌝ }
+    requires an_object { ⌜ object < 1024 ⌝ }
+    ensures defined { λ r. ⌜ ((rs : List Row) → RowsHeld rs (now (rows .entry)) → Stretched rs (now (stretches .entry))
+        → placed r ≡ indexOf (findRow object id 0 rs)) ⌝ }
 {
     let stretch = stretches[index(object)];
-    let end = index(stretch[1]);
+    let end = index(stretch[STRETCH_END]);
     if end > rows.len() {
         return Found::Nothing;
     }
-    let at = lower(rows, index(stretch[0]), end, id);
+    let at = lower(rows, index(stretch[STRETCH_FIRST]), end, id);
     if at < end {
-        let own = signed(rows[at][1]);
+        let own = signed(rows[at][ROW_ATTRIBUTE]);
         if own == id {
             return Found::At(at);
         }
@@ -91,12 +97,12 @@ pub fn find(rows: &[AttributeRow], stretches: &Stretches, object: u32, id: i32) 
 
 // The first row from one on that is of a later object.
 fn past(rows: &[AttributeRow], first: usize, object: u32) -> usize
-    requires { ⌜ first ≤ length (now rows) ⌝ }
-    ensures { λ r. ⌜ Past (now (rows .entry)) object first r ⌝ }
+    requires inside { ⌜ first ≤ length (now rows) ⌝ }
+    ensures past { λ r. ⌜ Past (now (rows .entry)) object first r ⌝ }
 {
     let mut i = first;
     while i < rows.len() {
-        let own = rows[i][0];
+        let own = rows[i][ROW_OBJECT];
         if own > object {
             return i;
         }
@@ -106,12 +112,12 @@ fn past(rows: &[AttributeRow], first: usize, object: u32) -> usize
 }
 
 // The stretches of all objects, in one pass over the rows.
-pub fn set_stretches(rows: &[AttributeRow]) -> [[u32; 2]; 1024]
-    requires { ⌜ length (now rows) < 2 ^ 32 ⌝ }
-    ensures { λ r. ⌜ ((rs : List Row) → RowsHeld rs (now (rows .entry)) → Stretched rs r) ⌝ }
+pub fn set_stretches(rows: &[AttributeRow]) -> Stretches
+    requires few { ⌜ length (now rows) < 2 ^ 32 ⌝ }
+    ensures stretched { λ r. ⌜ ((rs : List Row) → RowsHeld rs (now (rows .entry)) → Stretched rs r) ⌝ }
 {
     let none = [0u32; 2];
-    let mut stretches = [none; 1024];
+    let mut stretches = [none; OBJECTS];
     let mut first: usize = 0;
     let mut object: u32 = 0;
     while object < 1024 {
@@ -126,19 +132,19 @@ pub fn set_stretches(rows: &[AttributeRow]) -> [[u32; 2]; 1024]
 
 // Whether an attribute may have a limit.
 pub fn is_limited(limits: &Limits, id: i32) -> bool
-    ensures { λ r. ⌜ ((k : Book) → Limits k (now (limits .entry)) → r ≡ false → (getDogmaAttribute k id .«min_attribute_id» ≡ pos 0) × (getDogmaAttribute k id .«max_attribute_id» ≡ pos 0)) ⌝ }
+    ensures unlimited { λ r. ⌜ ((k : Book) → Limits k (now (limits .entry)) → r ≡ false → Unlimited k id) ⌝ }
 {
     let mark = limits[index(bits(id) % 1024)];
     mark != 0
 }
 
 // Marks of the attributes that may have a limit, by their ids modulo 1,024.
-pub fn set_limits(book: &[u8], pairs: &TablePairs) -> [u32; 1024]
-    requires { ⌜ HeldBook (now book) (now pairs) ⌝ }
-    ensures { λ r. ⌜ Limits (bookOf (now (book .entry)) (now (pairs .entry))) r ⌝ }
+pub fn set_limits(book: &[u8], pairs: &TablePairs) -> Limits
+    requires held { ⌜ HeldBook (now book) (now pairs) ⌝ }
+    ensures limits { λ r. ⌜ Limits (bookOf (now (book .entry)) (now (pairs .entry))) r ⌝ }
 {
-    let attributes = count_of(pairs, 1);
-    let mut marks = [0u32; 1024];
+    let attributes = count_of(pairs, TABLE_ATTRIBUTES);
+    let mut marks = [0u32; LIMIT_MARKS];
     let mut i = 0;
     while i < attributes {
         let a = attribute(book, pairs, i);

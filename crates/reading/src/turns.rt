@@ -1,5 +1,7 @@
 // In which order the walk goes over the rows of list 2: ship, projected, mode, char, items and charges, skills, ids ascending (pass_3.rs).
 use columns::AttributeRow;
+use columns::ROW_OBJECT;
+use columns::TABLE_OBJECTS;
 use columns::TablePairs;
 use info::header::count_of;
 use info::records::object;
@@ -26,13 +28,13 @@ pub struct Turns {
 
 // How many rows are of objects below one: rows ascend by object.
 fn rows_below(rows: &[AttributeRow], object: u32) -> usize
-    ensures { λ r. ⌜ ((rs : List Row) → RowsHeld rs (now (rows .entry)) → r ≡ rowsBelow object rs) ⌝ }
+    ensures counted { λ r. ⌜ ((rs : List Row) → RowsHeld rs (now (rows .entry)) → r ≡ rowsBelow object rs) ⌝ }
 {
     let mut low: usize = 0;
     let mut high = rows.len();
     while low < high {
         let middle = low + (high - low) / 2;
-        let o = rows[middle][0];
+        let o = rows[middle][ROW_OBJECT];
         if o < object {
             low = middle + 1;
         } else {
@@ -44,11 +46,11 @@ fn rows_below(rows: &[AttributeRow], object: u32) -> usize
 
 // The number just past the last projected one: they stand right after the char.
 fn projected_end(fit: &[u8], pairs: &TablePairs, character: u32) -> u32
-    requires { ⌜ SoundFit (now fit) (now pairs) ⌝ }
-    requires { ⌜ character ≡ charOf (fitOf (now fit) (now pairs)) ⌝ }
-    ensures { λ r. ⌜ r ≡ projectedEnd (fitOf (now (fit .entry)) (now (pairs .entry))) ⌝ }
+    requires sound { ⌜ SoundFit (now fit) (now pairs) ⌝ }
+    requires the_char { ⌜ character ≡ charOf (fitOf (now fit) (now pairs)) ⌝ }
+    ensures defined { λ r. ⌜ r ≡ projectedEnd (fitOf (now (fit .entry)) (now (pairs .entry))) ⌝ }
 {
-    let objects = count_of(pairs, 6);
+    let objects = count_of(pairs, TABLE_OBJECTS);
     let mut i = character as usize + 1;
     while i < objects {
         let o = object(fit, pairs, i);
@@ -60,9 +62,12 @@ fn projected_end(fit: &[u8], pairs: &TablePairs, character: u32) -> u32
     i as u32
 }
 
+// Where the walk leaves the order of the rows, and where it takes it up again.
 pub fn turns_of(rows: &[AttributeRow], fit: &[u8], pairs: &TablePairs) -> Turns
-    requires { ⌜ SoundFit (now fit) (now pairs) ⌝ }
-    ensures { λ r. ⌜ ((rs : List Row) → RowsHeld rs (now (rows .entry)) → owned (length (fitOf (now (fit .entry)) (now (pairs .entry)) .objects)) rs ≡ true → TurnsOf (fitOf (now (fit .entry)) (now (pairs .entry))) rs r) ⌝ }
+    requires sound { ⌜ SoundFit (now fit) (now pairs) ⌝ }
+    ensures in_order { λ r.
+        let f = fitOf (now (fit .entry)) (now (pairs .entry)) in
+        ⌜ ((rs : List Row) → RowsHeld rs (now (rows .entry)) → owned (length (f .objects)) rs ≡ true → TurnsOf f rs r) ⌝ }
 {
     let character = char_of(fit, pairs);
     let end = projected_end(fit, pairs, character);
@@ -73,17 +78,17 @@ pub fn turns_of(rows: &[AttributeRow], fit: &[u8], pairs: &TablePairs) -> Turns
     }
 }
 
-// The row that turn k is at: the ship's, the projected ones', those of mode and char, then the rest.
-pub fn walked(t: Turns, k: usize) -> usize
-    requires { ⌜ Ordered t ⌝ }
-    ensures { λ r. ⌜ (r ≡ walkedAt t k) × ((n : ℕ) → t .projected ≤ n → k < n → r < n) ⌝ }
+// The row that a turn is at: the ship's, the projected ones', those of mode and char, then the rest.
+pub fn walked(turns: Turns, turn: usize) -> usize
+    requires ordered { ⌜ Ordered turns ⌝ }
+    ensures defined { λ r. ⌜ (r ≡ walkedAt turns turn) × ((n : ℕ) → turns .projected ≤ n → turn < n → r < n) ⌝ }
 {
-    if (k < t.ship) | (t.projected <= k) {
-        return k;
+    if (turn < turns.ship) | (turns.projected <= turn) {
+        return turn;
     }
-    let projected = t.projected - t.character;
-    if k < t.ship + projected {
-        return k - t.ship + t.character;
+    let projected = turns.projected - turns.character;
+    if turn < turns.ship + projected {
+        return turn - turns.ship + turns.character;
     }
-    k - projected
+    turn - projected
 }

@@ -1,3 +1,4 @@
+pub mod Results
 pub mod Everything
 pub mod Written
 pub mod Marked

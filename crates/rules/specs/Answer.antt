@@ -36,11 +36,13 @@ pub data Res (A : Type 0) : Type 0 where
   ok : A → Res A
   refused : Refusal → Res A
 
+-- "The first refusal met wins"
 infixl 10 _>>=_
 abbrev pub _>>=_ : {A B : Type 0} → Res A → (A → Res B) → Res B
 _>>=_ (ok a) f = f a
 _>>=_ (refused r) f = refused r
 
+-- "none below": a run with no refusal is DONE
 abbrev pub answerOf : {A : Type 0} → Res A → Answer
 answerOf (ok a) = Done
 answerOf (refused r) = Refused r

@@ -19,9 +19,11 @@ signed n = toZ w32 n
 abbrev pub bits : ℤ → ℕ
 bits a = ofZ w32 a
 
+-- "Ids, groups, types, categories of objects and the three category numbers are signed"
 abbrev pub i32At : List ℕ → ℕ → ℤ
 i32At b i = signed (u32At b i)
 
+-- "floats 8"
 abbrev pub f64At : List ℕ → ℕ → Float
 f64At b i = ofBits binary64 (u32At b i + 2 ^ 32 * u32At b (i + 4))
 
@@ -29,6 +31,7 @@ f64At b i = ofBits binary64 (u32At b i + 2 ^ 32 * u32At b (i + 4))
 abbrev pub pairsOf : List ℕ → List (List ℕ)
 pairsOf b = map (λ i. u32At b (8 * i) ∷ u32At b (8 * i + 4) ∷ []) (from 0 10)
 
+-- "the ten count-and-offset pairs are kept as one array of pairs"
 abbrev pub countOf : List (List ℕ) → ℕ → ℕ
 countOf pairs t = getD (getD pairs (t - 1) []) 0 0
 

@@ -23,9 +23,11 @@ categories =
     category.Passive ∷ category.Online ∷ category.Active ∷ category.Overload
     ∷ category.Target ∷ category.Area ∷ category.Dungeon ∷ category.System ∷ []
 
+-- "Codes, tested only when reached"
 abbrev pub categoryAt : ℕ → Option EffectCategory
 categoryAt code = nth categories code
 
+-- "Codes are the sheet's"
 abbrev pub categoryCode : EffectCategory → ℕ
 categoryCode category.Passive = 0
 categoryCode category.Online = 1
@@ -48,9 +50,11 @@ stateCode state.AlwaysOn = 4
 abbrev pub operators : List EffectOperator
 operators = PreAssign ∷ PreMul ∷ PreDiv ∷ ModAdd ∷ ModSub ∷ PostMul ∷ PostDiv ∷ PostPercent ∷ PostAssign ∷ []
 
+-- "operation 0 to 8 as `EffectOperator`, 9 skipped"
 abbrev pub operatorAt : ℕ → Option EffectOperator
 operatorAt code = nth operators code
 
+-- "Codes are the sheet's"
 abbrev pub operatorCode : EffectOperator → ℕ
 operatorCode PreAssign = 0
 operatorCode PreMul = 1

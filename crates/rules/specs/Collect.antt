@@ -31,6 +31,7 @@ use Rattle.rules.specs.declared.Pass2Effect.{Pass2Effect}
 use Rattle.rules.specs.declared.Refusal.{Refusal}
 use Rattle.rules.specs.declared.Refusal.the-variants.{Func, Domain, Category, Operation, Other}
 
+-- "Panics become refusals"
 pub data Move : Type 0 where
   taken : Pass2Effect → Move
   plain : ℕ → ℤ → Move  -- object, effect id
@@ -77,6 +78,7 @@ testDomain f o m =
     (cond (eqb (m .domain) 5 || eqb (m .domain) 6) over (bad (Domain (m .number)))))))
 
 -- `get_projected_object`
+-- "domain 0 ItemID, 1 ShipID, 2 CharID, 3 OtherID, 4 StructureID, 5 TargetID, 6 Target", of which ItemID and OtherID are passed over
 unfoldable pub testProjectedDomain : Fit → DogmaModifier → Test ℕ
 testProjectedDomain f m =
     cond (eqb (m .domain) 1 || leb 4 (m .domain) && leb (m .domain) 6) (go 0)
@@ -105,6 +107,7 @@ module _ (k : Book) (f : Fit) (o : Item) where
       }) ∷ []))
 
   -- a fighter's effect that is not Passive is an ability, and the fit picks which run; a side effect is one that the fit names
+  -- "usage chance 0 mean none"; "abilities and projected effect are read only where flag or kind calls for them"
   abbrev pub inUse : DogmaEffect → TypeDogmaEffect → EffectCategory → Bool
   inUse e t c =
       (not (isFighter o && not (isPassive c))
@@ -121,18 +124,21 @@ module _ (k : Book) (f : Fit) (o : Item) where
     ])
   ]
 
+  -- "A missing effect or buff collection is passed over"
   unfoldable pub effectMoves : TypeDogmaEffect → List Move
   effectMoves t = elim (getDogmaEffect k (t .«effect_id»)) [ none ↦ [] | some e ↦ foundMoves t e ]
 
+  -- "own type effects first, then base effects whose id the type lacks"
   unfoldable pub ownMoves : List Move
   ownMoves = flat effectMoves (effectsOf k o)
 
 -- ---- a projected object's one effect: `collect_projected_effects`
 
--- `get_resistance`: attribute 2138 names it, or else the effect does; 0 is none
+-- `get_resistance`: attribute 2138 names it, or else the effect does; 0 is none; "Min, max, resistance and usage chance 0 mean none"
 abbrev pub unlessZero : ℤ → OptionalId → OptionalId
 unlessZero a other = cond (eqZ a (pos 0)) other (Given a)
 
+-- "Attribute 2138 at 0.9, the effect's own resistance 0: none"
 abbrev pub named : Fit → Item → ℤ
 named f o = elim (getBase f o remoteResistance) [ none ↦ pos 0 | some r ↦ cut (r .value) ]
 
@@ -152,6 +158,7 @@ projectedModifierMoves f o e c m =
       resistance = unlessZero (named f o) (unlessZero (e .«resistance_attribute_id») Absent);
     }) ∷ []
 
+-- "An effect with no modifiers goes to the plain list, unless projected"
 unfoldable pub projectedMoves : Book → Fit → Item → List Move
 projectedMoves k f o = elim (getDogmaEffect k (o .«projected_effect»)) [
   | none ↦ []
@@ -163,6 +170,7 @@ projectedMoves k f o = elim (getDogmaEffect k (o .«projected_effect»)) [
 
 -- ---- a buff: `collect_buff_effects`. "Buffs test operation before any modifier"
 
+-- "A buff entry carries its value inside the origin, as in `Origin::Buff`"
 unfoldable pub buffModifierMoves : ProjectedBuff → EffectOperator → DogmaModifier → List Move
 buffModifierMoves b op m =
     then (testFunc m) λ func.
@@ -176,6 +184,7 @@ buffModifierMoves b op m =
       resistance = Absent;
     }) ∷ []
 
+-- "Buffs test operation before any modifier"; "A missing effect or buff collection is passed over"
 unfoldable pub buffMoves : Book → ProjectedBuff → List Move
 buffMoves k b = elim (getDbuffCollection k (b .id)) [
   | none ↦ []
@@ -186,10 +195,11 @@ buffMoves k b = elim (getDbuffCollection k (b .id)) [
 
 -- ---- "Collection goes ship, mode, char, projected, buffs, items each with its charge, skills"
 
--- an item that is passed over gives nothing, and its charge neither
+-- an item that is passed over gives nothing, and its charge neither; "items each with its charge"
 unfoldable pub fittedMoves : Book → Fit → Item → List Move
 fittedMoves k f o = unless (passed k f (cond (isCharge o) (itemOf f o) o)) (ownMoves k f o)
 
+-- "goes ship, mode, char, projected, buffs, items each with its charge, skills"
 unfoldable pub moves : Book → Fit → List Move
 moves k f =
     flat (ownMoves k f) (keep (λ o. leb (o .kind) 2) (f .objects))
@@ -198,17 +208,19 @@ moves k f =
     ++ (flat (fittedMoves k f) (keep (λ o. isItem o || isCharge o) (f .objects))
     ++ flat (ownMoves k f) (keep isSkill (f .objects)))))
 
--- a row of list 4
+-- a row of list 4; "4 object and effect id"
 pub record Plain : Type 0 where
   pub object : ℕ
   pub id : ℤ
 
+-- "1 and 4 by arrival"
 abbrev pub takenOf : List Move → List Pass2Effect
 takenOf [] = []
 takenOf (taken t ∷ r) = t ∷ takenOf r
 takenOf (plain o e ∷ r) = takenOf r
 takenOf (refuse x ∷ r) = takenOf r
 
+-- "1 and 4 by arrival"
 abbrev pub plainOf : List Move → List Plain
 plainOf [] = []
 plainOf (taken t ∷ r) = plainOf r

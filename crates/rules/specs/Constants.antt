@@ -6,9 +6,11 @@ use lib.IntN.{ℤ, pos}
 abbrev pub capacitorNeed : ℤ
 capacitorNeed = pos 6
 
+-- "Resetting a rig's Passive on attribute 1152 to Online as well" is a slip
 abbrev pub upgradeLoad : ℤ
 upgradeLoad = pos 1152
 
+-- "Attribute 2138 at 0.9, the effect's own resistance 0: none"
 abbrev pub remoteResistance : ℤ
 remoteResistance = pos 2138
 

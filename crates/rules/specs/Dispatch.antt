@@ -22,6 +22,7 @@ use Rattle.rules.specs.declared.Pass2Effect.{Pass2Effect}
 
 -- ---- the source; "a buff's is 0"
 
+-- "Skill -1 means the source's own type; a buff's is 0"
 abbrev pub sourceType : Fit → Origin → ℤ
 sourceType f (origin.Effect e o c a) = object f o .«type_id»
 sourceType f (origin.Buff b v) = pos 0
@@ -59,6 +60,7 @@ inLocation k f t o =
 abbrev pub inSkillLocation : Book → Fit → ℕ → Item → Bool
 inSkillLocation k f t o = (isItem o || isCharge o) && cond (isChar (object f t)) (isOnChar (carrier f o)) (isInShip k (carrier f o))
 
+-- "Closures in `for_each_in_location` become a yes or no per object"
 unfoldable pub hit : Book → Fit → Pass2Effect → Item → Bool
 hit k f t o = hitBy (t .modifier)
   where
@@ -95,6 +97,7 @@ entry k f o n =
 
 -- ---- rows: "by object, then attribute id; entries .. by row, then arrival"
 
+-- "2 holds object, attribute, base, value, and first and count in 3 and in 5"
 pub record Row : Type 0 where
   pub object : ℕ
   pub id : ℤ
@@ -106,7 +109,7 @@ module _ (k : Book) (f : Fit) (ts : List Pass2Effect) where
   unfoldable pub hitsOn : Item → List Numbered
   hitsOn o = keep (λ n. hit k f (n .effect) o) (numbered 0 ts)
 
-  -- its base attributes, and those that its hits are on
+  -- its base attributes, and those that its hits are on; "`BTreeMap`, `BTreeSet`, `Vec` become ordered columns"
   unfoldable pub idsOf : Item → List ℤ
   idsOf o = insertAll (map (λ n. n .effect .«target_attribute_id») (hitsOn o)) (map (λ r. r .«attribute_id») (basesOf f o))
 
@@ -120,6 +123,7 @@ module _ (k : Book) (f : Fit) (ts : List Pass2Effect) where
         entries = map (entry k f o) (keep (λ n. eqZ (n .effect .«target_attribute_id») a) (hitsOn o));
       }
 
+  -- "Rows run by object, then attribute id"
   unfoldable pub rows : List Row
   rows = flat (λ o. map (rowOf o) (idsOf o)) (f .objects)
 
@@ -132,7 +136,7 @@ pub record Key : Type 0 where
 abbrev pub sameKey : Key → Key → Bool
 sameKey a b = eqb (a .object) (b .object) && eqZ (a .id) (b .id)
 
--- the rows that stand before any collection
+-- the rows that stand before any collection; "base attributes copied to rows (ROOM 2)"
 unfoldable pub baseKeys : Fit → List Key
 baseKeys f = flat (λ o. map (λ r. record { object = o .number; id = r .«attribute_id» }) (basesOf f o)) (f .objects)
 
@@ -155,6 +159,7 @@ unfoldable pub hitKeys : Book → Fit → List Pass2Effect → List Key
 hitKeys k f ts = flat (λ t. map (λ o. record { object = o .number; id = t .«target_attribute_id» }) (keep (hit k f t) (arrival f t))) ts
 
 -- the list that is full at a hit, if one is: n rows stand, of the keys known, and e entries
+-- "A row or entry takes room when it arises, a new row before its entry"
 unfoldable pub fullAt : ℕ → ℕ → List Key → ℕ → ℕ → List Key → Option ℕ
 fullAt room2 room3 known n e [] = none
 fullAt room2 room3 known n e (h ∷ r) = elim (some? (sameKey h) known) [

@@ -38,11 +38,13 @@ freshTo w (suc d) o a = elim (findRow o a 0 (w .rows)) [
 ]
 
 -- the value that the rules give with no memory: a calculation that meets no row twice is no deeper than there are rows
+-- "Demand 3 is stated over the memoryless definition"
 unfoldable pub fresh : World → ℕ → ℤ → Res Float
 fresh w o a = freshTo w (suc (length (w .rows))) o a
 
 -- ---- what a row's calculation needs: every source, running or not and recorded or not, its resistance, and its limits
 
+-- "Min, max, resistance and usage chance 0 mean none"
 abbrev pub limit : ℕ → ℤ → List Key
 limit o a = cond (eqZ a (pos 0)) [] (record { object = o; id = a } ∷ [])
 
@@ -54,6 +56,7 @@ abbrev pub entryNeeds : OptionalId → Origin → List Key
 entryNeeds res (origin.Buff b v) = []
 entryNeeds res (origin.Effect f o c a) = record { object = o; id = a } ∷ resistanceNeeds res
 
+-- "through sources, clamps and resistances"
 unfoldable pub needsOf : Book → Row → List Key
 needsOf k r =
     let t = getDogmaAttribute k (r .id) in

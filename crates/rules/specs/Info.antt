@@ -20,6 +20,7 @@ use Rattle.rules.specs.declared.BaseAttribute.{BaseAttribute}
 abbrev pub missing : ℤ → DogmaAttribute
 missing a = record { id = a; flags = 0; «default_value» = zeroF; «min_attribute_id» = pos 0; «max_attribute_id» = pos 0 }
 
+-- "A missing attribute record: not stackable, high not good, default 0.0"
 unfoldable pub getDogmaAttribute : Book → ℤ → DogmaAttribute
 getDogmaAttribute k a = Option·getD (first (λ r. eqZ (r .id) a) (k .attributes)) (missing a)
 
@@ -27,22 +28,26 @@ getDogmaAttribute k a = Option·getD (first (λ r. eqZ (r .id) a) (k .attributes
 abbrev pub stackable : DogmaAttribute → Bool
 stackable r = eqb (r .flags % 2) 1
 
+-- "2 high is good"
 abbrev pub highIsGood : DogmaAttribute → Bool
 highIsGood r = eqb (r .flags / 2) 1
 
+-- "A missing effect or buff collection is passed over"
 unfoldable pub getDogmaEffect : Book → ℤ → Option DogmaEffect
 getDogmaEffect k e = first (λ r. eqZ (r .id) e) (k .effects)
 
+-- "types in 4 do not descend"
 unfoldable pub getDogmaEffects : Book → ℤ → List TypeDogmaEffect
 getDogmaEffects k t = keep (λ r. eqZ (r .«type_id») t) (k .typeEffects)
 
+-- "A missing effect or buff collection is passed over"
 unfoldable pub getDbuffCollection : Book → ℤ → Option DbuffCollection
 getDbuffCollection k b = first (λ r. eqZ (r .id) b) (k .buffCollections)
 
--- the modifiers of an effect
+-- the modifiers of an effect; "first modifier, count"
 abbrev pub modifiersOf : Book → DogmaEffect → List DogmaModifier
 modifiersOf k e = span (e .«first_modifier») (e .modifiers) (k .modifiers)
 
--- an object's base attribute, where it has it
+-- an object's base attribute, where it has it; "base attributes of one object ascend strictly"
 unfoldable pub getBase : Fit → Item → ℤ → Option BaseAttribute
 getBase f o a = first (λ r. eqZ (r .«attribute_id») a) (basesOf f o)

@@ -22,21 +22,27 @@ use Rattle.rules.specs.declared.ItemState.the-variants as state
 abbrev pub isShip : Item → Bool
 isShip o = eqb (o .kind) 0
 
+-- "1 mode"
 abbrev pub isMode : Item → Bool
 isMode o = eqb (o .kind) 1
 
+-- "2 char"
 abbrev pub isChar : Item → Bool
 isChar o = eqb (o .kind) 2
 
+-- "3 item"
 abbrev pub isItem : Item → Bool
 isItem o = eqb (o .kind) 3
 
+-- "4 charge"
 abbrev pub isCharge : Item → Bool
 isCharge o = eqb (o .kind) 4
 
+-- "5 skill"
 abbrev pub isSkill : Item → Bool
 isSkill o = eqb (o .kind) 5
 
+-- "6 projected"
 abbrev pub isProjected : Item → Bool
 isProjected o = eqb (o .kind) 6
 
@@ -44,6 +50,7 @@ isProjected o = eqb (o .kind) 6
 abbrev pub isRig : Item → Bool
 isRig o = eqb (o .slot) 4
 
+-- "then High, Medium, Low, Rig, Subsystem, Service, DroneBay, FighterTube, FighterBay, Implant, Booster"
 abbrev pub isSubsystem : Item → Bool
 isSubsystem o = eqb (o .slot) 5
 
@@ -76,6 +83,7 @@ isCalculated k o = isInShip k o || isFighter o || isOnChar o || isDrone o
 abbrev pub abilitiesGiven : Item → Bool
 abilitiesGiven o = eqb (o .flags % 2) 1
 
+-- "2 mutated"
 abbrev pub mutated : Item → Bool
 mutated o = eqb (o .flags / 2) 1
 
@@ -103,6 +111,7 @@ noItem =
       «side_effects» = 0;
     }
 
+-- "objects go by number"
 abbrev pub object : Fit → ℕ → Item
 object f n = getD (f .objects) n noItem
 
@@ -110,10 +119,11 @@ object f n = getD (f .objects) n noItem
 abbrev pub hasCharge : Fit → Item → Bool
 hasCharge f o = isCharge (object f (suc (o .number)))
 
+-- "items each with at most one charge right after"
 abbrev pub itemOf : Fit → Item → Item
 itemOf f o = object f (o .number - 1)
 
--- the char stands right after the ship or its mode
+-- the char stands right after the ship or its mode; "ship, at most one mode, char"
 abbrev pub charOf : Fit → ℕ
 charOf f = cond (isChar (object f 1)) 1 2
 
@@ -139,7 +149,7 @@ requiredState category.System = none
 abbrev pub lowestState : EffectCategory → ItemState
 lowestState c = Option·getD (requiredState c) state.Active
 
--- `runs_at`, on an item in the state
+-- `runs_at`, on an item in the state; "`Target` and the three after it run from Active up"
 abbrev pub runsAt : EffectCategory → ℕ → Bool
 runsAt c s = leb (stateCode (lowestState c)) s
 
@@ -154,5 +164,6 @@ effectsOf k o =
     cond (mutated o) (own ++ base) own
 
 -- the category that an object has an effect in: a rig's Passive is Online
+-- "Resetting a rig's Passive on attribute 1152 to Online as well" is a slip: `modifierMoves` keeps it there
 abbrev pub categoryOn : Item → EffectCategory → EffectCategory
 categoryOn o c = cond (isRig o && isPassive c) category.Online c

@@ -34,6 +34,7 @@ unfoldable pub integer : ℤ → List ℕ
 integer (pos n) = natural n
 integer (negsuc n) = ascii "-" ++ natural (suc n)
 
+-- "minus only if a digit is nonzero"
 abbrev pub minusIf : Bool → List ℕ
 minusIf true = ascii "-"
 minusIf false = []
@@ -47,6 +48,7 @@ decimals (Cut s c) = minusIf s ++ (natural (c / 100) ++ (ascii "." ++ ((48 + c /
 unfoldable pub line : Row → Float → List ℕ
 line r v = natural (r .object) ++ (ascii " " ++ (integer (r .id) ++ (ascii " " ++ (decimals (hundredthsOf v) ++ ascii "\n"))))
 
+-- "then per row: object number, attribute id, value"
 unfoldable pub lines : List Row → List Float → List ℕ
 lines [] vs = []
 lines (r ∷ rs) [] = []

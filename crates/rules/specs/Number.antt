@@ -12,12 +12,13 @@ use Rattle.rules.specs.declared.Refusal.the-variants.{Number}
 use Rattle.rules.specs.declared.Hundredths.{Hundredths}
 use Rattle.rules.specs.declared.Hundredths.the-variants.{Cut, Star}
 
--- one operation's result
+-- one operation's result; "a float step's result is not finite"
 unfoldable pub step : Float → Step
 step nan = NotFinite
 step (inf s) = NotFinite
 step (fin s m e) = Finite (fin s m e)
 
+-- "The float format and its operations are IEEE 754 binary64"
 abbrev pub plus : Float → Float → Step
 plus x y = step (add binary64 x y)
 
@@ -36,7 +37,7 @@ unfoldable pub _>>=_ : Step → (Float → Step) → Step
 _>>=_ (Finite x) f = f x
 _>>=_ NotFinite f = NotFinite
 
--- 8 NUMBER: a step that the object o's attribute takes
+-- 8 NUMBER: a step that the object o's attribute takes; "a float step's result is not finite"; the place is the "owning object"
 unfoldable pub numberAt : ℕ → Step → Res Float
 numberAt o (Finite x) = ok x
 numberAt o NotFinite = refused (Number o)
@@ -54,11 +55,11 @@ powerFrom (suc d) r x (suc n) =
     timesIf (eqb (suc n % 2) 1) r x >>= λ r′.
     elim (suc n / 2) [ zero ↦ Finite r′ | suc k ↦ times x x >>= λ x′. powerFrom d r′ x′ (suc n / 2) ]
 
--- a quantity has at most 32 digits
+-- a quantity has at most 32 digits; "result 1; for each binary digit of the exponent"
 unfoldable pub power : Float → ℕ → Step
 power x n = powerFrom 32 oneF x n
 
--- 0.8691199808003974
+-- 0.8691199808003974; "0.8691199808003974 to the power p times p"
 abbrev pub penaltyFactor : Float
 penaltyFactor = ofBits binary64 0x3feb_cfd4_b4ba_cfb5
 

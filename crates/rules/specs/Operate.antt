@@ -60,6 +60,7 @@ unfoldable pub greatest : Float → List Stack → Float
 greatest v [] = v
 greatest v (x ∷ r) = greatest (cond (lt (x .value) v) v (x .value)) r
 
+-- "the first of equal least"
 unfoldable pub least : Float → List Stack → Float
 least v [] = v
 least v (x ∷ r) = least (cond (lt (x .value) v) (x .value) v) r
@@ -69,7 +70,7 @@ unfoldable pub assigned : Bool → Float → List Stack → Float
 assigned high v [] = v
 assigned high v (x ∷ r) = cond high (greatest (x .value) r) (least (x .value) r)
 
--- ModAdd and ModSub: each value times its quantity
+-- ModAdd and ModSub: each value times its quantity; "ModAdd 2, quantity 3, on 10: 16"
 unfoldable pub added : Float → List Stack → Step
 added v [] = Finite v
 added v (x ∷ r) = times (x .value) (ofInt binary64 (pos (x .quantity))) >>= λ y. plus v y >>= λ v′. added v′ r
@@ -84,11 +85,13 @@ unfoldable pub place : Copy → List Copy → List Copy
 place x [] = x ∷ []
 place x (y ∷ r) = let rest = y ∷ place x r in cond (smaller (x .value) (y .value)) rest (x ∷ y ∷ r)
 
+-- "stable order, greatest size first"
 unfoldable pub sorted : List Copy → List Copy
 sorted [] = []
 sorted (x ∷ r) = place x (sorted r)
 
 -- penalised copies from position p on: 1.0 + value * weight, each
+-- "position p from 0 to 7 weighs 0.8691199808003974 to the power p times p, later ones 0.0"
 unfoldable pub weighed : ℕ → List Copy → Float → Step
 weighed p [] v = Finite v
 weighed p (x ∷ r) v = times (x .value) (weight p) >>= λ y. plus oneF y >>= λ z. times v z >>= λ v′. weighed (suc p) r v′

@@ -23,7 +23,7 @@ use Rattle.rules.specs.declared.Pass2Effect.{Pass2Effect}
 use Rattle.rules.specs.declared.Source.{Source}
 use Rattle.rules.specs.declared.Refusal.the-variants.{Shape, Room}
 
--- how long each column is that is lent
+-- how long each column is that is lent; "Lists lent: 1 collected effects, 2 attribute rows, 3 entries, 4 plain effects, 5 source rows"
 pub record Lent : Type 0 where
   pub collected : ℕ
   pub collectedValues : ℕ
@@ -47,6 +47,7 @@ pub record Rooms : Type 0 where
 abbrev pub counted : ℕ → ℕ
 counted n = min n 4294967295
 
+-- "A list's room is its shortest column"
 abbrev pub roomsOf : Lent → Rooms
 roomsOf l =
     record {
@@ -66,13 +67,14 @@ pub record Done : Type 0 where
   pub values : List (Option Float)  -- of each row
   pub sources : List (List Source)  -- of each row
 
--- collection: n collected effects stand and p plain ones; 7 ROOM, lists 1 and 4
+-- collection: n collected effects stand and p plain ones; 7 ROOM, lists 1 and 4; "the rules need more rows than a list has"
 unfoldable pub collected : Rooms → ℕ → ℕ → List Move → Res Unit
 collected q n p [] = ok tt
 collected q n p (taken t ∷ r) = elim (ltb n (q .collected)) [ true ↦ collected q (suc n) p r | false ↦ refused (Room 1) ]
 collected q n p (plain o e ∷ r) = elim (ltb p (q .plain)) [ true ↦ collected q n (suc p) r | false ↦ refused (Room 4) ]
 collected q n p (refuse x ∷ r) = refused x
 
+-- "the rules need more rows than a list has"
 abbrev pub full : Option ℕ → Res Unit
 full none = ok tt
 full (some list) = refused (Room list)
@@ -101,13 +103,16 @@ collectedIn k f = takenOf (moves k f)
 unfoldable pub rowsIn : Book → Fit → List Row
 rowsIn k f = rows k f (collectedIn k f)
 
+-- "recording, 0 or 1"
 unfoldable pub worldOf : Book → Fit → ℕ → World
 worldOf k f room =
     record { book = k; rows = rowsIn k f; states = map (statesOf k f) (f .objects); recording = eqb (f .recording) 1; room = room }
 
+-- "`Cell` and `RefCell` memory becomes value columns threaded through the calls"
 abbrev pub blank : List Row → Mem
 blank rs = record { values = map (λ r. none) rs; sources = map (λ r. []) rs; used = 0 }
 
+-- "base attributes copied to rows (ROOM 2), collection, dispatch, asks, walk"
 unfoldable pub run : Book → Fit → Rooms → Res Done
 run k f q = do
   let w = worldOf k f (q .sources)
@@ -118,7 +123,7 @@ run k f q = do
   m ← valued w (f .depth) (startsOf f (w .rows)) (blank (w .rows))
   ok (record { states = w .states; collected = collectedIn k f; plain = plainOf (moves k f); rows = w .rows; values = m .values; sources = m .sources })
 
--- of any bytes, with any lists lent
+-- of any bytes, with any lists lent; "Order: SHAPE (header first, tables 1 to 10)", then the rest
 unfoldable pub outcome : List ℕ → Lent → Res Done
 outcome b l = elim (badShape b) [
   | some t ↦ refused (Shape t)

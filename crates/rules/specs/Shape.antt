@@ -11,7 +11,7 @@ use Rattle.rules.specs.Bytes.{u32At, pairsOf, countOf, offsetOf, widthOf
 use Rattle.rules.specs.Sheet.{Book, Fit, bookOf, fitOf, basesOf}
 use Rattle.rules.specs.declared.Item.{Item}
 
--- where table t ends
+-- where table t ends; "A header of 100 bytes"; "Tables follow in order without gaps"
 abbrev pub endOf : List (List ℕ) → ℕ → ℕ
 endOf pairs zero = 100
 endOf pairs (suc t) = offsetOf pairs (suc t) + widthOf (suc t) * countOf pairs (suc t)
@@ -35,6 +35,7 @@ unfoldable pub attributesGood : Book → Bool
 attributesGood k =
     ascends (map (λ r. r .id) (k .attributes)) && every? (λ r. leb (r .flags) 3 && finite (r .«default_value»)) (k .attributes)
 
+-- "Ids in 1, 2 and 5 ascend strictly"; "First plus count is at most its table's count"
 unfoldable pub effectsGood : Book → Bool
 effectsGood k =
     ascends (map (λ r. r .id) (k .effects))
@@ -45,6 +46,7 @@ unfoldable pub typeEffectsGood : Book → Bool
 typeEffectsGood k =
     notDescending (map (λ r. r .«type_id») (k .typeEffects)) && every? (λ r. leb (r .«is_default») 1) (k .typeEffects)
 
+-- "Ids in 1, 2 and 5 ascend strictly"; "First plus count is at most its table's count"
 unfoldable pub buffCollectionsGood : Book → Bool
 buffCollectionsGood k =
     ascends (map (λ r. r .id) (k .buffCollections))
@@ -57,11 +59,12 @@ follows a k =
     (eqb k 1 && eqb a 0) || (eqb k 2 && leb a 1) || (eqb k 6 && (eqb a 2 || eqb a 6)) || (eqb k 3 && (leb 2 a && not (eqb a 5)))
     || (eqb k 4 && eqb a 3) || (eqb k 5 && leb 2 a)
 
--- the kinds after one of kind a: the last is neither ship nor mode, so a char stands among them
+-- the kinds after one of kind a: the last is neither ship nor mode, so a char stands among them; "ship, at most one mode, char, projected"
 unfoldable pub standAfter : ℕ → List ℕ → Bool
 standAfter a [] = leb 2 a
 standAfter a (k ∷ r) = follows a k && standAfter k r
 
+-- "Objects stand as: ship"
 unfoldable pub stand : List ℕ → Bool
 stand [] = false
 stand (k ∷ r) = eqb k 0 && standAfter k r
@@ -74,6 +77,7 @@ objectGood f o =
     && inside (o .«first_ability») (o .abilities) (length (f .ids))
     && inside (o .«first_side_effect») (o .«side_effects») (length (f .ids))
 
+-- "Objects stand as: ship, at most one mode, char, projected, items each with at most one charge right after, skills"
 unfoldable pub objectsGood : Fit → Bool
 objectsGood f = stand (map (λ o. o .kind) (f .objects)) && every? (objectGood f) (f .objects)
 
@@ -82,6 +86,7 @@ unfoldable pub basesGood : Fit → Bool
 basesGood f =
     every? (λ r. finite (r .value)) (f .bases) && every? (λ o. ascends (map (λ r. r .«attribute_id») (basesOf f o))) (f .objects)
 
+-- "All floats are finite"
 unfoldable pub buffsGood : Fit → Bool
 buffsGood f = every? (λ r. finite (r .value)) (f .buffs)
 
@@ -89,16 +94,17 @@ buffsGood f = every? (λ r. finite (r .value)) (f .buffs)
 unfoldable pub asksGood : Fit → Bool
 asksGood f = every? (λ a. ltb (a .object) (length (f .objects))) (f .asks)
 
--- the first bad one among tables t, t + 1, .. whose verdicts are listed
+-- the first bad one among tables t, t + 1, .. whose verdicts are listed; "first bad table, 0 for the header"
 abbrev pub firstBad : ℕ → List Bool → Option ℕ
 firstBad t [] = none
 firstBad t (true ∷ r) = firstBad (suc t) r
 firstBad t (false ∷ r) = some t
 
--- tables 3 and 8 have no rule of their own
+-- tables 3 and 8 have no rule of their own; "first bad table"
 unfoldable pub bookBad : Book → Option ℕ
 bookBad k = firstBad 1 (attributesGood k ∷ effectsGood k ∷ true ∷ typeEffectsGood k ∷ buffCollectionsGood k ∷ [])
 
+-- "first bad table"
 unfoldable pub fitBad : Fit → Option ℕ
 fitBad f = firstBad 6 (objectsGood f ∷ basesGood f ∷ true ∷ buffsGood f ∷ asksGood f ∷ [])
 

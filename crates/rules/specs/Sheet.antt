@@ -15,6 +15,7 @@ use Rattle.rules.specs.declared.BaseAttribute.{BaseAttribute}
 use Rattle.rules.specs.declared.ProjectedBuff.{ProjectedBuff}
 use Rattle.rules.specs.declared.Ask.{Ask}
 
+-- "`impl Info` becomes the tables"
 pub record Book : Type 0 where
   pub modules : ℤ
   pub subsystems : ℤ
@@ -34,11 +35,12 @@ pub record Fit : Type 0 where
   pub buffs : List ProjectedBuff
   pub asks : List Ask
 
--- record k of each table, from its own bytes r
+-- record k of each table, from its own bytes r; "id, flags (1 stackable, 2 high is good), default float, min id, max id"
 abbrev pub attributeFrom : ℕ → List ℕ → DogmaAttribute
 attributeFrom k r =
     record { id = i32At r 0; flags = u32At r 4; «default_value» = f64At r 8; «min_attribute_id» = i32At r 16; «max_attribute_id» = i32At r 20 }
 
+-- "id, category, resistance attribute, usage chance attribute, first modifier, count"
 abbrev pub effectFrom : ℕ → List ℕ → DogmaEffect
 effectFrom k r =
     record {
@@ -51,6 +53,7 @@ effectFrom k r =
       modifiers = u32At r 20;
     }
 
+-- "func, domain, operation, modifying attribute, modified attribute, skill type, group"
 abbrev pub modifierFrom : ℕ → List ℕ → DogmaModifier
 modifierFrom k r =
     record {
@@ -64,13 +67,17 @@ modifierFrom k r =
       «group_id» = i32At r 24;
     }
 
+-- "type, effect, default (0, 1)"
 abbrev pub typeEffectFrom : ℕ → List ℕ → TypeDogmaEffect
 typeEffectFrom k r = record { «type_id» = i32At r 0; «effect_id» = i32At r 4; «is_default» = u32At r 8 }
 
+-- "id, operation, first modifier, count"
 abbrev pub buffCollectionFrom : ℕ → List ℕ → DbuffCollection
 buffCollectionFrom k r =
     record { number = k; id = i32At r 0; operation = u32At r 4; «first_modifier» = u32At r 8; modifiers = u32At r 12 }
 
+-- "kind, type, group, category, slot, quantity, state, max state, flags (1 abilities given, 2 mutated), mutation base, projected effect,
+-- then first and count for base attributes, abilities, side effects"
 abbrev pub objectFrom : ℕ → List ℕ → Item
 objectFrom k r =
     record {
@@ -94,15 +101,19 @@ objectFrom k r =
       «side_effects» = u32At r 64;
     }
 
+-- "attribute, float"
 abbrev pub baseFrom : ℕ → List ℕ → BaseAttribute
 baseFrom k r = record { «attribute_id» = i32At r 0; value = f64At r 4 }
 
+-- "ids, 4,096", each an "id"
 abbrev pub idFrom : ℕ → List ℕ → ℤ
 idFrom k r = i32At r 0
 
+-- "buff, value float"
 abbrev pub buffFrom : ℕ → List ℕ → ProjectedBuff
 buffFrom k r = record { id = i32At r 0; value = f64At r 4 }
 
+-- "object number, attribute"
 abbrev pub askFrom : ℕ → List ℕ → Ask
 askFrom k r = record { object = u32At r 0; «attribute_id» = i32At r 4 }
 
@@ -110,7 +121,7 @@ askFrom k r = record { object = u32At r 0; «attribute_id» = i32At r 4 }
 abbrev pub table : {A : Type 0} → (ℕ → List ℕ → A) → ℕ → List ℕ → List (List ℕ) → List A
 table read t b pairs = map (λ k. read k (recordAt b pairs t k)) (from 0 (countOf pairs t))
 
--- after the pairs stand the three category numbers, depth and recording
+-- after the pairs stand the three category numbers, depth and recording; "then CATEGORY_MODULE, CATEGORY_SUBSYSTEM, CATEGORY_STRUCTURE_MODULE"
 unfoldable pub bookOf : List ℕ → List (List ℕ) → Book
 bookOf b pairs =
     record {
@@ -124,6 +135,7 @@ bookOf b pairs =
       buffCollections = table buffCollectionFrom 5 b pairs;
     }
 
+-- "depth, 1 to 256; recording, 0 or 1"
 unfoldable pub fitOf : List ℕ → List (List ℕ) → Fit
 fitOf b pairs =
     record {
@@ -136,12 +148,14 @@ fitOf b pairs =
       asks = table askFrom 10 b pairs;
     }
 
--- what an object's record points at
+-- what an object's record points at; "first and count for base attributes, abilities, side effects"
 abbrev pub basesOf : Fit → Item → List BaseAttribute
 basesOf f o = span (o .«first_attribute») (o .attributes) (f .bases)
 
+-- "abilities and side effects in 8"
 abbrev pub abilitiesOf : Fit → Item → List ℤ
 abilitiesOf f o = span (o .«first_ability») (o .abilities) (f .ids)
 
+-- "abilities and side effects in 8"
 abbrev pub sideEffectsOf : Fit → Item → List ℤ
 sideEffectsOf f o = span (o .«first_side_effect») (o .«side_effects») (f .ids)

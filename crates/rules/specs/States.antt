@@ -15,6 +15,7 @@ use Rattle.rules.specs.declared.EffectCategory.{EffectCategory}
 use Rattle.rules.specs.declared.ItemState.{ItemState}
 use Rattle.rules.specs.declared.ItemState.the-variants as state
 
+-- "objects' state and max state are fixed room"
 pub record States : Type 0 where
   pub state : ℕ
   pub maxState : ℕ
@@ -46,6 +47,7 @@ collectedStates k f o =
     cond (isSubsystem o) (record { state = online; maxState = online }) (record { state = min (o .state) able; maxState = able })
 
 -- projected objects, passed items and their charges stay as they are, but that a structure fit's implants are Passive
+-- "A sheet holds items as loading leaves them"
 unfoldable pub statesOf : Book → Fit → Item → States
 statesOf k f o =
     let stay : States = record { state = o .state; maxState = o .«max_state» } in

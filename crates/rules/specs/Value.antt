@@ -32,6 +32,7 @@ use Rattle.rules.specs.declared.Refusal.the-variants.{Room, Depth}
 
 -- ---- source rows: `Source`
 
+-- "its `from` an object or buff id"
 abbrev pub fromOf : Origin → SourceRef
 fromOf (origin.Effect e o c a) = Object o
 fromOf (origin.Buff b v) = Buff b
@@ -45,6 +46,7 @@ sourceAttributeIdOf (origin.Effect e o c a) = Given a
 sourceAttributeIdOf (origin.Buff b v) = Absent
 
 -- `to_source`: v is the strength after resistance and before it is simplified
+-- "A source row is one record by value with its two floats, value and penalty"
 abbrev pub toSource : Effect → Float → Bool → ℕ → Bool → Source
 toSource e v applied quantity penalised =
     record {
@@ -139,6 +141,7 @@ withCopy false x g = record { unpenalized = g .unpenalized; positive = g .positi
 -- the calculation of row i of the world, which is row
 module _ (w : World) (i : ℕ) (row : Row) where
   -- 7 ROOM, list 5: a source row takes room when it arises
+  -- "A row or entry takes room when it arises"; "entries and source rows by row, then arrival"
   unfoldable pub note : Source → Mem → Res Mem
   note r m = elim (w .recording) [
     | false ↦ ok m
@@ -149,6 +152,7 @@ module _ (w : World) (i : ℕ) (row : Row) where
   ]
 
   -- n copies of a penalised value x, each with its own source row; the row's penalty is set when the operator is applied
+  -- "A quantity keeps at most 8 copies"
   unfoldable pub copies : ℕ → Source → Float → Gathered → Res Gathered
   copies zero r x g = ok g
   copies (suc n) r x g =
@@ -176,7 +180,7 @@ module _ (w : World) (i : ℕ) (row : Row) where
     elim (e .penalty && hasPenalty (e .operator)) [ true ↦ penalised e v x g | false ↦ unpenalised e v x g ]
 
   module _ (read : Reader) where
-    -- by the ship's resistance, where one is named
+    -- by the ship's resistance, where one is named; "through sources, clamps and resistances"
     unfoldable pub resisted : OptionalId → Read → Res Read
     resisted Absent r = ok r
     resisted (Given a) r = do
@@ -185,6 +189,7 @@ module _ (w : World) (i : ℕ) (row : Row) where
       ok (record { value = v; mem = q .mem })
 
     -- an entry's strength is read off its source, or stands in the buff; one that does not run is read only where recorded
+    -- "A buff entry carries its value inside the origin"
     unfoldable pub gatherFrom : Effect → Origin → Gathered → Res Gathered
     gatherFrom e (origin.Buff b v) g = contribute e v g
     gatherFrom e (origin.Effect f source c a) g = elim (runsAt c (stateOf w source) || w .recording) [
@@ -209,6 +214,7 @@ module _ (w : World) (i : ℕ) (row : Row) where
 -- ---- applying it
 
 -- each copy's source row gets the weight of the copy's position as its penalty
+-- "position p from 0 to 7 weighs 0.8691199808003974 to the power p times p, later ones 0.0"
 unfoldable pub marked : ℕ → List Copy → List Source → List Source
 marked p [] own = own
 marked p (x ∷ r) own = marked (suc p) r (set own (x .source) (withPenalty (weight p) (getD own (x .source) noSource)))
@@ -232,16 +238,18 @@ operate w i row read (op ∷ ops) a = do
 abbrev pub atLeast : Float → Float → Float
 atLeast v low = cond (lt v low) low v
 
+-- "equal values, zeros of unlike sign too, keep the current one"
 abbrev pub atMost : Float → Float → Float
 atMost v high = cond (lt high v) high v
 
--- a limit is read off the same object; 0 means none
+-- a limit is read off the same object; 0 means none; "Min clamp, then max"; "Min, max, resistance and usage chance 0 mean none"
 unfoldable pub clamped : ℕ → Reader → (Float → Float → Float) → ℤ → Read → Res Read
 clamped o read clamp a r = elim (eqZ a (pos 0)) [
   | true ↦ ok r
   | false ↦ (read o a (r .mem) >>= λ q. ok (record { value = clamp (r .value) (q .value); mem = q .mem }))
 ]
 
+-- "An attribute under calculation reads as its base value"
 abbrev pub setValue : ℕ → Float → Mem → Mem
 setValue i v m = record { values = set (m .values) i (some v); sources = m .sources; used = m .used }
 
@@ -272,7 +280,7 @@ calculatedValue w start o a m = elim (findRow o a 0 (w .rows)) [
       elim (getD (m .values) (f .index) none) [ some v ↦ ok (record { value = v; mem = m }) | none ↦ start (f .index) (f .row) m ]
 ]
 
--- 9 DEPTH: d calculations may still start one inside another
+-- 9 DEPTH: d calculations may still start one inside another; "a calculation starts deeper than the depth"; "what it needs is one deeper"
 unfoldable pub valueOf : World → ℕ → Reader
 valueOf w zero o a m = calculatedValue w (λ i row m′. refused (Depth o)) o a m
 valueOf w (suc d) o a m = calculatedValue w (λ i row m′. calculate w (valueOf w d) i row m′) o a m

@@ -1,41 +1,17 @@
-// The types that code and definition share, by the Rust's names, and the constants of attribute_ids.rs and mod.rs.
+// The types that code and definition share, by the Rust's names, and the constants of attribute_ids.rs, mod.rs and pass_2.rs that the code uses.
 // The crate's definitions, document 01, are in specs/; what is proved of them is in proofs/.
 
 // Attributes (attribute_ids.rs).
-pub const ATTRIBUTE_MASS_ID: i32 = 4;
-
 pub const ATTRIBUTE_CAPACITOR_NEED_ID: i32 = 6;
-
-pub const ATTRIBUTE_CAPACITY_ID: i32 = 38;
-
-pub const ATTRIBUTE_VOLUME_ID: i32 = 161;
-
-pub const ATTRIBUTE_RADIUS_ID: i32 = 162;
-
-pub const ATTRIBUTE_SKILL_LEVEL_ID: i32 = 280;
 
 pub const ATTRIBUTE_UPGRADE_LOAD_ID: i32 = 1152;
 
 pub const ATTRIBUTE_REMOTE_RESISTANCE_ID: i32 = 2138;
 
-pub const ATTRIBUTE_PILOT_SECURITY_STATUS_ID: i32 = 2610;
-
-// warfareBuff1 to warfareBuff4, as their (id, value) attribute pair.
-pub const ATTRIBUTE_WARFARE_BUFFS: [[i32; 2]; 4] = [
-    [2468, 2469],
-    [2470, 2471],
-    [2472, 2473],
-    [2536, 2537],
-];
-
 // requiredSkill1, requiredSkill2, ..
 pub const ATTRIBUTE_SKILLS: [i32; 6] = [182, 183, 184, 1285, 1289, 1290];
 
-// Categories and groups (mod.rs). The header gives CATEGORY_MODULE, CATEGORY_SUBSYSTEM and CATEGORY_STRUCTURE_MODULE.
-pub const CATEGORY_SHIP: i32 = 6;
-
-pub const CATEGORY_SKILL: i32 = 16;
-
+// Categories (mod.rs). The header gives CATEGORY_MODULE, CATEGORY_SUBSYSTEM and CATEGORY_STRUCTURE_MODULE.
 pub const CATEGORY_DRONE: i32 = 18;
 
 pub const CATEGORY_IMPLANT: i32 = 20;
@@ -43,10 +19,6 @@ pub const CATEGORY_IMPLANT: i32 = 20;
 pub const CATEGORY_STRUCTURE: i32 = 65;
 
 pub const CATEGORY_FIGHTER: i32 = 87;
-
-pub const GROUP_CONTAINERS: [i32; 4] = [12, 340, 448, 649];
-
-pub const GROUP_SHIP_MODIFIERS: i32 = 1306;
 
 // Ship, Charge, Skill, Implant, Subsystem and Structure (pass_2.rs).
 pub const EXEMPT_PENALTY_CATEGORY_IDS: [i32; 6] = [6, 8, 16, 20, 32, 65];
@@ -66,12 +38,8 @@ pub const SKILL: u32 = 5;
 
 pub const PROJECTED: u32 = 6;
 
-// Slots of items; 0 is none or another.
+// Slots of items; 0 is none or another, 2 and 3 are Medium and Low.
 pub const HIGH: u32 = 1;
-
-pub const MEDIUM: u32 = 2;
-
-pub const LOW: u32 = 3;
 
 pub const RIG: u32 = 4;
 

@@ -27,7 +27,7 @@ use Rattle.dispatch.specs.declared.Dispatched.the-variants.{Lists, Full}
 use Rattle.dispatch.specs.Whole.{Collection, Collecting, Given}
 use Rattle.run.specs.declared.lists.ListRooms.{ListRooms}
 use Rattle.run.specs.declared.lists.Listed.{Listed}
-use Rattle.run.specs.Listing.{listsIn, RoomsOf, Lent, ListedAs, listedOf, RowsWithin}
+use Rattle.run.specs.Listing.{listsIn, RoomsOf, RoomsLent, ListedAs, listedOf, RowsWithin}
 use Rattle.run.proofs.Steps.{base-full, not-collected, dispatched}
 use Rattle.run.proofs.Gathered.{Gathered, gathered, collection}
 
@@ -38,7 +38,7 @@ roomsBy s = record { collected = s .collected; rows = s .rows; entries = s .entr
 pub no-base-room : (k : Book) (f : Fit) (s : ListRooms) (q : outcome.Rooms) → RoomsOf q s → s .rows < length (baseKeys f) → listsIn k f q ≡ refused (Room 2)
 no-base-room k f s q Q h = base-full k f q (omega (arith, Q .rows, h))
 
-module _ (book fit : List ℕ) (pairs : List (List ℕ)) (S : SoundFit fit pairs) (s : ListRooms) {c : List (List ℕ)} {v : List Float} {r : List (List ℕ)} {b : List Float} {e : List (List ℕ)} {w : List Float} {l : List (List ℕ)} (L : Lent s c v r b e w l) where
+module _ (book fit : List ℕ) (pairs : List (List ℕ)) (S : SoundFit fit pairs) (s : ListRooms) {c : List (List ℕ)} {v : List Float} {r : List (List ℕ)} {b : List Float} {e : List (List ℕ)} {w : List Float} {l : List (List ℕ)} (L : RoomsLent s c v r b e w l) where
   abbrev k : Book
   k = bookOf book pairs
 

@@ -14,7 +14,7 @@ use Rattle.rules.specs.declared.Refusal.{Refusal}
 use Rattle.info.specs.Sound.{SoundFit}
 use Rattle.info.proofs.Elements.{objects-length}
 use Rattle.states.specs.Raised.{rowsOf}
-use Rattle.run.specs.Listing.{listsIn, RoomsOf, Lent, CountsOf, AllLaid, ListedAs, RowsWithin}
+use Rattle.run.specs.Listing.{listsIn, RoomsOf, RoomsLent, CountsOf, ListsHeld, ListedAs, RowsWithin}
 use Rattle.run.specs.declared.lists.ListCounts as lists
 use Rattle.run.specs.declared.lists.ListRooms as given
 use Rattle.run.specs.declared.lists.Listed.{Listed}
@@ -60,7 +60,7 @@ module _ (c : Columns) (s : given.ListRooms) (m : Measured c s) where
   rooms-of =
       record { collected = sym (m .collected); rows = sym (m .rows); entries = sym (m .entries); plain = counted-one (length (c .plain)) (s .plain) (m .plain) }
 
-  pub lent : Lent s (c .collected) (c .collectedValues) (c .rows) (c .bases) (c .entries) (c .entryValues) (c .plain)
+  pub lent : RoomsLent s (c .collected) (c .collectedValues) (c .rows) (c .bases) (c .entries) (c .entryValues) (c .plain)
   lent =
       record {
         collected = counted-left (length (c .collected)) (length (c .collectedValues)) (s .collected) (m .collected);
@@ -111,11 +111,11 @@ module _ (b : List ℕ) (p : List (List ℕ)) (sf : SoundFit b p) (c₀ c : Colu
   not-listed e h = refused-as st c₀ c (lists-refused k f (roomsOf (lentOf c₀)) (subst Lists e h (roomsOf (lentOf c₀)) (rooms-of c₀ s m)))
 
   module _ {n : lists.ListCounts} (e : l ≡ listed.Done n) (h : Lists l) (S : st ≡ rowsOf k f) where
-    abbrev by-lists : (listsIn k f (roomsOf (lentOf c₀)) ≡ ok tt) × CountsOf n k f × AllLaid k f (c₀ .collected) (c .collected) (c₀ .collectedValues) (c .collectedValues) (c₀ .rows) r (c₀ .bases) (c .bases) (c₀ .entries) (c .entries) (c₀ .entryValues) (c .entryValues) (c₀ .plain) (c .plain)
+    abbrev by-lists : (listsIn k f (roomsOf (lentOf c₀)) ≡ ok tt) × CountsOf n k f × ListsHeld k f (c₀ .collected) (c .collected) (c₀ .collectedValues) (c .collectedValues) (c₀ .rows) r (c₀ .bases) (c .bases) (c₀ .entries) (c .entries) (c₀ .entryValues) (c .entryValues) (c₀ .plain) (c .plain)
     by-lists = subst Lists e h (roomsOf (lentOf c₀)) (rooms-of c₀ s m)
 
     -- what the values ask for
-    abbrev pub listed-as : (recording : Bool) (room : ℕ) → recording ≡ eqb (f .recording) 1 → values.Listed k f (n .rows) (record { room = room; recording = recording }) st r (c .bases) (c .entries) (c .entryValues)
+    abbrev pub listed-as : (recording : Bool) (room : ℕ) → recording ≡ eqb (f .recording) 1 → values.RowsListed k f (n .rows) (record { room = room; recording = recording }) st r (c .bases) (c .entries) (c .entryValues)
     listed-as recording room t =
         record {
           rows₀ = c₀ .rows;

@@ -14,7 +14,7 @@ use Rattle.rules.specs.Value.{Mem}
 use Rattle.rules.specs.Outcome.{Done, Rooms, worldOf, startsOf, blank, valued, run, collectedIn, rowsIn}
 use Rattle.rules.specs.declared.Refusal.{Refusal}
 use Rattle.states.specs.Raised.{rowsOf}
-use Rattle.run.specs.Listing.{listsIn, valuedIn, CountsOf, AllLaid}
+use Rattle.run.specs.Listing.{listsIn, valuedIn, CountsOf, ListsHeld}
 use Rattle.run.specs.declared.lists.ListCounts as lists
 use Rattle.run.proofs.Steps.{run-lists}
 use Rattle.values.proofs.Starts.{valued-grows}
@@ -46,7 +46,7 @@ module _ (k : Book) (f : Fit) (q : Rooms) where
     after-lists = run-lists k f q ∙ ap (λ (s : Res Unit). s >>= (λ _. valuedIn k f q)) e
 
     -- the columns hold the lists, then the values
-    module _ (c₀ c : Columns) (st : List (List ℕ)) {r : List (List ℕ)} (n : lists.ListCounts) (objects : ℕ) (C : CountsOf n k f) (A : AllLaid k f (c₀ .collected) (c .collected) (c₀ .collectedValues) (c .collectedValues) (c₀ .rows) r (c₀ .bases) (c .bases) (c₀ .entries) (c .entries) (c₀ .entryValues) (c .entryValues) (c₀ .plain) (c .plain)) (S : st ≡ rowsOf k f) (O : objects ≡ length (f .objects)) (few : length (f .objects) ≤ 1024) where
+    module _ (c₀ c : Columns) (st : List (List ℕ)) {r : List (List ℕ)} (n : lists.ListCounts) (objects : ℕ) (C : CountsOf n k f) (A : ListsHeld k f (c₀ .collected) (c .collected) (c₀ .collectedValues) (c .collectedValues) (c₀ .rows) r (c₀ .bases) (c .bases) (c₀ .entries) (c .entries) (c₀ .entryValues) (c .entryValues) (c₀ .plain) (c .plain)) (S : st ≡ rowsOf k f) (O : objects ≡ length (f .objects)) (few : length (f .objects) ≤ 1024) where
       values-length : (m : Mem) → memory ≡ ok m → length (m .values) ≡ length (rowsIn k f)
       values-length m g =
           valued-grows (worldOf k f (q .sources)) (f .depth) (startsOf f (rowsIn k f)) (blank (rowsIn k f)) m g .values

@@ -5,6 +5,9 @@ use mathlib.Core.List.{List, [], _∷_, map}
 use mathlib.Core.Option.{Option, Option·getD}
 use lib.Ieee.{Float}
 use lib.ListN.{length, replicate}
+use denote.Ref.{now}
+use denote.Triple.Both.{Both}
+use Rattle.columns.specs.Lending.{LentColumn}
 use Rattle.laws.specs.Columns.{Col, column}
 use Rattle.laws.specs.Floats.{zeroF}
 use Rattle.laws.specs.Lists.{flat}
@@ -46,6 +49,15 @@ columns c v r b x e w p s g =
       sourceFloats = g;
     }
 
+-- as they were lent, and as they come back
+abbrev pub lentColumns : LentColumn (List ℕ) → LentColumn Float → LentColumn (List ℕ) → LentColumn Float → LentColumn Float → LentColumn (List ℕ) → LentColumn Float → LentColumn (List ℕ) → LentColumn (List ℕ) → LentColumn (List Float) → Both Columns Columns
+lentColumns c v r b x e w p s g =
+    record {
+      entry = columns (now (c .entry)) (now (v .entry)) (now (r .entry)) (now (b .entry)) (now (x .entry)) (now (e .entry)) (now (w .entry)) (now (p .entry)) (now (s .entry)) (now (g .entry));
+      exit = columns (now (c .exit)) (now (v .exit)) (now (r .exit)) (now (b .exit)) (now (x .exit)) (now (e .exit)) (now (w .exit)) (now (p .exit)) (now (s .exit)) (now (g .exit));
+    }
+
+-- the rooms that are lent
 abbrev pub lentOf : Columns → Lent
 lentOf c =
     record {

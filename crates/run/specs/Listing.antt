@@ -7,6 +7,8 @@ use mathlib.Core.Option.{none, some}
 use lib.Dec.{leb}
 use lib.Ieee.{Float}
 use lib.ListN.{length}
+use denote.Ref.{now}
+use Rattle.columns.specs.Lending.{LentColumn}
 use Rattle.laws.specs.Columns.{Col}
 use Rattle.rules.specs.Answer.{Res, ok, refused, _>>=_}
 use Rattle.rules.specs.Sheet.{Book, Fit}
@@ -47,7 +49,7 @@ pub record RoomsOf (q : outcome.Rooms) (s : ListRooms) : Type 0 where
   pub plain : q .plain ≡ s .plain
 
 -- no room is longer than its columns, or past 32 bits where that counts
-pub record Lent (s : ListRooms) (c : List (List ℕ)) (v : List Float) (r : List (List ℕ)) (b : List Float) (e : List (List ℕ)) (w : List Float) (p : List (List ℕ)) : Type 0 where
+pub record RoomsLent (s : ListRooms) (c : List (List ℕ)) (v : List Float) (r : List (List ℕ)) (b : List Float) (e : List (List ℕ)) (w : List Float) (p : List (List ℕ)) : Type 0 where
   pub collected : s .collected ≤ length c
   pub collectedValues : s .collected ≤ length v
   pub collectedFew : s .collected < 2 ^ 32
@@ -65,7 +67,7 @@ pub record CountsOf (n : ListCounts) (k : Book) (f : Fit) : Type 0 where
   pub plain : n .plain ≡ length (plainOf (moves k f))
 
 -- the columns hold the definition's lists
-pub record AllLaid (k : Book) (f : Fit) (c₀ c : List (List ℕ)) (v₀ v : List Float) (r₀ r : List (List ℕ)) (b₀ b : List Float) (e₀ e : List (List ℕ)) (w₀ w : List Float) (p₀ p : List (List ℕ)) : Type 0 where
+pub record ListsHeld (k : Book) (f : Fit) (c₀ c : List (List ℕ)) (v₀ v : List Float) (r₀ r : List (List ℕ)) (b₀ b : List Float) (e₀ e : List (List ℕ)) (w₀ w : List Float) (p₀ p : List (List ℕ)) : Type 0 where
   pub collected : Col collectedNumbers (collectedIn k f) c₀ c
   pub collectedValues : Col (λ t. originValue (t .origin)) (collectedIn k f) v₀ v
   pub lists : ListsLaid (rowsIn k f) r₀ r b₀ b e₀ e w₀ w
@@ -83,5 +85,11 @@ RowsWithin room (Refused x) = Unit {0}
 
 -- what an answer says of the steps and of the columns
 abbrev pub ListedAs : Res Unit → Listed → Book → Fit → List (List ℕ) → List (List ℕ) → List Float → List Float → List (List ℕ) → List (List ℕ) → List Float → List Float → List (List ℕ) → List (List ℕ) → List Float → List Float → List (List ℕ) → List (List ℕ) → Type 0
-ListedAs s (Done n) k f c₀ c v₀ v r₀ r b₀ b e₀ e w₀ w p₀ p = (s ≡ ok tt) × CountsOf n k f × AllLaid k f c₀ c v₀ v r₀ r b₀ b e₀ e w₀ w p₀ p
+ListedAs s (Done n) k f c₀ c v₀ v r₀ r b₀ b e₀ e w₀ w p₀ p = (s ≡ ok tt) × CountsOf n k f × ListsHeld k f c₀ c v₀ v r₀ r b₀ b e₀ e w₀ w p₀ p
 ListedAs s (Refused x) k f c₀ c v₀ v r₀ r b₀ b e₀ e w₀ w p₀ p = s ≡ refused x
+
+-- by the definition's rooms the answer and the columns say what the definition g says
+abbrev pub ListsGive : Book → Fit → ListRooms → LentColumn (List ℕ) → LentColumn Float → LentColumn (List ℕ) → LentColumn Float → LentColumn (List ℕ) → LentColumn Float → LentColumn (List ℕ) → Listed → (outcome.Rooms → Res Unit) → Type 0
+ListsGive k f s c v r b e w p a g =
+    (q : outcome.Rooms) → RoomsOf q s
+    → ListedAs (g q) a k f (now (c .entry)) (now (c .exit)) (now (v .entry)) (now (v .exit)) (now (r .entry)) (now (r .exit)) (now (b .entry)) (now (b .exit)) (now (e .entry)) (now (e .exit)) (now (w .entry)) (now (w .exit)) (now (p .entry)) (now (p .exit))

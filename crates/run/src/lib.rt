@@ -7,9 +7,11 @@ use columns::PlainRow;
 use columns::SourceFloats;
 use columns::SourceRow;
 use columns::States;
+use columns::TABLE_OBJECTS;
 use columns::TablePairs;
 use info::header::count_of;
 use info::header::recording_of;
+use lists::ListCounts;
 use lists::ListRooms;
 use lists::Listed;
 use lists::set_lists;
@@ -23,7 +25,7 @@ ghost use Prim.Native.Nat.{min};
 ghost use Rattle.rules.specs.Outcome as outcome;
 ghost use Rattle.rules.specs.Sheet.{bookOf, fitOf};
 ghost use Rattle.info.specs.Sound.{SoundBook, SoundFit};
-ghost use Rattle.run.specs.Filled.{columns, lentOf, RanAs, ranBy};
+ghost use Rattle.run.specs.Filled.{lentColumns, lentOf, RanAs, ranBy};
 
 // The counts of a run that is done; or why it is refused.
 pub enum Ran {
@@ -33,7 +35,7 @@ pub enum Ran {
 
 // A list's room is its shortest column, at most what 32 bits count.
 fn room_of(a: usize, b: usize) -> u32
-    ensures { λ r. ⌜ r ≡ outcome.counted (min a b) ⌝ }
+    ensures defined { λ r. ⌜ r ≡ outcome.counted (min a b) ⌝ }
 {
     let least = least_of(a, b);
     if least < 4294967295 {
@@ -42,15 +44,16 @@ fn room_of(a: usize, b: usize) -> u32
     4294967295
 }
 
+// The lesser of two.
 fn least_of(a: usize, b: usize) -> usize
-    ensures { λ r. ⌜ r ≡ min a b ⌝ }
+    ensures defined { λ r. ⌜ r ≡ min a b ⌝ }
 {
     if a < b { a } else { b }
 }
 
 // The answer once the lists are counted.
-fn ran_of(valued: Valued, n: lists::KeptCounts, objects: usize) -> Ran
-    ensures { λ r. ⌜ r ≡ ranBy valued n objects ⌝ }
+fn ran_of(valued: Valued, n: ListCounts, objects: usize) -> Ran
+    ensures defined { λ r. ⌜ r ≡ ranBy valued n objects ⌝ }
 {
     match valued {
         Valued::At(used) => {
@@ -83,9 +86,13 @@ pub fn fill(
     sheet: &[u8],
     pairs: &TablePairs,
 ) -> Ran
-    requires { ⌜ SoundBook (now sheet) (now pairs) ⌝ }
-    requires { ⌜ SoundFit (now sheet) (now pairs) ⌝ }
-    ensures { λ r. ⌜ RanAs (outcome.run (bookOf (now (sheet .entry)) (now (pairs .entry))) (fitOf (now (sheet .entry)) (now (pairs .entry))) (outcome.roomsOf (lentOf (columns (now (collected .entry)) (now («collected_values» .entry)) (now (rows .entry)) (now (bases .entry)) (now (values .entry)) (now (entries .entry)) (now («entry_values» .entry)) (now (plain .entry)) (now (sources .entry)) (now («source_values» .entry)))))) r (now (states .exit)) (columns (now (collected .entry)) (now («collected_values» .entry)) (now (rows .entry)) (now (bases .entry)) (now (values .entry)) (now (entries .entry)) (now («entry_values» .entry)) (now (plain .entry)) (now (sources .entry)) (now («source_values» .entry))) (columns (now (collected .exit)) (now («collected_values» .exit)) (now (rows .exit)) (now (bases .exit)) (now (values .exit)) (now (entries .exit)) (now («entry_values» .exit)) (now (plain .exit)) (now (sources .exit)) (now («source_values» .exit))) ⌝ }
+    requires sound_book { ⌜ SoundBook (now sheet) (now pairs) ⌝ }
+    requires sound_fit { ⌜ SoundFit (now sheet) (now pairs) ⌝ }
+    ensures defined { λ r.
+        let lists = lentColumns collected «collected_values» rows bases values entries «entry_values» plain sources «source_values» in
+        let k = bookOf (now (sheet .entry)) (now (pairs .entry)) in
+        let f = fitOf (now (sheet .entry)) (now (pairs .entry)) in
+        ⌜ RanAs (outcome.run k f (outcome.roomsOf (lentOf (lists .entry)))) r (now (states .exit)) (lists .entry) (lists .exit) ⌝ }
 {
     correct_states(states, sheet, sheet, pairs);
     let rooms = ListRooms {
@@ -128,7 +135,7 @@ pub fn fill(
                 n.rows,
                 run,
             );
-            ran_of(valued, n, count_of(pairs, 6))
+            ran_of(valued, n, count_of(pairs, TABLE_OBJECTS))
         }
         Listed::Refused(x) => Ran::Refused(x),
     }

@@ -12,9 +12,8 @@ use modifier::moves::Counted;
 use rules::Refusal;
 ghost use mathlib.Core.Path.{_≡_};
 ghost use Rattle.rules.specs.Sheet.{bookOf, fitOf};
-ghost use Rattle.rules.specs.Outcome as outcome;
 ghost use Rattle.info.specs.Sound.{SoundBook, SoundFit};
-ghost use Rattle.run.specs.Listing.{RoomsOf, Lent, ListedAs, RowsWithin, listedOf, listsIn};
+ghost use Rattle.run.specs.Listing.{RoomsLent, ListsGive, RowsWithin, listedOf, listsIn};
 
 // The rooms of lists 1 to 4.
 pub struct ListRooms {
@@ -38,24 +37,24 @@ pub enum Listed {
     Refused(Refusal),
 }
 
-// The whole answer, where collection has n and p rows.
-fn with_counts(given: Dispatched, n: usize, p: usize) -> Listed
-    ensures { λ r. ⌜ r ≡ listedOf given n p ⌝ }
+// The whole answer, by dispatch's and by the rows of lists 1 and 4.
+fn with_counts(given: Dispatched, collected: usize, plain: usize) -> Listed
+    ensures defined { λ r. ⌜ r ≡ listedOf given collected plain ⌝ }
 {
     match given {
-        Dispatched::Lists(k, m) => {
+        Dispatched::Lists(rows, entries) => {
             Listed::Done(ListCounts {
-                collected: n,
-                rows: k,
-                entries: m,
-                plain: p,
+                collected,
+                rows,
+                entries,
+                plain,
             })
         }
         Dispatched::Full(list) => Listed::Refused(Refusal::Room(list)),
     }
 }
 
-// The base attributes are to have room before anything is collected. After a refusal the columns may hold anything: who lent them clears them.
+// Lists 1 to 4. The base attributes are to have room before anything is collected. After a refusal the columns may hold anything: who lent them clears them.
 pub fn set_lists(
     collected: &mut [CollectedRow],
     collected_values: &mut [f64],
@@ -69,11 +68,14 @@ pub fn set_lists(
     pairs: &TablePairs,
     rooms: ListRooms,
 ) -> Listed
-    requires { ⌜ SoundBook (now book) (now pairs) ⌝ }
-    requires { ⌜ SoundFit (now fit) (now pairs) ⌝ }
-    requires { ⌜ Lent rooms (now collected) (now «collected_values») (now rows) (now bases) (now entries) (now «entry_values») (now plain) ⌝ }
-    ensures { λ r. ⌜ ((q : outcome.Rooms) → RoomsOf q rooms → ListedAs (listsIn (bookOf (now (book .entry)) (now (pairs .entry))) (fitOf (now (fit .entry)) (now (pairs .entry))) q) r (bookOf (now (book .entry)) (now (pairs .entry))) (fitOf (now (fit .entry)) (now (pairs .entry))) (now (collected .entry)) (now (collected .exit)) (now («collected_values» .entry)) (now («collected_values» .exit)) (now (rows .entry)) (now (rows .exit)) (now (bases .entry)) (now (bases .exit)) (now (entries .entry)) (now (entries .exit)) (now («entry_values» .entry)) (now («entry_values» .exit)) (now (plain .entry)) (now (plain .exit))) ⌝ }
-    ensures { λ r. ⌜ RowsWithin (rooms .rows) r ⌝ }
+    requires sound_book { ⌜ SoundBook (now book) (now pairs) ⌝ }
+    requires sound_fit { ⌜ SoundFit (now fit) (now pairs) ⌝ }
+    requires roomy { ⌜ RoomsLent rooms (now collected) (now «collected_values») (now rows) (now bases) (now entries) (now «entry_values») (now plain) ⌝ }
+    ensures defined { λ r.
+        let k = bookOf (now (book .entry)) (now (pairs .entry)) in
+        let f = fitOf (now (fit .entry)) (now (pairs .entry)) in
+        ⌜ ListsGive k f rooms collected «collected_values» rows bases entries «entry_values» plain r (listsIn k f) ⌝ }
+    ensures within { λ r. ⌜ RowsWithin (rooms .rows) r ⌝ }
 {
     let base = base_total(fit, pairs);
     if rooms.rows < base {

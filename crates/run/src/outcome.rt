@@ -13,9 +13,9 @@ use rules::Refusal;
 use shape::Shaped;
 use shape::shape;
 ghost use Rattle.rules.specs.Outcome as outcome;
-ghost use Rattle.run.specs.Filled.{columns, lentOf, RanAs};
+ghost use Rattle.run.specs.Filled.{lentColumns, lentOf, RanAs};
 
-// SHAPE comes first. After a refusal the columns may hold anything: who lent them clears them.
+// Any bytes, any lists: SHAPE comes first, then the run. After a refusal the columns may hold anything: who lent them clears them.
 pub fn filled(
     states: &mut States,
     collected: &mut [CollectedRow],
@@ -30,7 +30,9 @@ pub fn filled(
     source_values: &mut [SourceFloats],
     sheet: &[u8],
 ) -> Ran
-    ensures { λ r. ⌜ RanAs (outcome.outcome (now (sheet .entry)) (lentOf (columns (now (collected .entry)) (now («collected_values» .entry)) (now (rows .entry)) (now (bases .entry)) (now (values .entry)) (now (entries .entry)) (now («entry_values» .entry)) (now (plain .entry)) (now (sources .entry)) (now («source_values» .entry))))) r (now (states .exit)) (columns (now (collected .entry)) (now («collected_values» .entry)) (now (rows .entry)) (now (bases .entry)) (now (values .entry)) (now (entries .entry)) (now («entry_values» .entry)) (now (plain .entry)) (now (sources .entry)) (now («source_values» .entry))) (columns (now (collected .exit)) (now («collected_values» .exit)) (now (rows .exit)) (now (bases .exit)) (now (values .exit)) (now (entries .exit)) (now («entry_values» .exit)) (now (plain .exit)) (now (sources .exit)) (now («source_values» .exit))) ⌝ }
+    ensures defined { λ r.
+        let lists = lentColumns collected «collected_values» rows bases values entries «entry_values» plain sources «source_values» in
+        ⌜ RanAs (outcome.outcome (now (sheet .entry)) (lentOf (lists .entry))) r (now (states .exit)) (lists .entry) (lists .exit) ⌝ }
 {
     let verdict = shape(sheet);
     match verdict {

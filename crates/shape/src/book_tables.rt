@@ -15,14 +15,14 @@ ghost use mathlib.Core.Bool.{_&&_, _||_};
 ghost use lib.Dec.{eqb, leb};
 ghost use lib.Signed.{ltZ, leZ};
 ghost use Rattle.laws.specs.Floats.{finite};
-ghost use Rattle.rules.specs.Sheet.{bookOf};
 ghost use Rattle.rules.specs.Shape.{attributesGood, effectsGood, typeEffectsGood, buffCollectionsGood};
 ghost use Rattle.rules.specs.Shape as rule;
+ghost use Rattle.info.specs.At.{bookAt};
 ghost use Rattle.info.specs.Sound.{HeldBook};
 
 // Whether first plus count is at most n.
 pub fn inside(first: u32, count: u32, n: usize) -> bool
-    ensures { λ r. ⌜ r ≡ rule.inside first count n ⌝ }
+    ensures defined { λ r. ⌜ r ≡ rule.inside first count n ⌝ }
 {
     (first as u64) + (count as u64) <= (n as u64)
 }
@@ -35,9 +35,10 @@ fn attribute_good(i: usize, last: i32, r: DogmaAttribute) -> bool
     ((i == 0) | (last < r.id)) & ((r.flags <= 3) & sized)
 }
 
+// Whether table 1 is good: ids ascend strictly, flags are known, defaults finite.
 pub fn attributes_good(book: &[u8], pairs: &TablePairs) -> bool
-    requires { ⌜ HeldBook (now book) (now pairs) ⌝ }
-    ensures { λ r. ⌜ r ≡ attributesGood (bookOf (now (book .entry)) (now (pairs .entry))) ⌝ }
+    requires held_book { ⌜ HeldBook (now book) (now pairs) ⌝ }
+    ensures defined { λ r. ⌜ r ≡ attributesGood (bookAt book pairs) ⌝ }
 {
     let n = count_of(pairs, 1);
     let mut last = 0;
@@ -62,9 +63,10 @@ fn effect_good(i: usize, last: i32, r: DogmaEffect, n: usize) -> bool
     ((i == 0) | (last < r.id)) & within
 }
 
+// Whether table 2 is good: ids ascend strictly, and modifiers lie in table 3.
 pub fn effects_good(book: &[u8], pairs: &TablePairs) -> bool
-    requires { ⌜ HeldBook (now book) (now pairs) ⌝ }
-    ensures { λ r. ⌜ r ≡ effectsGood (bookOf (now (book .entry)) (now (pairs .entry))) ⌝ }
+    requires held_book { ⌜ HeldBook (now book) (now pairs) ⌝ }
+    ensures defined { λ r. ⌜ r ≡ effectsGood (bookAt book pairs) ⌝ }
 {
     let n = count_of(pairs, 2);
     let modifiers = count_of(pairs, 3);
@@ -89,9 +91,10 @@ fn type_effect_good(i: usize, last: i32, r: TypeDogmaEffect) -> bool
     ((i == 0) | (last <= r.type_id)) & (r.is_default <= 1)
 }
 
+// Whether table 4 is good: types do not descend, and default is 0 or 1.
 pub fn type_effects_good(book: &[u8], pairs: &TablePairs) -> bool
-    requires { ⌜ HeldBook (now book) (now pairs) ⌝ }
-    ensures { λ r. ⌜ r ≡ typeEffectsGood (bookOf (now (book .entry)) (now (pairs .entry))) ⌝ }
+    requires held_book { ⌜ HeldBook (now book) (now pairs) ⌝ }
+    ensures defined { λ r. ⌜ r ≡ typeEffectsGood (bookAt book pairs) ⌝ }
 {
     let n = count_of(pairs, 4);
     let mut last = 0;
@@ -116,9 +119,10 @@ fn buff_collection_good(i: usize, last: i32, r: DbuffCollection, n: usize) -> bo
     ((i == 0) | (last < r.id)) & held
 }
 
+// Whether table 5 is good: ids ascend strictly, and modifiers lie in table 3.
 pub fn buff_collections_good(book: &[u8], pairs: &TablePairs) -> bool
-    requires { ⌜ HeldBook (now book) (now pairs) ⌝ }
-    ensures { λ r. ⌜ r ≡ buffCollectionsGood (bookOf (now (book .entry)) (now (pairs .entry))) ⌝ }
+    requires held_book { ⌜ HeldBook (now book) (now pairs) ⌝ }
+    ensures defined { λ r. ⌜ r ≡ buffCollectionsGood (bookAt book pairs) ⌝ }
 {
     let n = count_of(pairs, 5);
     let modifiers = count_of(pairs, 3);

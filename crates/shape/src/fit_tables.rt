@@ -31,6 +31,7 @@ ghost use Rattle.rules.specs.Bytes.{countOf};
 ghost use Rattle.rules.specs.Sheet.{Fit, fitOf};
 ghost use Rattle.rules.specs.Shape.{objectGood, objectsGood, basesGood, buffsGood, asksGood};
 ghost use Rattle.rules.specs.Shape as rule;
+ghost use Rattle.info.specs.At.{fitAt};
 ghost use Rattle.info.specs.Sound.{HeldFit};
 ghost use Rattle.shape.specs.Ranges.{rangeAscends};
 
@@ -71,9 +72,10 @@ fn stands(i: usize, last: u32, k: u32) -> bool
     ((i == 0) & (k == SHIP)) | ((0 < i) & after)
 }
 
+// Whether table 6 is good: objects stand in their order, with known codes and ranges inside tables 7 and 8.
 pub fn objects_good(fit: &[u8], pairs: &TablePairs) -> bool
-    requires { ⌜ HeldFit (now fit) (now pairs) ⌝ }
-    ensures { λ r. ⌜ r ≡ objectsGood (fitOf (now (fit .entry)) (now (pairs .entry))) ⌝ }
+    requires held_fit { ⌜ HeldFit (now fit) (now pairs) ⌝ }
+    ensures defined { λ r. ⌜ r ≡ objectsGood (fitAt fit pairs) ⌝ }
 {
     let n = count_of(pairs, 6);
     let bases = count_of(pairs, 7);
@@ -96,7 +98,7 @@ pub fn objects_good(fit: &[u8], pairs: &TablePairs) -> bool
 
 fn bases_finite(fit: &[u8], pairs: &TablePairs) -> bool
     requires { ⌜ HeldFit (now fit) (now pairs) ⌝ }
-    ensures { λ r. ⌜ r ≡ every? (λ x. finite (x .value)) (fitOf (now (fit .entry)) (now (pairs .entry)) .bases) ⌝ }
+    ensures { λ r. ⌜ r ≡ every? (λ x. finite (x .value)) (fitAt fit pairs .bases) ⌝ }
 {
     let n = count_of(pairs, 7);
     let mut i = 0;
@@ -122,7 +124,7 @@ fn base_attribute_stands(i: usize, last: i32, r: BaseAttribute) -> bool
 fn range_ascends(fit: &[u8], pairs: &TablePairs, first: usize, n: usize) -> bool
     requires { ⌜ HeldFit (now fit) (now pairs) ⌝ }
     requires { ⌜ first + n ≤ countOf (now pairs) 7 ⌝ }
-    ensures { λ r. ⌜ r ≡ ascends (map (λ x. x .«attribute_id») (span first n (fitOf (now (fit .entry)) (now (pairs .entry)) .bases))) ⌝ }
+    ensures { λ r. ⌜ r ≡ ascends (map (λ x. x .«attribute_id») (span first n (fitAt fit pairs .bases))) ⌝ }
 {
     let mut last = 0;
     let mut i = 0;
@@ -142,7 +144,7 @@ fn range_ascends(fit: &[u8], pairs: &TablePairs, first: usize, n: usize) -> bool
 fn bases_ascend(fit: &[u8], pairs: &TablePairs) -> bool
     requires { ⌜ HeldFit (now fit) (now pairs) ⌝ }
     requires { ⌜ objectsGood (fitOf (now fit) (now pairs)) ≡ true ⌝ }
-    ensures { λ r. ⌜ r ≡ every? (rangeAscends (fitOf (now (fit .entry)) (now (pairs .entry)))) (fitOf (now (fit .entry)) (now (pairs .entry)) .objects) ⌝ }
+    ensures { λ r. ⌜ r ≡ every? (rangeAscends (fitAt fit pairs)) (fitAt fit pairs .objects) ⌝ }
 {
     let n = count_of(pairs, 6);
     let mut i = 0;
@@ -159,10 +161,11 @@ fn bases_ascend(fit: &[u8], pairs: &TablePairs) -> bool
     true
 }
 
+// Whether table 7 is good: floats finite, and the base attributes of one object ascend strictly.
 pub fn bases_good(fit: &[u8], pairs: &TablePairs) -> bool
-    requires { ⌜ HeldFit (now fit) (now pairs) ⌝ }
-    requires { ⌜ objectsGood (fitOf (now fit) (now pairs)) ≡ true ⌝ }
-    ensures { λ r. ⌜ r ≡ basesGood (fitOf (now (fit .entry)) (now (pairs .entry))) ⌝ }
+    requires held_fit { ⌜ HeldFit (now fit) (now pairs) ⌝ }
+    requires good_objects { ⌜ objectsGood (fitOf (now fit) (now pairs)) ≡ true ⌝ }
+    ensures defined { λ r. ⌜ r ≡ basesGood (fitAt fit pairs) ⌝ }
 {
     if !bases_finite(fit, pairs) {
         return false;
@@ -170,9 +173,10 @@ pub fn bases_good(fit: &[u8], pairs: &TablePairs) -> bool
     bases_ascend(fit, pairs)
 }
 
+// Whether table 9 is good: values finite.
 pub fn buffs_good(fit: &[u8], pairs: &TablePairs) -> bool
-    requires { ⌜ HeldFit (now fit) (now pairs) ⌝ }
-    ensures { λ r. ⌜ r ≡ buffsGood (fitOf (now (fit .entry)) (now (pairs .entry))) ⌝ }
+    requires held_fit { ⌜ HeldFit (now fit) (now pairs) ⌝ }
+    ensures defined { λ r. ⌜ r ≡ buffsGood (fitAt fit pairs) ⌝ }
 {
     let n = count_of(pairs, 9);
     let mut i = 0;
@@ -187,9 +191,10 @@ pub fn buffs_good(fit: &[u8], pairs: &TablePairs) -> bool
     true
 }
 
+// Whether table 10 is good: each ask names an object.
 pub fn asks_good(fit: &[u8], pairs: &TablePairs) -> bool
-    requires { ⌜ HeldFit (now fit) (now pairs) ⌝ }
-    ensures { λ r. ⌜ r ≡ asksGood (fitOf (now (fit .entry)) (now (pairs .entry))) ⌝ }
+    requires held_fit { ⌜ HeldFit (now fit) (now pairs) ⌝ }
+    ensures defined { λ r. ⌜ r ≡ asksGood (fitAt fit pairs) ⌝ }
 {
     let n = count_of(pairs, 10);
     let objects = count_of(pairs, 6);

@@ -20,9 +20,9 @@ ghost use lib.Dec.{eqb};
 ghost use lib.ListN.{length};
 ghost use Rattle.laws.specs.Lists.{from, every?};
 ghost use Rattle.rules.specs.Bytes.{widthOf, limitOf};
-ghost use Rattle.rules.specs.Sheet.{bookOf, fitOf};
 ghost use Rattle.rules.specs.Shape.{endOf, headerGood, bookBad, fitBad, badShape};
 ghost use Rattle.rules.specs.Shape as rule;
+ghost use Rattle.info.specs.At.{bookAt, fitAt};
 ghost use Rattle.info.specs.Sound.{HeldBook, HeldFit};
 ghost use Rattle.shape.specs.Shaped.{shapedOf};
 
@@ -73,9 +73,10 @@ fn placed(pairs: &TablePairs, n: usize) -> bool
     end == n
 }
 
+// Whether the header is good: tables in order up to the end, depth and recording in their ranges.
 pub fn header_good(b: &[u8], pairs: &TablePairs) -> bool
-    requires { ⌜ 100 ≤ length (now b) ⌝ }
-    ensures { λ r. ⌜ r ≡ headerGood (now (b .entry)) (now (pairs .entry)) ⌝ }
+    requires a_header { ⌜ 100 ≤ length (now b) ⌝ }
+    ensures defined { λ r. ⌜ r ≡ headerGood (now (b .entry)) (now (pairs .entry)) ⌝ }
 {
     let tables = placed(pairs, b.len());
     let depth = depth_of(b);
@@ -85,8 +86,8 @@ pub fn header_good(b: &[u8], pairs: &TablePairs) -> bool
 
 // The first bad table of the book.
 pub fn book_shape(book: &[u8], pairs: &TablePairs) -> Shaped
-    requires { ⌜ HeldBook (now book) (now pairs) ⌝ }
-    ensures { λ r. ⌜ r ≡ shapedOf (bookBad (bookOf (now (book .entry)) (now (pairs .entry)))) ⌝ }
+    requires held_book { ⌜ HeldBook (now book) (now pairs) ⌝ }
+    ensures defined { λ r. ⌜ r ≡ shapedOf (bookBad (bookAt book pairs)) ⌝ }
 {
     if !attributes_good(book, pairs) {
         return Shaped::Bad(1);
@@ -105,8 +106,8 @@ pub fn book_shape(book: &[u8], pairs: &TablePairs) -> Shaped
 
 // The first bad table of the fit.
 pub fn fit_shape(fit: &[u8], pairs: &TablePairs) -> Shaped
-    requires { ⌜ HeldFit (now fit) (now pairs) ⌝ }
-    ensures { λ r. ⌜ r ≡ shapedOf (fitBad (fitOf (now (fit .entry)) (now (pairs .entry)))) ⌝ }
+    requires held_fit { ⌜ HeldFit (now fit) (now pairs) ⌝ }
+    ensures defined { λ r. ⌜ r ≡ shapedOf (fitBad (fitAt fit pairs)) ⌝ }
 {
     if !objects_good(fit, pairs) {
         return Shaped::Bad(6);
@@ -125,7 +126,7 @@ pub fn fit_shape(fit: &[u8], pairs: &TablePairs) -> Shaped
 
 // The first bad table of a sheet, 0 for the header.
 pub fn shape(b: &[u8]) -> Shaped
-    ensures { λ r. ⌜ r ≡ shapedOf (badShape (now (b .entry))) ⌝ }
+    ensures defined { λ r. ⌜ r ≡ shapedOf (badShape (now (b .entry))) ⌝ }
 {
     if b.len() < 100 {
         return Shaped::Bad(0);

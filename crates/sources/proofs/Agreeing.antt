@@ -22,7 +22,7 @@ use Rattle.rules.specs.declared.Source.{Source}
 use Rattle.reading.specs.Held.{NarrowOrigin, NarrowId, Sourced, isRunning}
 use Rattle.sources.specs.Planned.{runsIn, plannedIf, plannedOf, countsOf}
 use Rattle.sources.specs.Ranged.{EntriesHeld, plannedBy}
-use Rattle.sources.specs.Rows.{countsBy, plannedNumbers, entriesOf, Dispatched}
+use Rattle.sources.specs.Rows.{countsBy, plannedNumbers, entriesOf, DispatchedRows}
 use Rattle.sources.proofs.Numbers.{planned-long, planned-whole, unplanned, dispatched-long}
 
 -- each of the entries has its source among 1,024 objects
@@ -93,7 +93,7 @@ module _ (es : List Effect) {e₀ e : List (List ℕ)} {v₀ v : List Float} whe
       }
 
 pub laid-dispatched : (rs : List Row) (n : ℕ) {r₀ r e : List (List ℕ)} {v : List Float} → n ≡ length rs → Col (λ x. x) (rowsNumbers 0 0 rs []) r₀ r → EntriesHeld (entriesOf rs) e v
-    → Dispatched rs n r e v
+    → DispatchedRows rs n r e v
 laid-dispatched rs n {r₀} k R E =
     record {
       count = k;

@@ -48,7 +48,7 @@ module _ (w : World) (counts : List ℕ) (s₀ : List (List ℕ)) (f₀ : List (
       whole = omega arith
 
   module _ {n : ℕ} {s : List (List ℕ)} {f : List (List Float)} {own used : ℕ} (c : Copied n s f own used) where
-    pub free : n < copies → w .recording ≡ true → length (ownSources i (c .mem)) < getD counts i 0
+    pub free : n < copies → w .recording ≡ true → length (ownSources i (c .mem)) + 1 ≤ getD counts i 0
     free h e = omega (arith, h, c .fit e)
 
     next : n < copies → notes w i row copies r m ≡ (note w i row r (c .mem) >>= λ m′. notes w i row (copies - (n + 1)) r m′)

@@ -16,7 +16,7 @@ use Rattle.rules.specs.Dispatch.{Row}
 use Rattle.rules.specs.declared.Effect.{Effect}
 use Rattle.reading.specs.Held.{noRow}
 use Rattle.sources.specs.Ranged.{EntriesHeld, Ranged, plannedBy, plannedIn}
-use Rattle.sources.specs.Rows.{held, countBy, countsBy, plannedNumbers, entriesOf, Dispatched}
+use Rattle.sources.specs.Rows.{held, countBy, countsBy, plannedNumbers, entriesOf, DispatchedRows}
 use Rattle.sources.proofs.Numbers.{lengths, rowNumbers, planned-long, planned-at, unplanned-numbers, dispatched-long}
 
 -- row r with first s and count n in 5
@@ -24,7 +24,7 @@ abbrev pub withSources : List ℕ → ℕ → ℕ → List ℕ
 withSources r s n = getD r 0 0 ∷ getD r 1 0 ∷ getD r 2 0 ∷ getD r 3 0 ∷ s ∷ n ∷ []
 
 -- the rows are in the column
-pub inside : (rs : List Row) (n : ℕ) (r₀ c : List (List ℕ)) (v : List Float) → Dispatched rs n r₀ c v → n ≤ length r₀
+pub inside : (rs : List Row) (n : ℕ) (r₀ c : List (List ℕ)) (v : List Float) → DispatchedRows rs n r₀ c v → n ≤ length r₀
 inside rs n r₀ c v D = omega (arith, ap length (D .numbers) ∙ dispatched-long rs, length-take n r₀, D .count)
 
 module _ (states : List (List ℕ)) (rs : List Row) (n : ℕ) (r₀ c : List (List ℕ)) (v : List Float) where
@@ -43,7 +43,7 @@ module _ (states : List (List ℕ)) (rs : List Row) (n : ℕ) (r₀ c : List (Li
   pub upto-none : Upto 0 r₀ 0
   upto-none = record { is = refl; long = refl; sum = refl }
 
-  module _ (D : Dispatched rs n r₀ c v) where
+  module _ (D : DispatchedRows rs n r₀ c v) where
     module _ {k : ℕ} (h : k < n) where
       in-rows : k < length rs
       in-rows = omega (arith, D .count)

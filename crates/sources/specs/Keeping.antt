@@ -5,6 +5,8 @@ use mathlib.Core.Bool.{Bool, true, false}
 use mathlib.Core.List.{List}
 use lib.Ieee.{Float}
 use lib.ListN.{length, getD}
+use denote.Ref.{now}
+use Rattle.columns.specs.Lending.{LentColumn}
 use Rattle.rules.specs.Answer.{Res, ok, refused, _>>=_}
 use Rattle.rules.specs.Dispatch.{Row}
 use Rattle.rules.specs.Columns.{sourceNumbers, sourceFloats}
@@ -43,6 +45,15 @@ NotedAs counts room s₀ f₀ i (ok m) (At own used) s f = Keeping counts room s
 NotedAs counts room s₀ f₀ i (ok m) (Refused x) s f = ⊥
 NotedAs counts room s₀ f₀ i (refused x) (At own used) s f = ⊥
 NotedAs counts room s₀ f₀ i (refused x) (Refused y) s f = y ≡ x
+
+-- of any row and memory that list 5 holds, with n source rows more of the row planned, a call gives what the definition g gives, and list 5 holds it
+abbrev pub NotesGive : Recording → ℕ → ℕ → ℕ → ℕ → LentColumn (List ℕ) → LentColumn (List Float) → Noted → (World → ℕ → Row → Mem → Res Mem) → Type 0
+NotesGive run first own used n sources floats r g =
+    (w : World) (counts : List ℕ) (s₀ : List (List ℕ)) (f₀ : List (List Float)) (i : ℕ) (row : Row) (m : Mem)
+    → RunOf w run → Begins counts i first
+    → Keeping counts (w .room) s₀ f₀ i m (now (sources .entry)) (now (floats .entry)) own used
+    → (w .recording ≡ true → length (ownSources i m) + n ≤ getD counts i 0)
+    → NotedAs counts (w .room) s₀ f₀ i (g w i row m) r (now (sources .exit)) (now (floats .exit))
 
 -- so many source rows more, where they are recorded
 abbrev pub moreOf : Bool → ℕ → ℕ

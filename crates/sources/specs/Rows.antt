@@ -34,7 +34,7 @@ abbrev pub entriesOf : List Row → List Effect
 entriesOf rs = flat (λ r. r .entries) rs
 
 -- the first n rows of the column r are rs, with no source rows, and c and v hold their entries
-pub record Dispatched (rs : List Row) (n : ℕ) (r c : List (List ℕ)) (v : List Float) : Type 0 where
+pub record DispatchedRows (rs : List Row) (n : ℕ) (r c : List (List ℕ)) (v : List Float) : Type 0 where
   pub count : n ≡ length rs
   pub numbers : take n r ≡ rowsNumbers 0 0 rs []
   pub entries : EntriesHeld (entriesOf rs) c v
@@ -42,4 +42,4 @@ pub record Dispatched (rs : List Row) (n : ℕ) (r c : List (List ℕ)) (v : Lis
 -- they are some rows
 pub record Planning (n : ℕ) (r c : List (List ℕ)) (v : List Float) : Type 0 where
   pub rows : List Row
-  pub dispatched : Dispatched rows n r c v
+  pub dispatched : DispatchedRows rows n r c v

@@ -1,25 +1,21 @@
 // Penalties of source rows: the weight of a copy's position, set when its operator is applied.
 use super::Recording;
+use columns::SOURCE_VALUE;
 use columns::SourceFloats;
 use numbers::weight;
 use operate::buckets::Bucket;
 use operate::buckets::kept;
 ghost use mathlib.Core.Path.{_≡_};
-ghost use mathlib.Core.Bool.{true, false};
-ghost use mathlib.Core.List.{List, []};
-ghost use Prim.Native.Nat.{ℕ, _+_, _≤_};
-ghost use lib.Ieee.{Float};
+ghost use Prim.Native.Nat.{_+_, _≤_};
 ghost use lib.ListN.{length};
-ghost use Rattle.rules.specs.Operate.{Copy, sorted};
-ghost use Rattle.rules.specs.Value.{World, Mem, ownSources, withOwn, marked};
-ghost use Rattle.operate.specs.Held.{Gathered};
-ghost use Rattle.sources.specs.Keeping.{RunOf, Begins, Keeping};
-ghost use Rattle.sources.specs.Marks.{Fresh, penaltyAt};
+ghost use Rattle.rules.specs.Operate.{sorted};
+ghost use Rattle.rules.specs.Value.{marked};
+ghost use Rattle.sources.specs.Marks.{MarksGive, penaltyAt};
 
 // The penalty of a source row of the row whose places begin at first.
 fn set_penalty(floats: &mut [SourceFloats], run: Recording, first: u32, source: u32, penalty: f64)
-    requires { ⌜ run .room ≤ length (now floats) ⌝ }
-    ensures { λ _. ⌜ now (floats .exit) ≡ penaltyAt run (first + source) penalty (now (floats .entry)) ⌝ }
+    requires roomy { ⌜ run .room ≤ length (now floats) ⌝ }
+    ensures defined { λ _. ⌜ now (floats .exit) ≡ penaltyAt run (first + source) penalty (now (floats .entry)) ⌝ }
 {
     let room = run.room as usize;
     let place = first as usize + source as usize;
@@ -27,7 +23,7 @@ fn set_penalty(floats: &mut [SourceFloats], run: Recording, first: u32, source: 
         return;
     }
     if place < room {
-        let value = floats[place][0];
+        let value = floats[place][SOURCE_VALUE];
         let pair = [value, penalty];
         floats[place] = pair;
     }
@@ -35,8 +31,8 @@ fn set_penalty(floats: &mut [SourceFloats], run: Recording, first: u32, source: 
 
 // The penalties of a bucket's copies, by position; past the eighth they stay 0.0.
 pub fn set_penalties(floats: &mut [SourceFloats], run: Recording, first: u32, b: Bucket)
-    requires { ⌜ run .room ≤ length (now floats) ⌝ }
-    ensures { λ _. ⌜ ((w : World) (counts : List ℕ) (s₀ : List (List ℕ)) (f₀ : List (List Float)) (i : ℕ) (m : Mem) (own used : ℕ) (s : List (List ℕ)) (xs : List Copy) → RunOf w run → Begins counts i first → Keeping counts (w .room) s₀ f₀ i m s (now (floats .entry)) own used → Gathered xs b → (w .recording ≡ true → Fresh (ownSources i m) xs) → (w .recording ≡ false → ownSources i m ≡ []) → Keeping counts (w .room) s₀ f₀ i (withOwn i (marked 0 (sorted xs) (ownSources i m)) m) s (now (floats .exit)) own used) ⌝ }
+    requires roomy { ⌜ run .room ≤ length (now floats) ⌝ }
+    ensures defined { λ _. ⌜ MarksGive run first b floats (λ xs. marked 0 (sorted xs)) ⌝ }
 {
     let count = b.count;
     let sources = b.sources;

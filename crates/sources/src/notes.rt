@@ -9,15 +9,10 @@ use rules::Effect;
 use rules::Refusal;
 use rules::Source;
 ghost use mathlib.Core.Path.{_≡_};
-ghost use mathlib.Core.Bool.{true};
-ghost use mathlib.Core.List.{List};
-ghost use Prim.Native.Nat.{ℕ, _+_, _≤_, _<_, min};
-ghost use lib.Ieee.{Float};
-ghost use lib.ListN.{length, getD};
-ghost use Rattle.rules.specs.Dispatch.{Row};
-ghost use Rattle.rules.specs.Value.{World, Mem, ownSources};
+ghost use Prim.Native.Nat.{_≤_, min};
+ghost use lib.ListN.{length};
 ghost use Rattle.rules.specs.Value as values;
-ghost use Rattle.sources.specs.Keeping.{RunOf, Begins, Keeping, NotedAs, Advanced, notes, penalisedNotes, penalisedCount};
+ghost use Rattle.sources.specs.Keeping.{NotesGive, Advanced, notes, penalisedNotes, penalisedCount};
 
 // A source row more of the row whose places begin at first, where source rows are recorded.
 pub fn note(
@@ -29,9 +24,9 @@ pub fn note(
     own: u32,
     used: u32,
 ) -> Noted
-    requires { ⌜ (run .room ≤ length (now sources)) × (run .room ≤ length (now floats)) × (own ≤ used) ⌝ }
-    ensures { λ r. ⌜ ((w : World) (counts : List ℕ) (s₀ : List (List ℕ)) (f₀ : List (List Float)) (i : ℕ) (row : Row) (m : Mem) → RunOf w run → Begins counts i first → Keeping counts (w .room) s₀ f₀ i m (now (sources .entry)) (now (floats .entry)) own used → (w .recording ≡ true → length (ownSources i m) < getD counts i 0) → NotedAs counts (w .room) s₀ f₀ i (values.note w i row s m) r (now (sources .exit)) (now (floats .exit))) ⌝ }
-    ensures { λ r. ⌜ Advanced (run .recording) 1 own used r ⌝ }
+    requires roomy { ⌜ (run .room ≤ length (now sources)) × (run .room ≤ length (now floats)) × (own ≤ used) ⌝ }
+    ensures defined { λ r. ⌜ NotesGive run first own used 1 sources floats r (λ w i row. values.note w i row s) ⌝ }
+    ensures advanced { λ r. ⌜ Advanced (run .recording) 1 own used r ⌝ }
 {
     if !run.recording {
         return Noted::At(own, used);
@@ -55,9 +50,9 @@ fn note_copies(
     own: u32,
     used: u32,
 ) -> Noted
-    requires { ⌜ (run .room ≤ length (now sources)) × (run .room ≤ length (now floats)) × (own ≤ used) ⌝ }
-    ensures { λ r. ⌜ ((w : World) (counts : List ℕ) (s₀ : List (List ℕ)) (f₀ : List (List Float)) (i : ℕ) (row : Row) (m : Mem) → RunOf w run → Begins counts i first → Keeping counts (w .room) s₀ f₀ i m (now (sources .entry)) (now (floats .entry)) own used → (w .recording ≡ true → length (ownSources i m) + copies ≤ getD counts i 0) → NotedAs counts (w .room) s₀ f₀ i (notes w i row copies s m) r (now (sources .exit)) (now (floats .exit))) ⌝ }
-    ensures { λ r. ⌜ Advanced (run .recording) copies own used r ⌝ }
+    requires roomy { ⌜ (run .room ≤ length (now sources)) × (run .room ≤ length (now floats)) × (own ≤ used) ⌝ }
+    ensures defined { λ r. ⌜ NotesGive run first own used copies sources floats r (λ w i row. notes w i row copies s) ⌝ }
+    ensures advanced { λ r. ⌜ Advanced (run .recording) copies own used r ⌝ }
 {
     let mut a = own;
     let mut b = used;
@@ -78,7 +73,7 @@ fn note_copies(
 
 // How many copies of a quantity have a source row of their own.
 fn kept(quantity: u32) -> u32
-    ensures { λ r. ⌜ r ≡ min quantity 8 ⌝ }
+    ensures defined { λ r. ⌜ r ≡ min quantity 8 ⌝ }
 {
     if quantity < 8 { quantity } else { 8 }
 }
@@ -90,16 +85,17 @@ pub fn note_penalised(
     run: Recording,
     first: u32,
     e: Effect,
-    v: f64,
+    strength: f64,
     own: u32,
     used: u32,
 ) -> Noted
-    requires { ⌜ (run .room ≤ length (now sources)) × (run .room ≤ length (now floats)) × (own ≤ used) ⌝ }
-    ensures { λ r. ⌜ ((w : World) (counts : List ℕ) (s₀ : List (List ℕ)) (f₀ : List (List Float)) (i : ℕ) (row : Row) (m : Mem) → RunOf w run → Begins counts i first → Keeping counts (w .room) s₀ f₀ i m (now (sources .entry)) (now (floats .entry)) own used → (w .recording ≡ true → length (ownSources i m) + penalisedCount (e .quantity) ≤ getD counts i 0) → NotedAs counts (w .room) s₀ f₀ i (penalisedNotes w i row e v m) r (now (sources .exit)) (now (floats .exit))) ⌝ }
-    ensures { λ r. ⌜ Advanced (run .recording) (penalisedCount (e .quantity)) own used r ⌝ }
+    requires roomy { ⌜ (run .room ≤ length (now sources)) × (run .room ≤ length (now floats)) × (own ≤ used) ⌝ }
+    ensures defined { λ r.
+        ⌜ NotesGive run first own used (penalisedCount (e .quantity)) sources floats r (λ w i row. penalisedNotes w i row e strength) ⌝ }
+    ensures advanced { λ r. ⌜ Advanced (run .recording) (penalisedCount (e .quantity)) own used r ⌝ }
 {
     let quantity = e.quantity;
-    let one = to_source(e, v, true, 1, true);
+    let one = to_source(e, strength, true, 1, true);
     let copies = kept(quantity);
     let got = note_copies(sources, floats, run, first, one, copies, own, used);
     match got {
@@ -107,7 +103,7 @@ pub fn note_penalised(
             if quantity <= 8 {
                 return Noted::At(a, b);
             }
-            let rest = to_source(e, v, true, quantity - 8, true);
+            let rest = to_source(e, strength, true, quantity - 8, true);
             note(sources, floats, run, first, rest, a, b)
         }
         Noted::Refused(y) => Noted::Refused(y),

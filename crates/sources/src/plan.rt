@@ -1,6 +1,10 @@
 // First and count in list 5 of each row of list 2, planned before any value is calculated: how many source rows it gets when they are recorded (pass_3.rs).
 use columns::AttributeRow;
 use columns::EntryRow;
+use columns::ROW_ATTRIBUTE;
+use columns::ROW_ENTRY_COUNT;
+use columns::ROW_FIRST_ENTRY;
+use columns::ROW_OBJECT;
 use columns::States;
 use info::little_endian::index;
 use reading::entries::entry_at;
@@ -14,12 +18,12 @@ ghost use lib.ListN.{length, drop};
 ghost use Rattle.rules.specs.Dispatch.{Row};
 ghost use Rattle.sources.specs.Planned.{plannedIf};
 ghost use Rattle.sources.specs.Ranged.{EntriesHeld, Ranged, plannedIn};
-ghost use Rattle.sources.specs.Rows.{held as held32, countsBy, plannedNumbers, Dispatched, Planning};
+ghost use Rattle.sources.specs.Rows.{held as held32, countsBy, plannedNumbers, DispatchedRows, Planning};
 
 // How many source rows an entry gets.
 fn sources_of(e: Effect, running: bool) -> u32
-    ensures { λ r. ⌜ r ≡ plannedIf running e ⌝ }
-    ensures { λ r. ⌜ r ≤ 9 ⌝ }
+    ensures defined { λ r. ⌜ r ≡ plannedIf running e ⌝ }
+    ensures few { λ r. ⌜ r ≤ 9 ⌝ }
 {
     let operator = e.operator;
     let penalised = has_penalty(operator);
@@ -41,9 +45,10 @@ fn sources_of_row(
     first: usize,
     count: usize,
 ) -> usize
-    requires { ⌜ Ranged (now entries) (now values) first count ⌝ }
-    ensures { λ r. ⌜ ((es : List Effect) → EntriesHeld es (now (entries .entry)) (now (values .entry)) → first + count ≤ length es → r ≡ plannedIn (now (states .entry)) es first count) ⌝ }
-    ensures { λ r. ⌜ r ≤ count * 9 ⌝ }
+    requires ranged { ⌜ Ranged (now entries) (now values) first count ⌝ }
+    ensures defined { λ r. ⌜ ((es : List Effect) → EntriesHeld es (now (entries .entry)) (now (values .entry)) → first + count ≤ length es
+        → r ≡ plannedIn (now (states .entry)) es first count) ⌝ }
+    ensures few { λ r. ⌜ r ≤ count * 9 ⌝ }
 {
     let mut total: usize = 0;
     let mut i: usize = 0;
@@ -59,11 +64,11 @@ fn sources_of_row(
 }
 
 // A number in 32 bits: past them it is the greatest.
-fn held(x: usize) -> u32
-    ensures { λ r. ⌜ r ≡ held32 x ⌝ }
+fn held(count: usize) -> u32
+    ensures defined { λ r. ⌜ r ≡ held32 count ⌝ }
 {
-    if x < 4294967295 {
-        return x as u32;
+    if count < 4294967295 {
+        return count as u32;
     }
     4294967295
 }
@@ -76,17 +81,31 @@ pub fn set_sources(
     states: &States,
     n: usize,
 )
-    requires { ⌜ Planning n (now rows) (now entries) (now values) ⌝ }
-    ensures { λ _. ⌜ ((rs : List Row) → Dispatched rs n (now (rows .entry)) (now (entries .entry)) (now (values .entry)) → now (rows .exit) ≡ plannedNumbers 0 0 rs (countsBy (now (states .entry)) rs) ++ drop n (now (rows .entry))) ⌝ }
+    requires planning { ⌜ Planning n (now rows) (now entries) (now values) ⌝ }
+    ensures defined { λ _. ⌜ ((rs : List Row) → DispatchedRows rs n (now (rows .entry)) (now (entries .entry)) (now (values .entry))
+        → now (rows .exit) ≡ plannedNumbers 0 0 rs (countsBy (now (states .entry)) rs) ++ drop n (now (rows .entry))) ⌝ }
 {
     let mut first: u32 = 0;
     let mut k: usize = 0;
     while k < n {
         let r = rows[k];
-        let sources = sources_of_row(entries, values, states, index(r[2]), index(r[3]));
+        let sources = sources_of_row(
+            entries,
+            values,
+            states,
+            index(r[ROW_FIRST_ENTRY]),
+            index(r[ROW_ENTRY_COUNT]),
+        );
         let count = held(sources);
         let end = held(index(first) + index(count));
-        rows[k] = [r[0], r[1], r[2], r[3], first, count];
+        rows[k] = [
+            r[ROW_OBJECT],
+            r[ROW_ATTRIBUTE],
+            r[ROW_FIRST_ENTRY],
+            r[ROW_ENTRY_COUNT],
+            first,
+            count,
+        ];
         first = end;
         k += 1;
     }

@@ -19,8 +19,9 @@ ghost use Rattle.rules.specs.Columns.{yes1, fromNumbers, optionalNumbers, sourc
 ghost use Rattle.rules.specs.Value.{fromOf, effectIdOf, sourceAttributeIdOf, toSource};
 ghost use Rattle.sources.specs.Shown.{placed};
 
+// What a source row is from, as two numbers.
 fn from_numbers(s: SourceRef) -> [u32; 2]
-    ensures { λ r. ⌜ r ≡ fromNumbers s ⌝ }
+    ensures defined { λ r. ⌜ r ≡ fromNumbers s ⌝ }
 {
     match s {
         SourceRef::Object { number } => [0, number],
@@ -28,8 +29,9 @@ fn from_numbers(s: SourceRef) -> [u32; 2]
     }
 }
 
+// The numbers of a source row.
 fn source_numbers(s: Source) -> SourceRow
-    ensures { λ r. ⌜ r ≡ sourceNumbers s ⌝ }
+    ensures defined { λ r. ⌜ r ≡ sourceNumbers s ⌝ }
 {
     let from = s.from;
     let effect = s.effect_id;
@@ -55,8 +57,9 @@ fn source_numbers(s: Source) -> SourceRow
     ]
 }
 
+// What an entry's source row is from: the object, or the buff.
 fn from_of(o: Origin) -> SourceRef
-    ensures { λ r. ⌜ r ≡ fromOf o ⌝ }
+    ensures defined { λ r. ⌜ r ≡ fromOf o ⌝ }
 {
     match o {
         Origin::Effect {
@@ -69,8 +72,9 @@ fn from_of(o: Origin) -> SourceRef
     }
 }
 
+// The effect of an entry, which a buff has not.
 fn effect_id_of(o: Origin) -> OptionalId
-    ensures { λ r. ⌜ r ≡ effectIdOf o ⌝ }
+    ensures defined { λ r. ⌜ r ≡ effectIdOf o ⌝ }
 {
     match o {
         Origin::Effect {
@@ -86,8 +90,9 @@ fn effect_id_of(o: Origin) -> OptionalId
     }
 }
 
+// The attribute that an entry is read off, which a buff has not.
 fn source_attribute_id_of(o: Origin) -> OptionalId
-    ensures { λ r. ⌜ r ≡ sourceAttributeIdOf o ⌝ }
+    ensures defined { λ r. ⌜ r ≡ sourceAttributeIdOf o ⌝ }
 {
     match o {
         Origin::Effect {
@@ -103,9 +108,9 @@ fn source_attribute_id_of(o: Origin) -> OptionalId
     }
 }
 
-// v is the strength after resistance and before it is simplified.
-pub fn to_source(e: Effect, v: f64, applied: bool, quantity: u32, penalised: bool) -> Source
-    ensures { λ r. ⌜ r ≡ toSource e v applied quantity penalised ⌝ }
+// The source row of an entry; its strength is that after resistance, before it is simplified.
+pub fn to_source(e: Effect, strength: f64, applied: bool, quantity: u32, penalised: bool) -> Source
+    ensures defined { λ r. ⌜ r ≡ toSource e strength applied quantity penalised ⌝ }
 {
     let origin = e.origin;
     let operator = e.operator;
@@ -117,7 +122,7 @@ pub fn to_source(e: Effect, v: f64, applied: bool, quantity: u32, penalised: boo
         effect_id,
         source_attribute_id,
         operator,
-        value: v,
+        value: strength,
         quantity,
         penalised,
         penalty: 0.0,
@@ -133,10 +138,10 @@ pub fn put_source(
     place: usize,
     s: Source,
 )
-    requires { ⌜ run .room ≤ length (now sources) ⌝ }
-    requires { ⌜ run .room ≤ length (now floats) ⌝ }
-    ensures { λ _. ⌜ now (sources .exit) ≡ placed (run .room) place (sourceNumbers s) (now (sources .entry)) ⌝ }
-    ensures { λ _. ⌜ now (floats .exit) ≡ placed (run .room) place (sourceFloats s) (now (floats .entry)) ⌝ }
+    requires roomy { ⌜ run .room ≤ length (now sources) ⌝ }
+    requires roomy_floats { ⌜ run .room ≤ length (now floats) ⌝ }
+    ensures numbers { λ _. ⌜ now (sources .exit) ≡ placed (run .room) place (sourceNumbers s) (now (sources .entry)) ⌝ }
+    ensures floats { λ _. ⌜ now (floats .exit) ≡ placed (run .room) place (sourceFloats s) (now (floats .entry)) ⌝ }
 {
     let room = run.room as usize;
     if place < room {

@@ -1,4 +1,6 @@
 // States and max states after collection (Item::collect_effects, PassTwo::pass).
+use columns::OBJECTS;
+use columns::STATE_WIDTH;
 use columns::StateRow;
 use columns::States;
 use columns::TablePairs;
@@ -33,13 +35,14 @@ ghost use Rattle.rules.specs.Bytes.{countOf};
 ghost use Rattle.rules.specs.Sheet.{Book, Fit, bookOf, fitOf};
 ghost use Rattle.rules.specs.Item.{isItem, isCharge, itemOf, passed, structureFit};
 ghost use Rattle.rules.specs.States.{collectedStates, statesOf};
+ghost use Rattle.info.specs.At.{bookAt, fitAt};
 ghost use Rattle.info.specs.Sound.{HeldBook, HeldFit, SoundBook, SoundFit};
 ghost use Rattle.item.specs.Categories.{CategoriesOf};
 ghost use Rattle.states.specs.Raised.{among, both, reachOn, raisedIn, reachedOf, ableOf, ObjectOf, rowsOf};
 
-// The higher and the lower of two states.
+// The higher of two states.
 pub fn higher(a: u32, b: u32) -> u32
-    ensures { λ r. ⌜ r ≡ max a b ⌝ }
+    ensures defined { λ r. ⌜ r ≡ max a b ⌝ }
 {
     if a < b {
         return b;
@@ -47,8 +50,9 @@ pub fn higher(a: u32, b: u32) -> u32
     a
 }
 
+// The lower of two states.
 pub fn lower(a: u32, b: u32) -> u32
-    ensures { λ r. ⌜ r ≡ min a b ⌝ }
+    ensures defined { λ r. ⌜ r ≡ min a b ⌝ }
 {
     if a < b {
         return a;
@@ -64,9 +68,9 @@ pub fn has_effect(
     count: usize,
     t: TypeDogmaEffect,
 ) -> bool
-    requires { ⌜ HeldBook (now book) (now pairs) ⌝ }
-    requires { ⌜ first + count ≤ countOf (now pairs) 4 ⌝ }
-    ensures { λ r. ⌜ r ≡ among (span first count (bookOf (now (book .entry)) (now (pairs .entry)) .typeEffects)) t ⌝ }
+    requires held_book { ⌜ HeldBook (now book) (now pairs) ⌝ }
+    requires inside { ⌜ first + count ≤ countOf (now pairs) 4 ⌝ }
+    ensures defined { λ r. ⌜ r ≡ among (span first count (bookAt book pairs .typeEffects)) t ⌝ }
 {
     let end = first + count;
     let mut i = first;
@@ -92,8 +96,8 @@ fn previous(n: u32) -> usize
 
 // Whether the hull is a structure.
 pub fn is_structure_fit(fit: &[u8], pairs: &TablePairs) -> bool
-    requires { ⌜ HeldFit (now fit) (now pairs) ⌝ }
-    ensures { λ r. ⌜ r ≡ structureFit (fitOf (now (fit .entry)) (now (pairs .entry))) ⌝ }
+    requires held_fit { ⌜ HeldFit (now fit) (now pairs) ⌝ }
+    ensures defined { λ r. ⌜ r ≡ structureFit (fitAt fit pairs) ⌝ }
 {
     if count_of(pairs, 6) == 0 {
         return false;
@@ -106,25 +110,26 @@ pub fn is_structure_fit(fit: &[u8], pairs: &TablePairs) -> bool
 pub fn is_passed_over(
     fit: &[u8],
     pairs: &TablePairs,
-    c: Categories,
+    categories: Categories,
     structure: bool,
     o: Item,
 ) -> bool
-    requires { ⌜ HeldFit (now fit) (now pairs) ⌝ }
-    requires { ⌜ o .number < countOf (now pairs) 6 ⌝ }
-    requires { ⌜ structure ≡ structureFit (fitOf (now fit) (now pairs)) ⌝ }
-    ensures { λ r. ⌜ ((k : Book) → CategoriesOf k c → r ≡ isItem o && passed k (fitOf (now (fit .entry)) (now (pairs .entry))) o || isCharge o && passed k (fitOf (now (fit .entry)) (now (pairs .entry))) (itemOf (fitOf (now (fit .entry)) (now (pairs .entry))) o)) ⌝ }
+    requires held_fit { ⌜ HeldFit (now fit) (now pairs) ⌝ }
+    requires inside { ⌜ o .number < countOf (now pairs) 6 ⌝ }
+    requires of_the_fit { ⌜ structure ≡ structureFit (fitOf (now fit) (now pairs)) ⌝ }
+    ensures defined { λ r. let f = fitAt fit pairs in
+        ⌜ ((k : Book) → CategoriesOf k categories → r ≡ isItem o && passed k f o || isCharge o && passed k f (itemOf f o)) ⌝ }
 {
     if is_charge(o) {
         let m = object(fit, pairs, previous(o.number));
-        return is_passed(c, structure, m);
+        return is_passed(categories, structure, m);
     }
-    is_item(o) & is_passed(c, structure, o)
+    is_item(o) & is_passed(categories, structure, o)
 }
 
 // The states of an object that collection does not pass over, with the max state that it was raised to.
 pub fn collected_states(o: Item, top: u32) -> StateRow
-    ensures { λ r. ⌜ ((k : Book) (f : Fit) → top ≡ ableOf k f o → r ≡ both (collectedStates k f o)) ⌝ }
+    ensures defined { λ r. ⌜ ((k : Book) (f : Fit) → top ≡ ableOf k f o → r ≡ both (collectedStates k f o)) ⌝ }
 {
     if is_subsystem(o) {
         return [1, 1];
@@ -136,7 +141,7 @@ pub fn collected_states(o: Item, top: u32) -> StateRow
 // The state that one effect lets an object be in.
 fn reach_by(book: &[u8], pairs: &TablePairs, o: Item, t: TypeDogmaEffect) -> u32
     requires { ⌜ SoundBook (now book) (now pairs) ⌝ }
-    ensures { λ r. ⌜ r ≡ reachOn (bookOf (now (book .entry)) (now (pairs .entry))) o t ⌝ }
+    ensures { λ r. ⌜ r ≡ reachOn (bookAt book pairs) o t ⌝ }
 {
     let found = get_dogma_effect(book, pairs, t.effect_id);
     match found {
@@ -159,7 +164,7 @@ fn raised(
     requires { ⌜ SoundBook (now book) (now pairs) ⌝ }
     requires { ⌜ first + count ≤ countOf (now pairs) 4 ⌝ }
     requires { ⌜ own + owned ≤ countOf (now pairs) 4 ⌝ }
-    ensures { λ r. ⌜ r ≡ raisedIn (bookOf (now (book .entry)) (now (pairs .entry))) o first count own owned start ⌝ }
+    ensures { λ r. ⌜ r ≡ raisedIn (bookAt book pairs) o first count own owned start ⌝ }
 {
     let end = first + count;
     let mut top = start;
@@ -178,7 +183,7 @@ fn raised(
 // The max state that all its effects raise an object to: its own type's, then its base's that the type lacks.
 fn reached(book: &[u8], pairs: &TablePairs, o: Item) -> u32
     requires { ⌜ SoundBook (now book) (now pairs) ⌝ }
-    ensures { λ r. ⌜ r ≡ reachedOf (bookOf (now (book .entry)) (now (pairs .entry))) o ⌝ }
+    ensures { λ r. ⌜ r ≡ reachedOf (bookAt book pairs) o ⌝ }
 {
     let own = get_dogma_effects(book, pairs, o.type_id);
     let top = raised(book, pairs, o, own.first, own.count, 0, 0, o.max_state);
@@ -203,7 +208,7 @@ fn able(book: &[u8], fit: &[u8], pairs: &TablePairs, o: Item) -> u32
     requires { ⌜ SoundBook (now book) (now pairs) ⌝ }
     requires { ⌜ SoundFit (now fit) (now pairs) ⌝ }
     requires { ⌜ ObjectOf (fitOf (now fit) (now pairs)) o ⌝ }
-    ensures { λ r. ⌜ r ≡ ableOf (bookOf (now (book .entry)) (now (pairs .entry))) (fitOf (now (fit .entry)) (now (pairs .entry))) o ⌝ }
+    ensures { λ r. ⌜ r ≡ ableOf (bookAt book pairs) (fitAt fit pairs) o ⌝ }
 {
     let top = reached(book, pairs, o);
     let found = get_base(fit, pairs, o, ATTRIBUTE_CAPACITOR_NEED_ID);
@@ -221,13 +226,13 @@ fn states_of(
     c: Categories,
     structure: bool,
     o: Item,
-) -> [u32; 2]
+) -> StateRow
     requires { ⌜ SoundBook (now book) (now pairs) ⌝ }
     requires { ⌜ SoundFit (now fit) (now pairs) ⌝ }
     requires { ⌜ CategoriesOf (bookOf (now book) (now pairs)) c ⌝ }
     requires { ⌜ structure ≡ structureFit (fitOf (now fit) (now pairs)) ⌝ }
     requires { ⌜ ObjectOf (fitOf (now fit) (now pairs)) o ⌝ }
-    ensures { λ r. ⌜ r ≡ both (statesOf (bookOf (now (book .entry)) (now (pairs .entry))) (fitOf (now (fit .entry)) (now (pairs .entry))) o) ⌝ }
+    ensures { λ r. ⌜ r ≡ both (statesOf (bookAt book pairs) (fitAt fit pairs) o) ⌝ }
 {
     if is_projected(o) {
         return [o.state, o.max_state];
@@ -243,16 +248,16 @@ fn states_of(
 }
 
 // Every object's states, and zeros past the last.
-fn all_states(book: &[u8], fit: &[u8], pairs: &TablePairs) -> [[u32; 2]; 1024]
+fn all_states(book: &[u8], fit: &[u8], pairs: &TablePairs) -> States
     requires { ⌜ SoundBook (now book) (now pairs) ⌝ }
     requires { ⌜ SoundFit (now fit) (now pairs) ⌝ }
-    ensures { λ r. ⌜ r ≡ rowsOf (bookOf (now (book .entry)) (now (pairs .entry))) (fitOf (now (fit .entry)) (now (pairs .entry))) ⌝ }
+    ensures { λ r. ⌜ r ≡ rowsOf (bookAt book pairs) (fitAt fit pairs) ⌝ }
 {
     let c = categories_of(book);
     let structure = is_structure_fit(fit, pairs);
     let n = count_of(pairs, 6);
-    let zeros = [0u32; 2];
-    let mut rows = [zeros; 1024];
+    let zeros = [0u32; STATE_WIDTH];
+    let mut rows = [zeros; OBJECTS];
     let mut i = 0;
     while i < n {
         let o = object(fit, pairs, i);
@@ -265,9 +270,9 @@ fn all_states(book: &[u8], fit: &[u8], pairs: &TablePairs) -> [[u32; 2]; 1024]
 
 // Every object's state and max state after collection.
 pub fn correct_states(states: &mut States, book: &[u8], fit: &[u8], pairs: &TablePairs)
-    requires { ⌜ SoundBook (now book) (now pairs) ⌝ }
-    requires { ⌜ SoundFit (now fit) (now pairs) ⌝ }
-    ensures { λ r. ⌜ now (states .exit) ≡ rowsOf (bookOf (now (book .entry)) (now (pairs .entry))) (fitOf (now (fit .entry)) (now (pairs .entry))) ⌝ }
+    requires sound_book { ⌜ SoundBook (now book) (now pairs) ⌝ }
+    requires sound_fit { ⌜ SoundFit (now fit) (now pairs) ⌝ }
+    ensures defined { λ r. ⌜ now (states .exit) ≡ rowsOf (bookAt book pairs) (fitAt fit pairs) ⌝ }
 {
     let rows = all_states(book, fit, pairs);
     *states = rows;

@@ -28,12 +28,12 @@ use Rattle.info.specs.Sound.{SoundBook, SoundFit}
 use Rattle.info.proofs.Defaults.{first-or-passes, defaults-finite}
 use Rattle.info.proofs.Narrow.{signed-narrow}
 use Rattle.reading.specs.Held.{noRow}
-use Rattle.values.specs.SoundRows.{AllOf}
+use Rattle.values.specs.SoundRows.{AllAre}
 use Rattle.values.proofs.All.{all-at, all-each, all-keep, all-take, all-drop, all-map, all-flat, all-inserted}
 
 -- what holds of each row that an object may have
 module _ (P : Row → Type 0) (k : Book) (f : Fit) (ts : List Pass2Effect) where
-  pub all-rows : ((o : Item) → AllOf (λ (a : ℤ). P (rowOf k f ts o a)) (idsOf k f ts o)) → AllOf P (rows k f ts)
+  pub all-rows : ((o : Item) → AllAre (λ (a : ℤ). P (rowOf k f ts o a)) (idsOf k f ts o)) → AllAre P (rows k f ts)
   unfolding rows
   all-rows h = all-flat P (λ o. map (rowOf k f ts o) (idsOf k f ts o)) (f .objects) (λ o. all-map P (rowOf k f ts o) (idsOf k f ts o) (h o))
 
@@ -67,19 +67,19 @@ module _ (b : List ℕ) (pairs : List (List ℕ)) where
   abbrev ownNarrow : BaseAttribute → Type 0
   ownNarrow r = Narrow (r .«attribute_id»)
 
-  bases-narrow : AllOf ownNarrow (fitOf b pairs .bases)
+  bases-narrow : AllAre ownNarrow (fitOf b pairs .bases)
   unfolding fitOf
   bases-narrow =
       all-map ownNarrow (λ k. baseFrom k (recordAt b pairs 7 k)) (from 0 (countOf pairs 7))
       (all-each (λ (k : ℕ). ownNarrow (baseFrom k (recordAt b pairs 7 k))) (λ k. signed-narrow (u32At (recordAt b pairs 7 k) 0)) (from 0 (countOf pairs 7)))
 
-  own-narrow : (o : Item) → AllOf Narrow (map (λ r. r .«attribute_id») (basesOf (fitOf b pairs) o))
+  own-narrow : (o : Item) → AllAre Narrow (map (λ r. r .«attribute_id») (basesOf (fitOf b pairs) o))
   own-narrow o =
       all-map Narrow (λ r. r .«attribute_id») (basesOf (fitOf b pairs) o)
       (all-take ownNarrow (o .attributes) (drop (o .«first_attribute») (fitOf b pairs .bases)) (all-drop ownNarrow (o .«first_attribute») (fitOf b pairs .bases) bases-narrow))
 
-  module _ (k : Book) (ts : List Pass2Effect) (h : AllOf (λ (t : Pass2Effect). Narrow (t .«target_attribute_id»)) ts) where
-    ids-narrow : (o : Item) → AllOf Narrow (idsOf k (fitOf b pairs) ts o)
+  module _ (k : Book) (ts : List Pass2Effect) (h : AllAre (λ (t : Pass2Effect). Narrow (t .«target_attribute_id»)) ts) where
+    ids-narrow : (o : Item) → AllAre Narrow (idsOf k (fitOf b pairs) ts o)
     unfolding idsOf hitsOn
     ids-narrow o =
         all-inserted Narrow (map (λ t. t .«target_attribute_id») (hitsOn k (fitOf b pairs) ts o)) (map (λ r. r .«attribute_id») (basesOf (fitOf b pairs) o))

@@ -15,16 +15,16 @@ use Rattle.rules.specs.declared.Effect.{Effect}
 use Rattle.rules.specs.declared.Item.{Item}
 use Rattle.rules.specs.declared.Pass2Effect.{Pass2Effect}
 use Rattle.reading.specs.Held.{noRow}
-use Rattle.values.specs.SoundRows.{AllOf, Fair, Readable}
+use Rattle.values.specs.SoundRows.{AllAre, Fair, Readable}
 use Rattle.values.proofs.All.{all-at, all-each, all-append, all-keep, all-map, all-weaker}
 use Rattle.values.proofs.Bases.{all-rows}
 
-module _ (k : Book) (f : Fit) (ts : List Pass2Effect) (h : AllOf Fair ts) where
+module _ (k : Book) (f : Fit) (ts : List Pass2Effect) (h : AllAre Fair ts) where
   entry-readable : (o : Item) (t : Pass2Effect) → Fair t → Readable (entry k f o t)
   unfolding entry
   entry-readable o t q = record { good = record { sourced = q .sourced; valued = q .valued }; origin = q .origin; resistance = q .resistance }
 
-  row-readable : (o : Item) (a : ℤ) → AllOf Readable (rowOf k f ts o a .entries)
+  row-readable : (o : Item) (a : ℤ) → AllAre Readable (rowOf k f ts o a .entries)
   unfolding rowOf hitsOn
   row-readable o a =
       let hits = keep (λ t. hit k f t o) ts in
@@ -32,12 +32,12 @@ module _ (k : Book) (f : Fit) (ts : List Pass2Effect) (h : AllOf Fair ts) where
       all-map Readable (entry k f o) own
       (all-weaker Fair (λ (t : Pass2Effect). Readable (entry k f o t)) (entry-readable o) own (all-keep Fair (λ t. eqZ (t .«target_attribute_id») a) hits (all-keep Fair (λ t. hit k f t o) ts h)))
 
-  pub rows-readable : AllOf (λ (r : Row). AllOf Readable (r .entries)) (rows k f ts)
-  rows-readable = all-rows (λ (r : Row). AllOf Readable (r .entries)) k f ts (λ o. all-each (λ (a : ℤ). AllOf Readable (rowOf k f ts o a .entries)) (row-readable o) (idsOf k f ts o))
+  pub rows-readable : AllAre (λ (r : Row). AllAre Readable (r .entries)) (rows k f ts)
+  rows-readable = all-rows (λ (r : Row). AllAre Readable (r .entries)) k f ts (λ o. all-each (λ (a : ℤ). AllAre Readable (rowOf k f ts o a .entries)) (row-readable o) (idsOf k f ts o))
 
   -- entry j of row i
   pub entry-at : (i j : ℕ) (d : Effect) → i < length (rows k f ts) → j < length (getD (rows k f ts) i noRow .entries) → Readable (getD (getD (rows k f ts) i noRow .entries) j d)
-  entry-at i j d l m = all-at Readable (getD (rows k f ts) i noRow .entries) (all-at (λ (r : Row). AllOf Readable (r .entries)) (rows k f ts) rows-readable i noRow l) j d m
+  entry-at i j d l m = all-at Readable (getD (rows k f ts) i noRow .entries) (all-at (λ (r : Row). AllAre Readable (r .entries)) (rows k f ts) rows-readable i noRow l) j d m
 
 -- ---- where those of row i stand
 
@@ -48,7 +48,7 @@ abbrev pub allOf : List Row → List Effect
 allOf rs = flat (λ r. r .entries) rs
 
 -- all of them
-pub flat-readable : (rs : List Row) → AllOf (λ (r : Row). AllOf Readable (r .entries)) rs → AllOf Readable (allOf rs)
+pub flat-readable : (rs : List Row) → AllAre (λ (r : Row). AllAre Readable (r .entries)) rs → AllAre Readable (allOf rs)
 flat-readable [] a = tt
 flat-readable (r ∷ rs) a = all-append Readable (r .entries) (allOf rs) (a .0) (flat-readable rs (a .1))
 

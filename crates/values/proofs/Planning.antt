@@ -14,9 +14,9 @@ use Rattle.states.specs.Raised.{rowsOf}
 use Rattle.rows.specs.Parts.{ListsLaid}
 use Rattle.sources.specs.Planned.{countsOf}
 use Rattle.sources.specs.Ranged.{EntriesHeld}
-use Rattle.sources.specs.Rows.{countsBy, plannedNumbers, entriesOf, Dispatched}
+use Rattle.sources.specs.Rows.{countsBy, plannedNumbers, entriesOf, DispatchedRows}
 use Rattle.sources.proofs.Agreeing.{AllSourced, counts-agree, unplanned-counts, laid-held, laid-dispatched, planned-front}
-use Rattle.values.specs.SoundRows.{AllOf, Readable}
+use Rattle.values.specs.SoundRows.{AllAre, Readable}
 use Rattle.values.proofs.All.{all-at}
 use Rattle.values.proofs.Taken.{collected-fair}
 use Rattle.values.proofs.Entries.{flat-readable, rows-readable}
@@ -29,7 +29,7 @@ module _ (book fit : List ℕ) (pairs : List (List ℕ)) (sf : SoundFit fit pair
   abbrev f : Fit
   f = fitOf fit pairs
 
-  all-readable : AllOf Readable (entriesOf (rowsIn k f))
+  all-readable : AllAre Readable (entriesOf (rowsIn k f))
   unfolding rowsIn
   all-readable = flat-readable (rows k f (collectedIn k f)) (rows-readable k f (collectedIn k f) (collected-fair book fit pairs sf))
 
@@ -43,7 +43,7 @@ module _ (book fit : List ℕ) (pairs : List (List ℕ)) (sf : SoundFit fit pair
     entries-held : EntriesHeld (entriesOf (rowsIn k f)) e v
     entries-held = laid-held (entriesOf (rowsIn k f)) (L .entries) (L .values) (λ i d h. (readable-at i d h .origin, readable-at i d h .resistance)) entries-sourced
 
-    pub dispatched : Dispatched (rowsIn (bookOf book pairs) (fitOf fit pairs)) n r e v
+    pub dispatched : DispatchedRows (rowsIn (bookOf book pairs) (fitOf fit pairs)) n r e v
     dispatched = laid-dispatched (rowsIn k f) n same (L .rows) entries-held
 
     module _ (room : ℕ) where

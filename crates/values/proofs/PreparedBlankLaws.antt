@@ -15,7 +15,7 @@ use Rattle.sources.specs.Shown.{filled, places, overlaid, shown}
 use Rattle.sources.specs.Planned.{countsOf}
 use Rattle.memory.specs.Memory.{valueColumn}
 use Rattle.memory.specs.Holding.{Holds}
-use Rattle.values.specs.SoundRows.{AllOf}
+use Rattle.values.specs.SoundRows.{AllAre}
 use Rattle.values.proofs.All.{all-append, all-take}
 
 -- ---- no source rows
@@ -24,17 +24,17 @@ module _ (A : Type 0) where
   abbrev Missing : Option A → Type 0
   Missing o = o ≡ none
 
-  filled-none : (n : ℕ) → AllOf Missing (filled {A = A} n [])
+  filled-none : (n : ℕ) → AllAre Missing (filled {A = A} n [])
   filled-none zero = tt
   filled-none (suc n) = (refl, filled-none n)
 
-  places-none : (ns : List ℕ) (rs : List Row) → AllOf Missing (places {A = A} ns (map (λ r. []) rs))
+  places-none : (ns : List ℕ) (rs : List Row) → AllAre Missing (places {A = A} ns (map (λ r. []) rs))
   places-none [] rs = tt
   places-none (n ∷ ns) [] = all-append Missing (filled n []) (places ns []) (filled-none n) (places-none ns [])
   places-none (n ∷ ns) (r ∷ rs) = all-append Missing (filled n []) (places ns (map (λ x. []) rs)) (filled-none n) (places-none ns rs)
 
   module _ {B : Type 0} (enc : A → B) where
-    overlaid-none : (l : List (Option A)) (c : List B) → AllOf Missing l → overlaid enc l c ≡ c
+    overlaid-none : (l : List (Option A)) (c : List B) → AllAre Missing l → overlaid enc l c ≡ c
     overlaid-none [] c a = refl
     overlaid-none (x ∷ l) [] a = refl
     overlaid-none (none ∷ l) (b ∷ c) a = ap (λ (r : List B). b ∷ r) (overlaid-none l c (a .1))

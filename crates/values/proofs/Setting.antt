@@ -31,7 +31,7 @@ use Rattle.reading.proofs.Walks.{objects-climb, turns-are}
 use Rattle.sources.specs.declared.Recording.{Recording}
 use Rattle.sources.specs.Keeping.{RunOf}
 use Rattle.sources.specs.Planned.{countsOf}
-use Rattle.sources.specs.Rows.{countsBy, plannedNumbers, Dispatched, Planning}
+use Rattle.sources.specs.Rows.{countsBy, plannedNumbers, DispatchedRows, Planning}
 use Rattle.sources.proofs.Agreeing.{planned-front}
 use Rattle.sources.proofs.Numbers.{planned-long, planned-held, dispatched-long}
 use Rattle.memory.specs.Holding.{tables, Holds, Tells}
@@ -45,7 +45,7 @@ use Rattle.values.proofs.Told.{told}
 use Rattle.values.specs.declared.walk.Valued.{Valued}
 use Rattle.values.specs.declared.walk.Valued.the-variants as answer
 use Rattle.values.specs.Starting.{Walkable, ValuedAs}
-use Rattle.values.specs.Setting.{plannedRows, Listed, Set, SetAs}
+use Rattle.values.specs.Setting.{plannedRows, RowsListed, Set, SetAs}
 
 -- where nothing is recorded the rows stay, and where it is they are planned
 pub planned-is : (t u : Bool) → t ≡ u → (n : ℕ) (rs : List Row) (st r : List (List ℕ)) {r′ : List (List ℕ)} → r′ ≡ plannedRows u n rs st r → r′ ≡ plannedRows t n rs st r
@@ -56,7 +56,7 @@ module _ (k : Book) (f : Fit) (room : ℕ) where
   unfolding worldOf
   world-rows = refl
 
-module _ (book fit : List ℕ) (pairs : List (List ℕ)) (sb : SoundBook book pairs) (sf : SoundFit fit pairs) (n : ℕ) (run : Recording) {st r : List (List ℕ)} {b : List Float} {e : List (List ℕ)} {v : List Float} (h : Listed (bookOf book pairs) (fitOf fit pairs) n run st r b e v) where
+module _ (book fit : List ℕ) (pairs : List (List ℕ)) (sb : SoundBook book pairs) (sf : SoundFit fit pairs) (n : ℕ) (run : Recording) {st r : List (List ℕ)} {b : List Float} {e : List (List ℕ)} {v : List Float} (h : RowsListed (bookOf book pairs) (fitOf fit pairs) n run st r b e v) where
   abbrev k : Book
   k = bookOf book pairs
 
@@ -72,7 +72,7 @@ module _ (book fit : List ℕ) (pairs : List (List ℕ)) (sb : SoundBook book pa
   abbrev numbers : List (List ℕ)
   numbers = plannedNumbers 0 0 rs (countsOf world)
 
-  pub is-dispatched : Dispatched (rowsIn (bookOf book pairs) (fitOf fit pairs)) n r e v
+  pub is-dispatched : DispatchedRows (rowsIn (bookOf book pairs) (fitOf fit pairs)) n r e v
   is-dispatched = dispatched book fit pairs sf n (h .count) (h .lists)
 
   pub is-planning : Planning n r e v

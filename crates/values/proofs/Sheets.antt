@@ -18,7 +18,7 @@ use Rattle.reading.specs.Held.{noRow}
 use Rattle.reading.proofs.Ascends.{rows-ascend}
 use Rattle.reading.specs.Order.{owned}
 use Rattle.reading.proofs.Owners.{rows-owned}
-use Rattle.values.specs.SoundRows.{AllOf, Fair, SoundRows}
+use Rattle.values.specs.SoundRows.{AllAre, Fair, SoundRows}
 use Rattle.values.proofs.All.{all-weaker}
 use Rattle.values.proofs.Bases.{rows-finite, rows-narrow}
 use Rattle.values.proofs.Taken.{few-objects, collected-fair}
@@ -36,7 +36,7 @@ module _ (book fit : List ℕ) (pairs : List (List ℕ)) (sb : SoundBook book pa
   abbrev f : Fit
   f = fitOf fit pairs
 
-  module _ (ts : List Pass2Effect) (h : AllOf Fair ts) where
+  module _ (ts : List Pass2Effect) (h : AllAre Fair ts) where
     rows-object : (i : ℕ) → i < length (rows k f ts) → getD (rows k f ts) i noRow .object < 1024
     rows-object = object-few (rows k f ts) (length (f .objects)) (few-objects fit pairs sf) (rows-owned k f ts (numbered fit pairs))
 

@@ -15,11 +15,11 @@ use Rattle.rules.specs.Value.{World, Mem, Read, Reader, setValue, calculate, va
 use Rattle.rules.specs.declared.Ask.{Ask}
 use Rattle.reading.specs.Held.{noRow, RowsHeld}
 use Rattle.sources.proofs.Results.{apart, got, then}
-use Rattle.memory.specs.Memory.{valueAt, Grows, Growing}
+use Rattle.memory.specs.Memory.{valueAt, Grows, GrowingReader}
 use Rattle.memory.specs.Steps.{evaluation}
 use Rattle.memory.proofs.Growth.{grows-same, grows-on, calculate-grows, value-grows}
 use Rattle.memory.proofs.Readings.{known, deep, starting, its-row, calculate-evaluation}
-use Rattle.values.specs.Complete.{Valued, AllValued, askOf, AllAsked}
+use Rattle.values.specs.Complete.{HasValue, AllValued, askOf, AllAsked}
 
 pub valued-grows : (w : World) (d : ℕ) (starts : List Ask) (m m′ : Mem) → valued w d starts m ≡ ok m′ → Grows m m′
 unfolding valued
@@ -29,7 +29,7 @@ valued-grows w d (a ∷ r) m m′ e =
     grows-on (value-grows w d (a .object) (a .«attribute_id») m (t .given) (t .first)) (valued-grows w d r (t .given .mem) m′ (t .rest))
 
 -- a row that is calculated has what the calculation gave
-pub calculated-valued : (w : World) (read : Reader) → Growing read → (i : ℕ) (row : Row) (m : Mem) (q : Read) → i < length (m .values) → valueAt m i ≡ none
+pub calculated-valued : (w : World) (read : Reader) → GrowingReader read → (i : ℕ) (row : Row) (m : Mem) (q : Read) → i < length (m .values) → valueAt m i ≡ none
     → calculate w read i row m ≡ ok q → valueAt (q .mem) i ≡ some (q .value)
 calculated-valued w read growing i row m q h n e =
     let t = then (evaluation w read i row (setValue i (row .base) m)) _ q (sym (calculate-evaluation w read i row m) ∙ e) in
@@ -56,7 +56,7 @@ module _ (w : World) {c : List (List ℕ)} (H : RowsHeld (w .rows) c) where
 
   -- row i is start j
   asked-valued : (d : ℕ) (starts : List Ask) (m m′ : Mem) → valued w d starts m ≡ ok m′ → length (m .values) ≡ length (w .rows) → (i : ℕ) → i < length (w .rows)
-      → (j : ℕ) → j < length starts → getD starts j (askOf noRow) ≡ askOf (getD (w .rows) i noRow) → Valued m′ i
+      → (j : ℕ) → j < length starts → getD starts j (askOf noRow) ≡ askOf (getD (w .rows) i noRow) → HasValue m′ i
   unfolding valued
   asked-valued d [] m m′ e l i h j b p = absurd (not-suc-le-zero b)
   asked-valued d (a ∷ r) m m′ e l i h zero b p =

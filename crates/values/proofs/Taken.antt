@@ -32,7 +32,7 @@ use Rattle.collect.proofs.Taking.{each-at}
 use Rattle.collect.proofs.Comes.{each-collects}
 use Rattle.collect.proofs.Bounds.{bounded-at}
 use Rattle.reading.specs.Held.{NarrowOrigin, NarrowId, Sourced}
-use Rattle.values.specs.SoundRows.{AllOf, Fair}
+use Rattle.values.specs.SoundRows.{AllAre, Fair}
 use Rattle.values.proofs.All.{all-by}
 
 -- a sound fit has at most 1,024 objects
@@ -89,7 +89,7 @@ module _ (book fit : List ℕ) (pairs : List (List ℕ)) (s : SoundFit fit pairs
         valued = collects-finite k f (buffs-good f (s .good)) t c;
       }
 
-  pub collected-fair : AllOf Fair (collectedIn (bookOf book pairs) (fitOf fit pairs))
+  pub collected-fair : AllAre Fair (collectedIn (bookOf book pairs) (fitOf fit pairs))
   unfolding collectedIn
   collected-fair =
       all-by Fair (takenOf (moves k f)) (λ i d h. fair (getD (takenOf (moves k f)) i d) (bounded-at book fit pairs s i d h) (each-at (Collects k f) (moves k f) (each-collects k f) i d h))

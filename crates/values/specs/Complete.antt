@@ -29,13 +29,13 @@ pub record Long (w : World) (m : Mem) : Type 0 where
   pub sources : length (m .sources) ≡ length (w .rows)
 
 -- row i has a value
-pub record Valued (m : Mem) (i : ℕ) : Type 0 where
+pub record HasValue (m : Mem) (i : ℕ) : Type 0 where
   pub value : Float
   pub is : valueAt m i ≡ some value
 
 -- each row has one
 abbrev pub AllValued : World → Mem → Type 0
-AllValued w m = (i : ℕ) → i < length (w .rows) → Valued m i
+AllValued w m = (i : ℕ) → i < length (w .rows) → HasValue m i
 
 -- a row without a value has no source rows; one with a value has all that are planned
 abbrev pub Clean : Mem → Type 0

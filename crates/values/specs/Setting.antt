@@ -7,6 +7,8 @@ use mathlib.Core.Option.{Option, Option·getD}
 use lib.Dec.{eqb}
 use lib.Ieee.{Float}
 use lib.ListN.{length, drop}
+use denote.Ref.{now}
+use Rattle.columns.specs.Lending.{LentColumn}
 use Rattle.laws.specs.Columns.{Col}
 use Rattle.laws.specs.Floats.{zeroF}
 use Rattle.rules.specs.Answer.{Res, ok, refused}
@@ -29,7 +31,7 @@ plannedRows true n rs st r = plannedNumbers 0 0 rs (countsBy st rs) ++ drop n r
 plannedRows false n rs st r = r
 
 -- the n rows of the sheet are laid, with their entries, over some columns, and its states are there
-pub record Listed (k : Book) (f : Fit) (n : ℕ) (run : Recording) (st r : List (List ℕ)) (b : List Float) (e : List (List ℕ)) (v : List Float) : Type 0 where
+pub record RowsListed (k : Book) (f : Fit) (n : ℕ) (run : Recording) (st r : List (List ℕ)) (b : List Float) (e : List (List ℕ)) (v : List Float) : Type 0 where
   pub rows₀ : List (List ℕ)
   pub bases₀ : List Float
   pub entries₀ : List (List ℕ)
@@ -53,3 +55,9 @@ SetAs rs (ok m) (valued.At used) r₀ r v₀ v s₀ s g₀ g = Set rs m used r�
 SetAs rs (ok m) (valued.Refused z) r₀ r v₀ v s₀ s g₀ g = ⊥
 SetAs rs (refused y) (valued.At used) r₀ r v₀ v s₀ s g₀ g = ⊥
 SetAs rs (refused y) (valued.Refused z) r₀ r v₀ v s₀ s g₀ g = z ≡ y
+
+-- of the sheet's rows in the columns that are only read, the others hold what the definition's answer a says
+abbrev pub SetGives : Book → Fit → ℕ → Recording → LentColumn (List ℕ) → LentColumn Float → LentColumn (List ℕ) → LentColumn Float → LentColumn (List ℕ) → LentColumn Float → LentColumn (List ℕ) → LentColumn (List Float) → Valued → Res Mem → Type 0
+SetGives k f n run states bases entries entryValues rows values sources floats r a =
+    (h : RowsListed k f n run (now (states .entry)) (now (rows .entry)) (now (bases .entry)) (now (entries .entry)) (now (entryValues .entry)))
+    → SetAs (rowsIn k f) a r (h .rows₀) (now (rows .exit)) (now (values .entry)) (now (values .exit)) (now (sources .entry)) (now (sources .exit)) (now (floats .entry)) (now (floats .exit))

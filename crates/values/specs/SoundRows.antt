@@ -16,9 +16,9 @@ use Rattle.reading.specs.Held.{NarrowOrigin, NarrowId, Sourced, noRow, ascendin
 use Rattle.memory.specs.Holding.{Good}
 
 -- what holds of every element
-abbrev pub AllOf : {A : Type 0} → (A → Type 0) → List A → Type 0
-AllOf P [] = Unit {0}
-AllOf P (x ∷ xs) = P x × AllOf P xs
+abbrev pub AllAre : {A : Type 0} → (A → Type 0) → List A → Type 0
+AllAre P [] = Unit {0}
+AllAre P (x ∷ xs) = P x × AllAre P xs
 
 -- a collected effect: its ids have 32 bits, its source is an object, and what a buff gives is finite
 pub record Fair (t : Pass2Effect) : Type 0 where

@@ -7,8 +7,8 @@ ghost use lib.ListN.{length, replicate, drop};
 
 // No value is there yet: the first n are NaN.
 pub fn unstarted(values: &mut [f64], n: usize)
-    requires { ⌜ n ≤ length (now values) ⌝ }
-    ensures { λ _. ⌜ now (values .exit) ≡ replicate n nan ++ drop n (now (values .entry)) ⌝ }
+    requires inside { ⌜ n ≤ length (now values) ⌝ }
+    ensures defined { λ _. ⌜ now (values .exit) ≡ replicate n nan ++ drop n (now (values .entry)) ⌝ }
 {
     let none = 0.0 / 0.0;
     let mut k: usize = 0;

@@ -20,8 +20,8 @@ ghost use Rattle.rules.specs.Sheet.{bookOf, fitOf};
 ghost use Rattle.rules.specs.Dispatch.{Row};
 ghost use Rattle.rules.specs.Outcome.{blank, rowsIn, startsOf, valued, worldOf};
 ghost use Rattle.info.specs.Sound.{SoundBook, SoundFit};
-ghost use Rattle.sources.specs.Rows.{Dispatched, Planning};
-ghost use Rattle.values.specs.Setting.{plannedRows, Listed, SetAs};
+ghost use Rattle.sources.specs.Rows.{DispatchedRows, Planning};
+ghost use Rattle.values.specs.Setting.{plannedRows, RowsListed, SetGives};
 
 // Where source rows are recorded, first and count in list 5 of the first n rows.
 fn plan_sources(
@@ -32,8 +32,10 @@ fn plan_sources(
     n: usize,
     recording: bool,
 )
-    requires { ⌜ Planning n (now rows) (now entries) (now values) ⌝ }
-    ensures { λ _. ⌜ ((rs : List Row) → Dispatched rs n (now (rows .entry)) (now (entries .entry)) (now (values .entry)) → now (rows .exit) ≡ plannedRows recording n rs (now (states .entry)) (now (rows .entry))) ⌝ }
+    requires planning { ⌜ Planning n (now rows) (now entries) (now values) ⌝ }
+    ensures defined { λ _.
+        ⌜ ((rs : List Row) → DispatchedRows rs n (now (rows .entry)) (now (entries .entry)) (now (values .entry))
+        → now (rows .exit) ≡ plannedRows recording n rs (now (states .entry)) (now (rows .entry))) ⌝ }
 {
     if recording {
         set_sources(rows, entries, values, states, n);
@@ -56,12 +58,17 @@ pub fn set_values(
     n: usize,
     run: Recording,
 ) -> Valued
-    requires { ⌜ SoundBook (now book) (now pairs) ⌝ }
-    requires { ⌜ SoundFit (now fit) (now pairs) ⌝ }
-    requires { ⌜ Listed (bookOf (now book) (now pairs)) (fitOf (now fit) (now pairs)) n run (now states) (now rows) (now bases) (now entries) (now «entry_values») ⌝ }
-    requires { ⌜ (n ≤ length (now values)) × (n < 2 ^ 32) ⌝ }
-    requires { ⌜ (run .room ≤ length (now sources)) × (run .room ≤ length (now floats)) × (run .room ≤ 4294967295) ⌝ }
-    ensures { λ r. ⌜ ((h : Listed (bookOf (now (book .entry)) (now (pairs .entry))) (fitOf (now (fit .entry)) (now (pairs .entry))) n run (now (states .entry)) (now (rows .entry)) (now (bases .entry)) (now (entries .entry)) (now («entry_values» .entry))) → SetAs (rowsIn (bookOf (now (book .entry)) (now (pairs .entry))) (fitOf (now (fit .entry)) (now (pairs .entry)))) (valued (worldOf (bookOf (now (book .entry)) (now (pairs .entry))) (fitOf (now (fit .entry)) (now (pairs .entry))) (run .room)) (fitOf (now (fit .entry)) (now (pairs .entry)) .depth) (startsOf (fitOf (now (fit .entry)) (now (pairs .entry))) (rowsIn (bookOf (now (book .entry)) (now (pairs .entry))) (fitOf (now (fit .entry)) (now (pairs .entry))))) (blank (rowsIn (bookOf (now (book .entry)) (now (pairs .entry))) (fitOf (now (fit .entry)) (now (pairs .entry)))))) r (h .rows₀) (now (rows .exit)) (now (values .entry)) (now (values .exit)) (now (sources .entry)) (now (sources .exit)) (now (floats .entry)) (now (floats .exit))) ⌝ }
+    requires sound_book { ⌜ SoundBook (now book) (now pairs) ⌝ }
+    requires sound_fit { ⌜ SoundFit (now fit) (now pairs) ⌝ }
+    requires listed { ⌜ RowsListed (bookOf (now book) (now pairs)) (fitOf (now fit) (now pairs)) n run
+        (now states) (now rows) (now bases) (now entries) (now «entry_values») ⌝ }
+    requires few { ⌜ (n ≤ length (now values)) × (n < 2 ^ 32) ⌝ }
+    requires roomy { ⌜ (run .room ≤ length (now sources)) × (run .room ≤ length (now floats)) × (run .room ≤ 4294967295) ⌝ }
+    ensures defined { λ r.
+        let k = bookOf (now (book .entry)) (now (pairs .entry)) in
+        let f = fitOf (now (fit .entry)) (now (pairs .entry)) in
+        ⌜ SetGives k f n run states bases entries «entry_values» rows values sources floats r
+        (valued (worldOf k f (run .room)) (f .depth) (startsOf f (rowsIn k f)) (blank (rowsIn k f))) ⌝ }
 {
     plan_sources(rows, entries, entry_values, states, n, run.recording);
     unstarted(values, n);

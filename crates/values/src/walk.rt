@@ -2,10 +2,13 @@
 use columns::AttributeRow;
 use columns::EntryRow;
 use columns::Limits;
+use columns::ROW_ATTRIBUTE;
+use columns::ROW_ENTRY_COUNT;
 use columns::SourceFloats;
 use columns::SourceRow;
 use columns::States;
 use columns::Stretches;
+use columns::TABLE_ASKS;
 use columns::TablePairs;
 use info::header::count_of;
 use info::header::depth_of;
@@ -28,12 +31,10 @@ ghost use Rattle.rules.specs.Outcome.{valued, startsOf, walkOrder};
 ghost use Rattle.rules.specs.Sheet.{fitOf};
 ghost use Rattle.rules.specs.Value.{valueOf};
 ghost use Rattle.info.specs.Sound.{SoundFit};
-ghost use Rattle.reading.specs.Order.{owned};
 ghost use Rattle.memory.specs.Steps.{rowAt};
-ghost use Rattle.memory.specs.Holding.{tables, Ready};
-ghost use Rattle.memory.specs.Answers.{Returns};
+ghost use Rattle.pass_3.specs.Calls.{lent, read, ReadyNow, Gives};
 ghost use Rattle.values.specs.Complete.{askOf};
-ghost use Rattle.values.specs.Starting.{Walkable, Untouched, ValuedAs};
+ghost use Rattle.values.specs.Starting.{Untouched, StartsGive, WalkableNow, WalkGives};
 
 // How many source rows there are, or the refusal.
 pub enum Valued {
@@ -58,11 +59,15 @@ fn asks(
     run: Recording,
     fit: &[u8],
 ) -> Valued
-    requires { ⌜ Ready (tables (now book) (now pairs) (now states) (now stretches) (now limits) (now rows) (now bases) (now entries) (now «entry_values»)) run (now values) (now sources) (now floats) 0 ⌝ }
-    requires { ⌜ SoundFit (now fit) (now pairs) ⌝ }
-    ensures { λ r. ⌜ ((h : Ready (tables (now (book .entry)) (now (pairs .entry)) (now (states .entry)) (now (stretches .entry)) (now (limits .entry)) (now (rows .entry)) (now (bases .entry)) (now (entries .entry)) (now («entry_values» .entry))) run (now (values .entry)) (now (sources .entry)) (now (floats .entry)) 0) → ValuedAs (h .world) (h .sources₀) (h .floats₀) (valued (h .world) (fitOf (now (fit .entry)) (now (pairs .entry)) .depth) (fitOf (now (fit .entry)) (now (pairs .entry)) .asks) (h .mem)) r (now (values .exit)) (now (sources .exit)) (now (floats .exit))) ⌝ }
+    requires holding { let t = lent book pairs states stretches limits rows bases entries «entry_values» in
+        ⌜ ReadyNow t values sources floats run 0 ⌝ }
+    requires sound { ⌜ SoundFit (now fit) (now pairs) ⌝ }
+    ensures defined { λ r.
+        let t = read book pairs states stretches limits rows bases entries «entry_values» in
+        let f = fitOf (now (fit .entry)) (now (pairs .entry)) in
+        ⌜ StartsGive t values sources floats run r (λ w. valued w (f .depth) (f .asks)) ⌝ }
 {
-    let n = count_of(pairs, 10);
+    let n = count_of(pairs, TABLE_ASKS);
     let depth = depth_of(fit);
     let mut used: u32 = 0;
     let mut i: usize = 0;
@@ -100,17 +105,17 @@ fn asks(
 
 // Whether a row's value is its base: it has no entries, its attribute has no limit, and depth is left.
 fn untouched(rows: &[AttributeRow], limits: &Limits, row: usize, left: u32) -> bool
-    requires { ⌜ row < length (now rows) ⌝ }
-    ensures { λ r. ⌜ (r ≡ true → Untouched (now (rows .entry)) (now (limits .entry)) row left) ⌝ }
+    requires within { ⌜ row < length (now rows) ⌝ }
+    ensures untouched { λ r. ⌜ (r ≡ true → Untouched (now (rows .entry)) (now (limits .entry)) row left) ⌝ }
 {
-    let count = rows[row][3];
+    let count = rows[row][ROW_ENTRY_COUNT];
     if count != 0 {
         return false;
     }
     if left == 0 {
         return false;
     }
-    let id = signed(rows[row][1]);
+    let id = signed(rows[row][ROW_ATTRIBUTE]);
     let limited = is_limited(limits, id);
     !limited
 }
@@ -134,9 +139,12 @@ fn walk_row(
     left: u32,
     used: u32,
 ) -> Got
-    requires { ⌜ Ready (tables (now book) (now pairs) (now states) (now stretches) (now limits) (now rows) (now bases) (now entries) (now «entry_values»)) run (now values) (now sources) (now floats) used ⌝ }
-    requires { ⌜ row < length (now rows) ⌝ }
-    ensures { λ r. ⌜ ((h : Ready (tables (now (book .entry)) (now (pairs .entry)) (now (states .entry)) (now (stretches .entry)) (now (limits .entry)) (now (rows .entry)) (now (bases .entry)) (now (entries .entry)) (now («entry_values» .entry))) run (now (values .entry)) (now (sources .entry)) (now (floats .entry)) used) → Returns (h .world) (h .sources₀) (h .floats₀) (valueOf (h .world) left (rowAt (h .world) row .object) (rowAt (h .world) row .id) (h .mem)) r (now (values .exit)) (now (sources .exit)) (now (floats .exit))) ⌝ }
+    requires holding { let t = lent book pairs states stretches limits rows bases entries «entry_values» in
+        ⌜ ReadyNow t values sources floats run used ⌝ }
+    requires within { ⌜ row < length (now rows) ⌝ }
+    ensures defined { λ r.
+        let t = read book pairs states stretches limits rows bases entries «entry_values» in
+        ⌜ Gives t values sources floats run used r (λ w. valueOf w left (rowAt w row .object) (rowAt w row .id)) ⌝ }
 {
     let v = values[row];
     if v == v {
@@ -186,9 +194,13 @@ fn walk(
     fit: &[u8],
     before: u32,
 ) -> Valued
-    requires { ⌜ Walkable (tables (now book) (now pairs) (now states) (now stretches) (now limits) (now rows) (now bases) (now entries) (now «entry_values»)) run (now values) (now sources) (now floats) before (now fit) ⌝ }
-    requires { ⌜ SoundFit (now fit) (now pairs) ⌝ }
-    ensures { λ r. ⌜ ((h : Walkable (tables (now (book .entry)) (now (pairs .entry)) (now (states .entry)) (now (stretches .entry)) (now (limits .entry)) (now (rows .entry)) (now (bases .entry)) (now (entries .entry)) (now («entry_values» .entry))) run (now (values .entry)) (now (sources .entry)) (now (floats .entry)) before (now (fit .entry))) → ValuedAs (h .ready .world) (h .ready .sources₀) (h .ready .floats₀) (valued (h .ready .world) (fitOf (now (fit .entry)) (now (pairs .entry)) .depth) (map askOf (walkOrder (fitOf (now (fit .entry)) (now (pairs .entry)) .objects) (h .ready .world .rows))) (h .ready .mem)) r (now (values .exit)) (now (sources .exit)) (now (floats .exit))) ⌝ }
+    requires holding { let t = lent book pairs states stretches limits rows bases entries «entry_values» in
+        ⌜ WalkableNow t values sources floats run before fit ⌝ }
+    requires sound { ⌜ SoundFit (now fit) (now pairs) ⌝ }
+    ensures defined { λ r.
+        let t = read book pairs states stretches limits rows bases entries «entry_values» in
+        let f = fitOf (now (fit .entry)) (now (pairs .entry)) in
+        ⌜ WalkGives t values sources floats run before fit r (λ w. valued w (f .depth) (map askOf (walkOrder (f .objects) (w .rows)))) ⌝ }
 {
     let n = rows.len();
     let depth = depth_of(fit);
@@ -224,7 +236,7 @@ fn walk(
     Valued::At(used)
 }
 
-// All of them.
+// The value of every row: the asks, then the walk.
 pub fn calculate_values(
     values: &mut [f64],
     sources: &mut [SourceRow],
@@ -241,9 +253,13 @@ pub fn calculate_values(
     run: Recording,
     fit: &[u8],
 ) -> Valued
-    requires { ⌜ Walkable (tables (now book) (now pairs) (now states) (now stretches) (now limits) (now rows) (now bases) (now entries) (now «entry_values»)) run (now values) (now sources) (now floats) 0 (now fit) ⌝ }
-    requires { ⌜ SoundFit (now fit) (now pairs) ⌝ }
-    ensures { λ r. ⌜ ((h : Walkable (tables (now (book .entry)) (now (pairs .entry)) (now (states .entry)) (now (stretches .entry)) (now (limits .entry)) (now (rows .entry)) (now (bases .entry)) (now (entries .entry)) (now («entry_values» .entry))) run (now (values .entry)) (now (sources .entry)) (now (floats .entry)) 0 (now (fit .entry))) → ValuedAs (h .ready .world) (h .ready .sources₀) (h .ready .floats₀) (valued (h .ready .world) (fitOf (now (fit .entry)) (now (pairs .entry)) .depth) (startsOf (fitOf (now (fit .entry)) (now (pairs .entry))) (h .ready .world .rows)) (h .ready .mem)) r (now (values .exit)) (now (sources .exit)) (now (floats .exit))) ⌝ }
+    requires holding { let t = lent book pairs states stretches limits rows bases entries «entry_values» in
+        ⌜ WalkableNow t values sources floats run 0 fit ⌝ }
+    requires sound { ⌜ SoundFit (now fit) (now pairs) ⌝ }
+    ensures defined { λ r.
+        let t = read book pairs states stretches limits rows bases entries «entry_values» in
+        let f = fitOf (now (fit .entry)) (now (pairs .entry)) in
+        ⌜ WalkGives t values sources floats run 0 fit r (λ w. valued w (f .depth) (startsOf f (w .rows))) ⌝ }
 {
     let asked = asks(
         values,

@@ -43,7 +43,7 @@ same-length-2 c = search needs
 
 returns : tie.Need-returns
 unfolding entered
-returns c = (λ w counts s₀ f₀ i row high op found g pv ps nv ns t b z k fit. note-goes w counts s₀ f₀ i row high op found g (whole pv ps nv ns (c .before .before .before .before .before .before .before .before .before .before .args .p)) _ _ _ _ k (b .row) (toSource (c .before .before .before .before .before .before .before .before .before .before .args .e) (c .before .before .before .before .before .before .before .before .before .before .args .v) false (c .before .before .before .before .before .before .before .before .before .before .args .e .quantity) false) (g .values) _ _ (whole pv ps nv ns (c .counted .result)) (rw (c .before .before .before .before .before .before .before .before .before .to-source .ensures, c .before .before .noted .given .1) at (c .before .before .before .before .before .before .note .ensures .0 w counts s₀ f₀ i row (g .mem) t b (k .keeping) (λ y. omega (arith, fit y)))) (c .counted .ensures .2 ∙ z) (c .counted .ensures .0) (c .counted .ensures .1) (rw (c .counted .ensures .3) (k .running)) (rw (c .counted .ensures .4) (k .positive)) (rw (c .counted .ensures .5) (k .negative)), omega (arith, c .counted .ensures .0, c .counted .ensures .1, (rw (c .before .before .noted .given .1) at (c .before .before .before .before .before .before .note .ensures .1)), c .before .before .before .before .before .before .before .before .before .before .pre))
+returns c = (λ w counts s₀ f₀ i row high op found g pv ps nv ns t b z k fit. note-goes w counts s₀ f₀ i row high op found g (whole pv ps nv ns (c .before .before .before .before .before .before .before .before .before .before .args .p)) _ _ _ _ k (b .row) (toSource (c .before .before .before .before .before .before .before .before .before .before .args .e) (c .before .before .before .before .before .before .before .before .before .before .args .strength) false (c .before .before .before .before .before .before .before .before .before .before .args .e .quantity) false) (g .values) _ _ (whole pv ps nv ns (c .counted .result)) (rw (c .before .before .before .before .before .before .before .before .before .to-source .ensures, c .before .before .noted .given .1) at (c .before .before .before .before .before .before .note .ensures .0 w counts s₀ f₀ i row (g .mem) t b (k .keeping) (λ y. omega (arith, fit y)))) (c .counted .ensures .2 ∙ z) (c .counted .ensures .0) (c .counted .ensures .1) (rw (c .counted .ensures .3) (k .running)) (rw (c .counted .ensures .4) (k .positive)) (rw (c .counted .ensures .5) (k .negative)), omega (arith, c .counted .ensures .0, c .counted .ensures .1, (rw (c .before .before .noted .given .1) at (c .before .before .before .before .before .before .note .ensures .1)), c .before .before .before .before .before .before .before .before .before .before .pre))
 
 same-length-3 : tie.Need-same-length-3
 same-length-3 c = search needs
@@ -53,7 +53,7 @@ same-length-4 c = search needs
 
 returns-2 : tie.Need-returns-2
 unfolding entered
-returns-2 c = (λ w counts s₀ f₀ i row high op found g pv ps nv ns t b z k fit. note-stops w counts s₀ f₀ i row high op found g (whole pv ps nv ns (c .before .before .before .before .before .before .before .before .before .before .args .p)) _ _ _ _ k (b .row) (toSource (c .before .before .before .before .before .before .before .before .before .before .args .e) (c .before .before .before .before .before .before .before .before .before .before .args .v) false (c .before .before .before .before .before .before .before .before .before .before .args .e .quantity) false) (g .values) _ (whole pv ps nv ns (c .stopped .result)) (rw (c .before .before .before .before .before .before .before .before .before .to-source .ensures, c .before .before .noted2 .given .1) at (c .before .before .before .before .before .before .note .ensures .0 w counts s₀ f₀ i row (g .mem) t b (k .keeping) (λ y. omega (arith, fit y)))) (c .stopped .ensures .2), omega (arith, c .stopped .ensures .0, c .stopped .ensures .1, c .before .before .before .before .before .before .before .before .before .before .pre))
+returns-2 c = (λ w counts s₀ f₀ i row high op found g pv ps nv ns t b z k fit. note-stops w counts s₀ f₀ i row high op found g (whole pv ps nv ns (c .before .before .before .before .before .before .before .before .before .before .args .p)) _ _ _ _ k (b .row) (toSource (c .before .before .before .before .before .before .before .before .before .before .args .e) (c .before .before .before .before .before .before .before .before .before .before .args .strength) false (c .before .before .before .before .before .before .before .before .before .before .args .e .quantity) false) (g .values) _ (whole pv ps nv ns (c .stopped .result)) (rw (c .before .before .before .before .before .before .before .before .before .to-source .ensures, c .before .before .noted2 .given .1) at (c .before .before .before .before .before .before .note .ensures .0 w counts s₀ f₀ i row (g .mem) t b (k .keeping) (λ y. omega (arith, fit y)))) (c .stopped .ensures .2), omega (arith, c .stopped .ensures .0, c .stopped .ensures .1, c .before .before .before .before .before .before .before .before .before .before .pre))
 
 pub add-idle-spec : {M : Type 1} → statement M
 add-idle-spec =

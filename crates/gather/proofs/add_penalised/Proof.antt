@@ -46,7 +46,7 @@ same-length-2 : tie.Need-same-length-2
 same-length-2 c = search needs
 
 returns : tie.Need-returns
-returns c = (λ w counts s₀ f₀ i row high op found g t b x z k fit. penalised-goes w counts s₀ f₀ i row high op found g (whole (c .before .before .before .before .before .before .before .before .before .before .before .before .before .before .before .args .positives .now) (c .before .before .before .before .before .before .before .before .before .before .before .before .before .before .before .args .positive-sources .now) (c .before .before .before .before .before .before .before .before .before .before .before .before .before .before .before .args .negatives .now) (c .before .before .before .before .before .before .before .before .before .before .before .before .before .before .before .args .negative-sources .now) (c .before .before .before .before .before .before .before .before .before .before .before .before .before .before .before .args .p)) _ _ _ _ k (b .row) (c .before .before .before .before .before .before .before .before .before .before .before .before .before .before .before .args .e) (c .before .before .before .before .before .before .before .before .before .before .before .before .before .before .before .args .v) (c .before .before .before .before .before .before .before .before .before .before .before .before .before .before .before .args .x) _ _ (whole (c .before .with-copies .last .0) (c .before .with-copies .last .1 .0) (c .before .with-copies .last .1 .1 .0) (c .before .with-copies .last .1 .1 .1 .0) (c .counted .result)) (whole (c .before .with-copies .last .0) (c .before .with-copies .last .1 .0) (c .before .with-copies .last .1 .1 .0) (c .before .with-copies .last .1 .1 .1 .0) (c .before .with-copies .result)) (rw (c .before .before .before .before .before .before .before .before .noted .given .1) at (c .before .before .before .before .before .before .before .before .before .before .before .before .note-penalised .ensures .0 w counts s₀ f₀ i row (g .mem) t b (k .keeping) fit)) z (c .before .with-copies .ensures .1 .0 .2) (c .before .with-copies .ensures .1 .0 .3) ((rw (sym (t .recording), c .before .before .copies-of .ensures) at (c .before .with-copies .ensures .0 (g .values) x (k .positive) (k .negative))) .0) ((rw (sym (t .recording), c .before .before .copies-of .ensures) at (c .before .with-copies .ensures .0 (g .values) x (k .positive) (k .negative))) .1) (c .counted .ensures .0) (c .counted .ensures .1) (c .counted .ensures .2) (c .counted .ensures .3) (rw (c .counted .ensures .4) refl) (rw (c .counted .ensures .5) refl), (omega (arith, c .counted .ensures .0, c .counted .ensures .1, (rw (c .before .before .before .before .before .before .before .before .noted .given .1) at (c .before .before .before .before .before .before .before .before .before .before .before .before .note-penalised .ensures .1)), c .before .before .before .before .before .before .before .before .before .before .before .before .before .before .before .pre .0), c .before .with-copies .ensures .1 .1))
+returns c = (λ w counts s₀ f₀ i row high op found g t b x z k fit. penalised-goes w counts s₀ f₀ i row high op found g (whole (c .before .before .before .before .before .before .before .before .before .before .before .before .before .before .before .args .positives .now) (c .before .before .before .before .before .before .before .before .before .before .before .before .before .before .before .args .positive-sources .now) (c .before .before .before .before .before .before .before .before .before .before .before .before .before .before .before .args .negatives .now) (c .before .before .before .before .before .before .before .before .before .before .before .before .before .before .before .args .negative-sources .now) (c .before .before .before .before .before .before .before .before .before .before .before .before .before .before .before .args .p)) _ _ _ _ k (b .row) (c .before .before .before .before .before .before .before .before .before .before .before .before .before .before .before .args .e) (c .before .before .before .before .before .before .before .before .before .before .before .before .before .before .before .args .strength) (c .before .before .before .before .before .before .before .before .before .before .before .before .before .before .before .args .x) _ _ (whole (c .before .with-copies .last .0) (c .before .with-copies .last .1 .0) (c .before .with-copies .last .1 .1 .0) (c .before .with-copies .last .1 .1 .1 .0) (c .counted .result)) (whole (c .before .with-copies .last .0) (c .before .with-copies .last .1 .0) (c .before .with-copies .last .1 .1 .0) (c .before .with-copies .last .1 .1 .1 .0) (c .before .with-copies .result)) (rw (c .before .before .before .before .before .before .before .before .noted .given .1) at (c .before .before .before .before .before .before .before .before .before .before .before .before .note-penalised .ensures .0 w counts s₀ f₀ i row (g .mem) t b (k .keeping) fit)) z (c .before .with-copies .ensures .1 .0 .2) (c .before .with-copies .ensures .1 .0 .3) ((rw (sym (t .recording), c .before .before .copies-of .ensures) at (c .before .with-copies .ensures .0 (g .values) x (k .positive) (k .negative))) .0) ((rw (sym (t .recording), c .before .before .copies-of .ensures) at (c .before .with-copies .ensures .0 (g .values) x (k .positive) (k .negative))) .1) (c .counted .ensures .0) (c .counted .ensures .1) (c .counted .ensures .2) (c .counted .ensures .3) (rw (c .counted .ensures .4) refl) (rw (c .counted .ensures .5) refl), (omega (arith, c .counted .ensures .0, c .counted .ensures .1, (rw (c .before .before .before .before .before .before .before .before .noted .given .1) at (c .before .before .before .before .before .before .before .before .before .before .before .before .note-penalised .ensures .1)), c .before .before .before .before .before .before .before .before .before .before .before .before .before .before .before .pre .0), c .before .with-copies .ensures .1 .1))
 
 same-length-3 : tie.Need-same-length-3
 same-length-3 c = search needs
@@ -55,7 +55,7 @@ same-length-4 : tie.Need-same-length-4
 same-length-4 c = search needs
 
 returns-2 : tie.Need-returns-2
-returns-2 c = (λ w counts s₀ f₀ i row high op found g t b x z k fit. penalised-stops w counts s₀ f₀ i row high op found g (whole (c .before .before .before .before .before .before .before .before .before .args .positives .now) (c .before .before .before .before .before .before .before .before .before .args .positive-sources .now) (c .before .before .before .before .before .before .before .before .before .args .negatives .now) (c .before .before .before .before .before .before .before .before .before .args .negative-sources .now) (c .before .before .before .before .before .before .before .before .before .args .p)) _ _ _ _ k (b .row) (c .before .before .before .before .before .before .before .before .before .args .e) (c .before .before .before .before .before .before .before .before .before .args .v) (c .before .before .before .before .before .before .before .before .before .args .x) _ (whole (c .before .before .before .before .before .before .before .before .before .args .positives .now) (c .before .before .before .before .before .before .before .before .before .args .positive-sources .now) (c .before .before .before .before .before .before .before .before .before .args .negatives .now) (c .before .before .before .before .before .before .before .before .before .args .negative-sources .now) (c .stopped .result)) (rw (c .before .before .noted2 .given .1) at (c .before .before .before .before .before .before .note-penalised .ensures .0 w counts s₀ f₀ i row (g .mem) t b (k .keeping) fit)) (c .stopped .ensures .2), (omega (arith, c .stopped .ensures .0, c .stopped .ensures .1, c .before .before .before .before .before .before .before .before .before .pre .0), c .before .before .before .before .before .before .before .before .before .pre .1))
+returns-2 c = (λ w counts s₀ f₀ i row high op found g t b x z k fit. penalised-stops w counts s₀ f₀ i row high op found g (whole (c .before .before .before .before .before .before .before .before .before .args .positives .now) (c .before .before .before .before .before .before .before .before .before .args .positive-sources .now) (c .before .before .before .before .before .before .before .before .before .args .negatives .now) (c .before .before .before .before .before .before .before .before .before .args .negative-sources .now) (c .before .before .before .before .before .before .before .before .before .args .p)) _ _ _ _ k (b .row) (c .before .before .before .before .before .before .before .before .before .args .e) (c .before .before .before .before .before .before .before .before .before .args .strength) (c .before .before .before .before .before .before .before .before .before .args .x) _ (whole (c .before .before .before .before .before .before .before .before .before .args .positives .now) (c .before .before .before .before .before .before .before .before .before .args .positive-sources .now) (c .before .before .before .before .before .before .before .before .before .args .negatives .now) (c .before .before .before .before .before .before .before .before .before .args .negative-sources .now) (c .stopped .result)) (rw (c .before .before .noted2 .given .1) at (c .before .before .before .before .before .before .note-penalised .ensures .0 w counts s₀ f₀ i row (g .mem) t b (k .keeping) fit)) (c .stopped .ensures .2), (omega (arith, c .stopped .ensures .0, c .stopped .ensures .1, c .before .before .before .before .before .before .before .before .before .pre .0), c .before .before .before .before .before .before .before .before .before .pre .1))
 
 pub add-penalised-spec : {M : Type 1} → statement M
 add-penalised-spec =

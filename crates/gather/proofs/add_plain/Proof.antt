@@ -48,7 +48,7 @@ same-length-2 c = search needs
 
 returns : tie.Need-returns
 unfolding values.unpenalised
-returns c = (λ w counts s₀ f₀ i row op found g pv ps nv ns t b x o z k fit. note-goes w counts s₀ f₀ i row (c .before .before .before .before .before .before .before .before .before .before .before .args .high) op found g (whole pv ps nv ns (c .before .before .before .before .before .before .before .before .before .before .before .args .p)) _ _ _ _ k (b .row) (toSource (c .before .before .before .before .before .before .before .before .before .before .before .args .e) (c .before .before .before .before .before .before .before .before .before .before .before .args .v) true (c .before .before .before .before .before .before .before .before .before .before .before .args .e .quantity) false) (withStack (c .before .before .before .before .before .before .before .before .before .before .before .args .x) (c .before .before .before .before .before .before .before .before .before .before .before .args .e .quantity) (g .values)) _ _ (whole pv ps nv ns (c .counted .result)) (rw (c .before .before .before .before .before .before .before .before .before .before .to-source .ensures, c .before .before .before .noted .given .1) at (c .before .before .before .before .before .before .before .note .ensures .0 w counts s₀ f₀ i row (g .mem) t b (k .keeping) (λ y. omega (arith, fit y)))) (c .counted .ensures .2 ∙ c .before .with-value .ensures .1 .2 ∙ z) (c .counted .ensures .0) (c .counted .ensures .1) (rw (c .counted .ensures .3, sym o) (c .before .with-value .ensures .0 found (g .values) x (rw o (k .running)))) (rw (c .counted .ensures .4, c .before .with-value .ensures .1 .3, stack-positive (c .before .before .before .before .before .before .before .before .before .before .before .args .x) (c .before .before .before .before .before .before .before .before .before .before .before .args .e .quantity) (g .values)) (k .positive)) (rw (c .counted .ensures .5, c .before .with-value .ensures .1 .4, stack-negative (c .before .before .before .before .before .before .before .before .before .before .before .args .x) (c .before .before .before .before .before .before .before .before .before .before .before .args .e .quantity) (g .values)) (k .negative)), omega (arith, c .counted .ensures .0, c .counted .ensures .1, (rw (c .before .before .before .noted .given .1) at (c .before .before .before .before .before .before .before .note .ensures .1)), c .before .before .before .before .before .before .before .before .before .before .before .pre))
+returns c = (λ w counts s₀ f₀ i row op found g pv ps nv ns t b x o z k fit. note-goes w counts s₀ f₀ i row (c .before .before .before .before .before .before .before .before .before .before .before .args .high) op found g (whole pv ps nv ns (c .before .before .before .before .before .before .before .before .before .before .before .args .p)) _ _ _ _ k (b .row) (toSource (c .before .before .before .before .before .before .before .before .before .before .before .args .e) (c .before .before .before .before .before .before .before .before .before .before .before .args .strength) true (c .before .before .before .before .before .before .before .before .before .before .before .args .e .quantity) false) (withStack (c .before .before .before .before .before .before .before .before .before .before .before .args .x) (c .before .before .before .before .before .before .before .before .before .before .before .args .e .quantity) (g .values)) _ _ (whole pv ps nv ns (c .counted .result)) (rw (c .before .before .before .before .before .before .before .before .before .before .to-source .ensures, c .before .before .before .noted .given .1) at (c .before .before .before .before .before .before .before .note .ensures .0 w counts s₀ f₀ i row (g .mem) t b (k .keeping) (λ y. omega (arith, fit y)))) (c .counted .ensures .2 ∙ c .before .with-value .ensures .1 .2 ∙ z) (c .counted .ensures .0) (c .counted .ensures .1) (rw (c .counted .ensures .3, sym o) (c .before .with-value .ensures .0 found (g .values) x (rw o (k .running)))) (rw (c .counted .ensures .4, c .before .with-value .ensures .1 .3, stack-positive (c .before .before .before .before .before .before .before .before .before .before .before .args .x) (c .before .before .before .before .before .before .before .before .before .before .before .args .e .quantity) (g .values)) (k .positive)) (rw (c .counted .ensures .5, c .before .with-value .ensures .1 .4, stack-negative (c .before .before .before .before .before .before .before .before .before .before .before .args .x) (c .before .before .before .before .before .before .before .before .before .before .before .args .e .quantity) (g .values)) (k .negative)), omega (arith, c .counted .ensures .0, c .counted .ensures .1, (rw (c .before .before .before .noted .given .1) at (c .before .before .before .before .before .before .before .note .ensures .1)), c .before .before .before .before .before .before .before .before .before .before .before .pre))
 
 same-length-3 : tie.Need-same-length-3
 same-length-3 c = search needs
@@ -58,7 +58,7 @@ same-length-4 c = search needs
 
 returns-2 : tie.Need-returns-2
 unfolding values.unpenalised
-returns-2 c = (λ w counts s₀ f₀ i row op found g pv ps nv ns t b x o z k fit. note-stops w counts s₀ f₀ i row (c .before .before .before .before .before .before .before .before .before .before .args .high) op found g (whole pv ps nv ns (c .before .before .before .before .before .before .before .before .before .before .args .p)) _ _ _ _ k (b .row) (toSource (c .before .before .before .before .before .before .before .before .before .before .args .e) (c .before .before .before .before .before .before .before .before .before .before .args .v) true (c .before .before .before .before .before .before .before .before .before .before .args .e .quantity) false) (withStack (c .before .before .before .before .before .before .before .before .before .before .args .x) (c .before .before .before .before .before .before .before .before .before .before .args .e .quantity) (g .values)) _ (whole pv ps nv ns (c .stopped .result)) (rw (c .before .before .before .before .before .before .before .before .before .to-source .ensures, c .before .before .noted2 .given .1) at (c .before .before .before .before .before .before .note .ensures .0 w counts s₀ f₀ i row (g .mem) t b (k .keeping) (λ y. omega (arith, fit y)))) (c .stopped .ensures .2), omega (arith, c .stopped .ensures .0, c .stopped .ensures .1, c .before .before .before .before .before .before .before .before .before .before .pre))
+returns-2 c = (λ w counts s₀ f₀ i row op found g pv ps nv ns t b x o z k fit. note-stops w counts s₀ f₀ i row (c .before .before .before .before .before .before .before .before .before .before .args .high) op found g (whole pv ps nv ns (c .before .before .before .before .before .before .before .before .before .before .args .p)) _ _ _ _ k (b .row) (toSource (c .before .before .before .before .before .before .before .before .before .before .args .e) (c .before .before .before .before .before .before .before .before .before .before .args .strength) true (c .before .before .before .before .before .before .before .before .before .before .args .e .quantity) false) (withStack (c .before .before .before .before .before .before .before .before .before .before .args .x) (c .before .before .before .before .before .before .before .before .before .before .args .e .quantity) (g .values)) _ (whole pv ps nv ns (c .stopped .result)) (rw (c .before .before .before .before .before .before .before .before .before .to-source .ensures, c .before .before .noted2 .given .1) at (c .before .before .before .before .before .before .note .ensures .0 w counts s₀ f₀ i row (g .mem) t b (k .keeping) (λ y. omega (arith, fit y)))) (c .stopped .ensures .2), omega (arith, c .stopped .ensures .0, c .stopped .ensures .1, c .before .before .before .before .before .before .before .before .before .before .pre))
 
 pub add-plain-spec : {M : Type 1} → statement M
 add-plain-spec =

@@ -35,7 +35,7 @@ same-length-2 : tie.Need-same-length-2
 same-length-2 c = search needs
 
 returns : tie.Need-returns
-returns c = (λ w counts s₀ f₀ i row op found g t b o e h z k fit. rw (with-penalty w i row (c .before .before .before .before .before .before .before .before .before .before .before .before .before .before .before .before .args .e) (c .before .before .before .before .before .before .before .before .before .before .before .before .before .before .before .before .args .v) g _ (sym (c .before .before .before .before .before .before .before .before .before .before .before .before .before .before .before .simplified .ensures) ∙ c .before .before .before .before .before .before .before .before .before .before .before .before .before .step .given .1) (ap (λ (y : Bool). c .before .before .before .before .before .before .before .before .before .before .before .before .before .before .before .before .args .e .penalty && y) (sym (c .before .before .before .before .before .before .before .before .before .before .before .has-penalty .ensures)) ∙ c .before .before .before .before .before .before .before .before .before .if1 .taken)) (c .before .before .add-penalised .ensures .0 w counts s₀ f₀ i row (c .before .before .before .before .before .before .before .before .before .before .before .before .before .before .before .before .args .high) op found g t b (finite-of (c .before .before .before .before .before .before .before .before .before .before .before .before .before .before .before .before .args .e .operator) (c .before .before .before .before .before .before .before .before .before .before .before .before .before .before .before .before .args .v) _ h (sym (c .before .before .before .before .before .before .before .before .before .before .before .before .before .before .before .simplified .ensures) ∙ c .before .before .before .before .before .before .before .before .before .before .before .before .before .step .given .1)) z k (λ y. rw (count-penalty (c .before .before .before .before .before .before .before .before .before .before .before .before .before .before .before .before .args .e) (ap (λ (y : Bool). c .before .before .before .before .before .before .before .before .before .before .before .before .before .before .before .before .args .e .penalty && y) (sym (c .before .before .before .before .before .before .before .before .before .before .before .has-penalty .ensures)) ∙ c .before .before .before .before .before .before .before .before .before .if1 .taken)) at (fit y))), c .before .before .add-penalised .ensures .1)
+returns c = (λ w counts s₀ f₀ i row op found g t b o e h z k fit. rw (with-penalty w i row (c .before .before .before .before .before .before .before .before .before .before .before .before .before .before .before .before .args .e) (c .before .before .before .before .before .before .before .before .before .before .before .before .before .before .before .before .args .strength) g _ (sym (c .before .before .before .before .before .before .before .before .before .before .before .before .before .before .before .simplified .ensures) ∙ c .before .before .before .before .before .before .before .before .before .before .before .before .before .step .given .1) (ap (λ (y : Bool). c .before .before .before .before .before .before .before .before .before .before .before .before .before .before .before .before .args .e .penalty && y) (sym (c .before .before .before .before .before .before .before .before .before .before .before .has-penalty .ensures)) ∙ c .before .before .before .before .before .before .before .before .before .if1 .taken)) (c .before .before .add-penalised .ensures .0 w counts s₀ f₀ i row (c .before .before .before .before .before .before .before .before .before .before .before .before .before .before .before .before .args .high) op found g t b (finite-of (c .before .before .before .before .before .before .before .before .before .before .before .before .before .before .before .before .args .e .operator) (c .before .before .before .before .before .before .before .before .before .before .before .before .before .before .before .before .args .strength) _ h (sym (c .before .before .before .before .before .before .before .before .before .before .before .before .before .before .before .simplified .ensures) ∙ c .before .before .before .before .before .before .before .before .before .before .before .before .before .step .given .1)) z k (λ y. rw (count-penalty (c .before .before .before .before .before .before .before .before .before .before .before .before .before .before .before .before .args .e) (ap (λ (y : Bool). c .before .before .before .before .before .before .before .before .before .before .before .before .before .before .before .before .args .e .penalty && y) (sym (c .before .before .before .before .before .before .before .before .before .before .before .has-penalty .ensures)) ∙ c .before .before .before .before .before .before .before .before .before .if1 .taken)) at (fit y))), c .before .before .add-penalised .ensures .1)
 
 add-plain-requires : tie.Need-add-plain-requires
 add-plain-requires c κs = search needs
@@ -53,10 +53,10 @@ same-length-4 : tie.Need-same-length-4
 same-length-4 c = search needs
 
 returns-2 : tie.Need-returns-2
-returns-2 c = (λ w counts s₀ f₀ i row op found g t b o e h z k fit. rw (without-penalty w i row (c .before .before .before .before .before .before .before .before .before .before .before .before .args .e) (c .before .before .before .before .before .before .before .before .before .before .before .before .args .v) g _ (sym (c .before .before .before .before .before .before .before .before .before .before .before .simplified .ensures) ∙ c .before .before .before .before .before .before .before .before .before .step .given .1) (ap (λ (y : Bool). c .before .before .before .before .before .before .before .before .before .before .before .before .args .e .penalty && y) (sym (c .before .before .before .before .before .before .before .has-penalty .ensures)) ∙ c .before .before .before .before .before .if1 .left)) (c .before .before .add-plain .ensures .0 w counts s₀ f₀ i row op found g _ _ _ _ t b (finite-of (c .before .before .before .before .before .before .before .before .before .before .before .before .args .e .operator) (c .before .before .before .before .before .before .before .before .before .before .before .before .args .v) _ h (sym (c .before .before .before .before .before .before .before .before .before .before .before .simplified .ensures) ∙ c .before .before .before .before .before .before .before .before .before .step .given .1)) e z k (λ y. rw (count-plain (c .before .before .before .before .before .before .before .before .before .before .before .before .args .e) (ap (λ (y : Bool). c .before .before .before .before .before .before .before .before .before .before .before .before .args .e .penalty && y) (sym (c .before .before .before .before .before .before .before .has-penalty .ensures)) ∙ c .before .before .before .before .before .if1 .left)) at (fit y))), (c .before .before .add-plain .ensures .1, c .before .before .before .before .before .before .before .before .before .before .before .before .pre .1))
+returns-2 c = (λ w counts s₀ f₀ i row op found g t b o e h z k fit. rw (without-penalty w i row (c .before .before .before .before .before .before .before .before .before .before .before .before .args .e) (c .before .before .before .before .before .before .before .before .before .before .before .before .args .strength) g _ (sym (c .before .before .before .before .before .before .before .before .before .before .before .simplified .ensures) ∙ c .before .before .before .before .before .before .before .before .before .step .given .1) (ap (λ (y : Bool). c .before .before .before .before .before .before .before .before .before .before .before .before .args .e .penalty && y) (sym (c .before .before .before .before .before .before .before .has-penalty .ensures)) ∙ c .before .before .before .before .before .if1 .left)) (c .before .before .add-plain .ensures .0 w counts s₀ f₀ i row op found g _ _ _ _ t b (finite-of (c .before .before .before .before .before .before .before .before .before .before .before .before .args .e .operator) (c .before .before .before .before .before .before .before .before .before .before .before .before .args .strength) _ h (sym (c .before .before .before .before .before .before .before .before .before .before .before .simplified .ensures) ∙ c .before .before .before .before .before .before .before .before .before .step .given .1)) e z k (λ y. rw (count-plain (c .before .before .before .before .before .before .before .before .before .before .before .before .args .e) (ap (λ (y : Bool). c .before .before .before .before .before .before .before .before .before .before .before .before .args .e .penalty && y) (sym (c .before .before .before .before .before .before .before .has-penalty .ensures)) ∙ c .before .before .before .before .before .if1 .left)) at (fit y))), (c .before .before .add-plain .ensures .1, c .before .before .before .before .before .before .before .before .before .before .before .before .pre .1))
 
 returns-3 : tie.Need-returns-3
-returns-3 c = (λ w counts s₀ f₀ i row op found g t b o e h z k fit. rw (not-finite w i row (c .before .before .before .before .args .e) (c .before .before .before .before .args .v) g (sym (c .before .before .before .simplified .ensures) ∙ c .before .enum-told .given .1), o) (c .stopped .ensures .2), (omega (arith, c .stopped .ensures .0, c .stopped .ensures .1, c .before .before .before .before .pre .0), c .before .before .before .before .pre .1))
+returns-3 c = (λ w counts s₀ f₀ i row op found g t b o e h z k fit. rw (not-finite w i row (c .before .before .before .before .args .e) (c .before .before .before .before .args .strength) g (sym (c .before .before .before .simplified .ensures) ∙ c .before .enum-told .given .1), o) (c .stopped .ensures .2), (omega (arith, c .stopped .ensures .0, c .stopped .ensures .1, c .before .before .before .before .pre .0), c .before .before .before .before .pre .1))
 
 pub add-running-spec : {M : Type 1} → statement M
 add-running-spec =

@@ -11,4 +11,4 @@ use Rattle.rules.specs.Bytes.{signed}
 
 pub i32-at-spec : {M : Type 1} → statement M
 i32-at-spec =
-    tie.close (tie.spec (λ c κs. search needs) (λ c κs. search needs) (λ c. toZ-ofZ w32 (c .signed-of .result) (sfits-of (c .signed-of .ok)) ∙ c .signed-of .ensures ∙ ap signed (c .before .u32-at .ensures)))
+    tie.close (tie.spec (λ c κs. search needs) (λ c κs. search needs) (λ c. toZ-ofZ w32 (c .signed .result) (sfits-of (c .signed .ok)) ∙ c .signed .ensures .0 ∙ ap signed (c .before .u32-at .ensures)))

@@ -8,4 +8,4 @@ use Rattle.reading.proofs.Shifted.{past-ship, walked-own, walked-projec
 pub walked-spec : {M : Type 1} → statement M
 walked-spec =
     tie.close
-    (tie.spec (λ c. walked-own (c .before .before .before .args .t) (c .before .before .before .args .k) (c .if1 .taken)) (λ c. search needs) (λ c. search needs) (λ c. past-ship (c .before .before .before .before .before .before .before .args .t) (c .before .before .before .before .before .before .before .args .k) (c .before .before .before .before .if1 .left)) (λ c. search needs) (λ c. walked-projected (c .before .before .before .before .before .before .before .before .args .t) (c .before .before .before .before .before .before .before .before .args .k) (c .before .before .before .before .before .before .before .before .pre) (c .before .before .before .before .before .if1 .left) (c .before .before .if2 .taken)) (λ c. search needs) (λ c. walked-owner (c .before .before .before .before .before .before .args .t) (c .before .before .before .before .before .before .args .k) (c .before .before .before .before .before .before .pre) (c .before .before .before .if1 .left) (c .if2 .left)))
+    (tie.spec (λ c. walked-own (c .before .before .before .args .turns) (c .before .before .before .args .turn) (c .if1 .taken)) (λ c. search needs) (λ c. search needs) (λ c. past-ship (c .before .before .before .before .before .before .before .args .turns) (c .before .before .before .before .before .before .before .args .turn) (c .before .before .before .before .if1 .left)) (λ c. search needs) (λ c. walked-projected (c .before .before .before .before .before .before .before .before .args .turns) (c .before .before .before .before .before .before .before .before .args .turn) (c .before .before .before .before .before .before .before .before .pre) (c .before .before .before .before .before .if1 .left) (c .before .before .if2 .taken)) (λ c. search needs) (λ c. walked-owner (c .before .before .before .before .before .before .args .turns) (c .before .before .before .before .before .before .args .turn) (c .before .before .before .before .before .before .pre) (c .before .before .before .if1 .left) (c .if2 .left)))

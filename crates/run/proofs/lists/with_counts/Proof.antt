@@ -9,4 +9,4 @@ use Rattle.run.specs.Listing.{listedOf}
 
 pub with-counts-spec : {M : Type 1} → statement M
 with-counts-spec =
-    tie.close (tie.spec (λ c. search needs) (λ c. search needs) (λ c. sym (ap (λ (d : Dispatched). listedOf d (c .before .before .before .args .n) (c .before .before .before .args .p)) (c .before .given .given .1))) (λ c. sym (ap (λ (d : Dispatched). listedOf d (c .before .before .before .args .n) (c .before .before .before .args .p)) (c .before .given2 .given .1))))
+    tie.close (tie.spec (λ c. search needs) (λ c. search needs) (λ c. sym (ap (λ (d : Dispatched). listedOf d (c .before .before .before .args .collected) (c .before .before .before .args .plain)) (c .before .given .given .1))) (λ c. sym (ap (λ (d : Dispatched). listedOf d (c .before .before .before .args .collected) (c .before .before .before .args .plain)) (c .before .given2 .given .1))))

@@ -37,7 +37,7 @@ same-length-2 : tie.Need-same-length-2
 same-length-2 c = search needs
 
 returns-3 : tie.Need-returns-3
-returns-3 c = (λ w counts s₀ f₀ i row m t b k fit. noted w counts s₀ f₀ i row m _ k b (fit (t .recording ∙ sym (not-not _) ∙ ap not (c .before .before .before .before .before .before .before .if1 .left))) (omega (arith, t .room, c .before .before .before .before .before .if2 .left)) (omega (arith, t .room, c .before .before .before .before .before .before .before .before .struct-known .given .0)) (t .recording ∙ sym (not-not _) ∙ ap not (c .before .before .before .before .before .before .before .if1 .left)) (rw (t .room) (c .before .before .put-source .ensures .0)) (rw (t .room) (c .before .before .put-source .ensures .1)), rw (sym (not-not (c .before .before .before .before .before .before .before .before .before .args .run .recording)) ∙ ap not (c .before .before .before .before .before .before .before .if1 .left)) (refl, refl))
+returns-3 c = (λ w counts s₀ f₀ i row m t b k fit. noted w counts s₀ f₀ i row m _ k b (omega (arith, fit (t .recording ∙ sym (not-not _) ∙ ap not (c .before .before .before .before .before .before .before .if1 .left)))) (omega (arith, t .room, c .before .before .before .before .before .if2 .left)) (omega (arith, t .room, c .before .before .before .before .before .before .before .before .struct-known .given .0)) (t .recording ∙ sym (not-not _) ∙ ap not (c .before .before .before .before .before .before .before .if1 .left)) (rw (t .room) (c .before .before .put-source .ensures .0)) (rw (t .room) (c .before .before .put-source .ensures .1)), rw (sym (not-not (c .before .before .before .before .before .before .before .before .before .args .run .recording)) ∙ ap not (c .before .before .before .before .before .before .before .if1 .left)) (refl, refl))
 
 pub note-spec : {M : Type 1} → statement M
 note-spec =

@@ -35,7 +35,7 @@ same-length-2 : tie.Need-same-length-2
 same-length-2 c = search needs
 
 returns : tie.Need-returns
-returns c = (λ w counts s₀ f₀ i row m t b k fit. no-rest w counts s₀ f₀ i row (c .before .before .before .before .before .before .before .before .before .before .before .args .e) (c .before .before .before .before .before .before .before .before .before .before .before .args .v) m _ _ _ _ _ (c .before .before .before .before .before .before .before .before .before .kept .ensures) (c .if1 .taken) (rw (c .before .before .before .before .before .before .before .before .before .before .to-source .ensures, c .before .before .got .given .1) at (c .before .before .before .before .before .before .note-copies .ensures .0 w counts s₀ f₀ i row m t b k (λ e. omega (arith, fit e, c .before .before .before .before .before .before .before .before .before .kept .ensures)))), none-rest (c .before .before .before .before .before .before .before .before .before .before .before .args .run .recording) (c .before .before .before .before .before .before .before .before .before .before .before .args .e .quantity) _ _ _ (c .before .before .before .before .before .before .before .before .before .kept .ensures) (c .if1 .taken) (rw (c .before .before .got .given .1) at (c .before .before .before .before .before .before .note-copies .ensures .1)))
+returns c = (λ w counts s₀ f₀ i row m t b k fit. no-rest w counts s₀ f₀ i row (c .before .before .before .before .before .before .before .before .before .before .before .args .e) (c .before .before .before .before .before .before .before .before .before .before .before .args .strength) m _ _ _ _ _ (c .before .before .before .before .before .before .before .before .before .kept .ensures) (c .if1 .taken) (rw (c .before .before .before .before .before .before .before .before .before .before .to-source .ensures, c .before .before .got .given .1) at (c .before .before .before .before .before .before .note-copies .ensures .0 w counts s₀ f₀ i row m t b k (λ e. omega (arith, fit e, c .before .before .before .before .before .before .before .before .before .kept .ensures)))), none-rest (c .before .before .before .before .before .before .before .before .before .before .before .args .run .recording) (c .before .before .before .before .before .before .before .before .before .before .before .args .e .quantity) _ _ _ (c .before .before .before .before .before .before .before .before .before .kept .ensures) (c .if1 .taken) (rw (c .before .before .got .given .1) at (c .before .before .before .before .before .before .note-copies .ensures .1)))
 
 sub-to-source : tie.Need-sub-to-source
 sub-to-source c = search needs
@@ -56,7 +56,7 @@ same-length-4 : tie.Need-same-length-4
 same-length-4 c = search needs
 
 returns-2 : tie.Need-returns-2
-returns-2 c = (λ w counts s₀ f₀ i row m t b k fit. rest w counts s₀ f₀ i row (c .before .before .before .before .before .before .before .before .before .before .before .before .before .before .before .before .before .args .e) (c .before .before .before .before .before .before .before .before .before .before .before .before .before .before .before .before .before .args .v) m _ _ _ _ _ (c .before .before .before .before .before .before .before .before .before .before .before .before .before .before .before .kept .ensures) (rw (c .before .before .before .before .before .before .before .before .before .before .before .before .before .before .before .before .to-source .ensures, c .before .before .before .before .before .before .before .before .got .given .1) at (c .before .before .before .before .before .before .before .before .before .before .before .before .note-copies .ensures .0 w counts s₀ f₀ i row m t b k (λ e. omega (arith, fit e, c .before .before .before .before .before .before .before .before .before .before .before .before .before .before .before .kept .ensures)))) _ _ _ (c .before .before .before .before .before .before .if1 .left) (rw (c .before .before .before .before .before .to-source2 .ensures) at (c .before .before .note .ensures .0 w counts s₀ f₀ i row ((copied w counts s₀ f₀ i row (c .before .before .before .before .before .before .before .before .before .before .before .before .before .before .before .before .before .args .e) (c .before .before .before .before .before .before .before .before .before .before .before .before .before .before .before .before .before .args .v) m _ _ _ _ _ (c .before .before .before .before .before .before .before .before .before .before .before .before .before .before .before .kept .ensures) (rw (c .before .before .before .before .before .before .before .before .before .before .before .before .before .before .before .before .to-source .ensures, c .before .before .before .before .before .before .before .before .got .given .1) at (c .before .before .before .before .before .before .before .before .before .before .before .before .note-copies .ensures .0 w counts s₀ f₀ i row m t b k (λ e. omega (arith, fit e, c .before .before .before .before .before .before .before .before .before .before .before .before .before .before .before .kept .ensures))))) .mem) t b ((copied w counts s₀ f₀ i row (c .before .before .before .before .before .before .before .before .before .before .before .before .before .before .before .before .before .args .e) (c .before .before .before .before .before .before .before .before .before .before .before .before .before .before .before .before .before .args .v) m _ _ _ _ _ (c .before .before .before .before .before .before .before .before .before .before .before .before .before .before .before .kept .ensures) (rw (c .before .before .before .before .before .before .before .before .before .before .before .before .before .before .before .before .to-source .ensures, c .before .before .before .before .before .before .before .before .got .given .1) at (c .before .before .before .before .before .before .before .before .before .before .before .before .note-copies .ensures .0 w counts s₀ f₀ i row m t b k (λ e. omega (arith, fit e, c .before .before .before .before .before .before .before .before .before .before .before .before .before .before .before .kept .ensures))))) .keeping) (λ e. omega (arith, fit e, (rw (c .before .before .before .before .before .before .before .before .got .given .1) at (c .before .before .before .before .before .before .before .before .before .before .before .before .note-copies .ensures .1)), (copied w counts s₀ f₀ i row (c .before .before .before .before .before .before .before .before .before .before .before .before .before .before .before .before .before .args .e) (c .before .before .before .before .before .before .before .before .before .before .before .before .before .before .before .before .before .args .v) m _ _ _ _ _ (c .before .before .before .before .before .before .before .before .before .before .before .before .before .before .before .kept .ensures) (rw (c .before .before .before .before .before .before .before .before .before .before .before .before .before .before .before .before .to-source .ensures, c .before .before .before .before .before .before .before .before .got .given .1) at (c .before .before .before .before .before .before .before .before .before .before .before .before .note-copies .ensures .0 w counts s₀ f₀ i row m t b k (λ e. omega (arith, fit e, c .before .before .before .before .before .before .before .before .before .before .before .before .before .before .before .kept .ensures))))) .keeping .mine, k .mine, c .before .before .before .before .before .before .before .before .before .before .before .before .before .before .before .kept .ensures, c .before .before .before .before .before .before .if1 .left, more-few (c .before .before .before .before .before .before .before .before .before .before .before .before .before .before .before .before .before .args .run .recording) (c .before .before .before .before .before .before .before .before .before .before .before .before .before .before .before .kept .result))))), one-rest (c .before .before .before .before .before .before .before .before .before .before .before .before .before .before .before .before .before .args .run .recording) (c .before .before .before .before .before .before .before .before .before .before .before .before .before .before .before .before .before .args .e .quantity) (c .before .before .note .result) _ _ _ _ _ (c .before .before .before .before .before .before .before .before .before .before .before .before .before .before .before .kept .ensures) (c .before .before .before .before .before .before .if1 .left) (rw (c .before .before .before .before .before .before .before .before .got .given .1) at (c .before .before .before .before .before .before .before .before .before .before .before .before .note-copies .ensures .1)) (c .before .before .note .ensures .1))
+returns-2 c = (λ w counts s₀ f₀ i row m t b k fit. rest w counts s₀ f₀ i row (c .before .before .before .before .before .before .before .before .before .before .before .before .before .before .before .before .before .args .e) (c .before .before .before .before .before .before .before .before .before .before .before .before .before .before .before .before .before .args .strength) m _ _ _ _ _ (c .before .before .before .before .before .before .before .before .before .before .before .before .before .before .before .kept .ensures) (rw (c .before .before .before .before .before .before .before .before .before .before .before .before .before .before .before .before .to-source .ensures, c .before .before .before .before .before .before .before .before .got .given .1) at (c .before .before .before .before .before .before .before .before .before .before .before .before .note-copies .ensures .0 w counts s₀ f₀ i row m t b k (λ e. omega (arith, fit e, c .before .before .before .before .before .before .before .before .before .before .before .before .before .before .before .kept .ensures)))) _ _ _ (c .before .before .before .before .before .before .if1 .left) (rw (c .before .before .before .before .before .to-source2 .ensures) at (c .before .before .note .ensures .0 w counts s₀ f₀ i row ((copied w counts s₀ f₀ i row (c .before .before .before .before .before .before .before .before .before .before .before .before .before .before .before .before .before .args .e) (c .before .before .before .before .before .before .before .before .before .before .before .before .before .before .before .before .before .args .strength) m _ _ _ _ _ (c .before .before .before .before .before .before .before .before .before .before .before .before .before .before .before .kept .ensures) (rw (c .before .before .before .before .before .before .before .before .before .before .before .before .before .before .before .before .to-source .ensures, c .before .before .before .before .before .before .before .before .got .given .1) at (c .before .before .before .before .before .before .before .before .before .before .before .before .note-copies .ensures .0 w counts s₀ f₀ i row m t b k (λ e. omega (arith, fit e, c .before .before .before .before .before .before .before .before .before .before .before .before .before .before .before .kept .ensures))))) .mem) t b ((copied w counts s₀ f₀ i row (c .before .before .before .before .before .before .before .before .before .before .before .before .before .before .before .before .before .args .e) (c .before .before .before .before .before .before .before .before .before .before .before .before .before .before .before .before .before .args .strength) m _ _ _ _ _ (c .before .before .before .before .before .before .before .before .before .before .before .before .before .before .before .kept .ensures) (rw (c .before .before .before .before .before .before .before .before .before .before .before .before .before .before .before .before .to-source .ensures, c .before .before .before .before .before .before .before .before .got .given .1) at (c .before .before .before .before .before .before .before .before .before .before .before .before .note-copies .ensures .0 w counts s₀ f₀ i row m t b k (λ e. omega (arith, fit e, c .before .before .before .before .before .before .before .before .before .before .before .before .before .before .before .kept .ensures))))) .keeping) (λ e. omega (arith, fit e, (rw (c .before .before .before .before .before .before .before .before .got .given .1) at (c .before .before .before .before .before .before .before .before .before .before .before .before .note-copies .ensures .1)), (copied w counts s₀ f₀ i row (c .before .before .before .before .before .before .before .before .before .before .before .before .before .before .before .before .before .args .e) (c .before .before .before .before .before .before .before .before .before .before .before .before .before .before .before .before .before .args .strength) m _ _ _ _ _ (c .before .before .before .before .before .before .before .before .before .before .before .before .before .before .before .kept .ensures) (rw (c .before .before .before .before .before .before .before .before .before .before .before .before .before .before .before .before .to-source .ensures, c .before .before .before .before .before .before .before .before .got .given .1) at (c .before .before .before .before .before .before .before .before .before .before .before .before .note-copies .ensures .0 w counts s₀ f₀ i row m t b k (λ e. omega (arith, fit e, c .before .before .before .before .before .before .before .before .before .before .before .before .before .before .before .kept .ensures))))) .keeping .mine, k .mine, c .before .before .before .before .before .before .before .before .before .before .before .before .before .before .before .kept .ensures, c .before .before .before .before .before .before .if1 .left, more-few (c .before .before .before .before .before .before .before .before .before .before .before .before .before .before .before .before .before .args .run .recording) (c .before .before .before .before .before .before .before .before .before .before .before .before .before .before .before .kept .result))))), one-rest (c .before .before .before .before .before .before .before .before .before .before .before .before .before .before .before .before .before .args .run .recording) (c .before .before .before .before .before .before .before .before .before .before .before .before .before .before .before .before .before .args .e .quantity) (c .before .before .note .result) _ _ _ _ _ (c .before .before .before .before .before .before .before .before .before .before .before .before .before .before .before .kept .ensures) (c .before .before .before .before .before .before .if1 .left) (rw (c .before .before .before .before .before .before .before .before .got .given .1) at (c .before .before .before .before .before .before .before .before .before .before .before .before .note-copies .ensures .1)) (c .before .before .note .ensures .1))
 
 same-length-5 : tie.Need-same-length-5
 same-length-5 c = search needs
@@ -65,7 +65,7 @@ same-length-6 : tie.Need-same-length-6
 same-length-6 c = search needs
 
 returns-3 : tie.Need-returns-3
-returns-3 c = (λ w counts s₀ f₀ i row m t b k fit. refused-copies w counts s₀ f₀ i row (c .before .before .before .before .before .before .before .before .before .before .args .e) (c .before .before .before .before .before .before .before .before .before .before .args .v) m _ _ _ _ (c .before .before .before .before .before .before .before .before .kept .ensures) (rw (c .before .before .before .before .before .before .before .before .before .to-source .ensures, c .before .got2 .given .1) at (c .before .before .before .before .before .note-copies .ensures .0 w counts s₀ f₀ i row m t b k (λ e. omega (arith, fit e, c .before .before .before .before .before .before .before .before .kept .ensures)))), tt)
+returns-3 c = (λ w counts s₀ f₀ i row m t b k fit. refused-copies w counts s₀ f₀ i row (c .before .before .before .before .before .before .before .before .before .before .args .e) (c .before .before .before .before .before .before .before .before .before .before .args .strength) m _ _ _ _ (c .before .before .before .before .before .before .before .before .kept .ensures) (rw (c .before .before .before .before .before .before .before .before .before .to-source .ensures, c .before .got2 .given .1) at (c .before .before .before .before .before .note-copies .ensures .0 w counts s₀ f₀ i row m t b k (λ e. omega (arith, fit e, c .before .before .before .before .before .before .before .before .kept .ensures)))), tt)
 
 pub note-penalised-spec : {M : Type 1} → statement M
 note-penalised-spec =

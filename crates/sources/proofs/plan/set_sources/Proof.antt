@@ -9,11 +9,11 @@ use mathlib.Core.Path.{_≡_, refl, ap, _∙_}
 use mathlib.Core.List.{List}
 use lib.ListN.{length, length-set}
 use Rattle.rules.specs.Dispatch.{Row}
-use Rattle.sources.specs.Rows.{held, Dispatched}
+use Rattle.sources.specs.Rows.{held, DispatchedRows}
 use Rattle.sources.proofs.Setting.{Upto, upto-none, inside, ranged, upto-next, upto-all}
 
 abbrev Inv-loop : tie.InvT-loop
-Inv-loop rows₀ entries values states n first₀ k₀ rows first k = ((k ≤ n) × ((n ≤ length rows₀) × (length rows ≡ length rows₀))) × ((rs : List Row) → Dispatched rs n rows₀ entries values → Upto states rs n rows₀ entries values k rows first)
+Inv-loop rows₀ entries values states n first₀ k₀ rows first k = ((k ≤ n) × ((n ≤ length rows₀) × (length rows ≡ length rows₀))) × ((rs : List Row) → DispatchedRows rs n rows₀ entries values → Upto states rs n rows₀ entries values k rows first)
 
 abbrev μ-loop : tie.MeasureT-loop
 μ-loop rows₀ entries values states n first₀ k₀ rows first k = n - k
