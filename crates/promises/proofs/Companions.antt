@@ -1,4 +1,5 @@
--- Sheets on which more depth and more room do change the answer: a refusal of DEPTH and one of ROOM for each list, and then done.
+-- Sheets on which more depth and more room do change the answer: a refusal of DEPTH and one of ROOM for each list, and then done; and
+-- two that differ in asks, depth and recording alone.
 use Prim.Native.Nat.{ℕ, _≤_}
 use native.Mathlib.Omega.{arith}
 use mathlib.Core.Path.{_≡_, refl}
@@ -10,8 +11,8 @@ use Rattle.rules.specs.declared.Answer.the-variants.{Done}
 use Rattle.rules.specs.declared.Refusal.the-variants.{Room, Depth}
 use Rattle.rules.proofs.Everything.{everything}
 use Rattle.rules.proofs.Marked.{lent, caseL}
-use Rattle.rules.proofs.Written.{whole, attribute, effect, modifier, typeEffect, hull, fitted, base, sheet}
-use Rattle.promises.specs.Sheets.{Deeper}
+use Rattle.rules.proofs.Written.{whole, attribute, effect, modifier, typeEffect, hull, fitted, base, ask, sheet}
+use Rattle.promises.specs.Sheets.{Deeper, Asking}
 use Rattle.promises.specs.Wider.{Longer}
 
 -- case L with recording, where each item has also an effect without modifiers
@@ -34,6 +35,7 @@ lists c r e p s =
 pub record Companions : Type 0 where
   pub depth-1 : outcome (caseL 1 []) lent ≡ refused (Depth 2)
   pub deeper : Deeper (caseL 1 []) (caseL 2 [])
+  pub asking : Asking (caseL 2 []) (set (caseL 1 (ask 2 20 ∷ ask 3 20 ∷ [])) 96 1)
   pub depth-2 : answerOf (outcome (caseL 2 []) lent) ≡ Done
   pub room-1 : outcome recorded (lists 1 3 2 2 2) ≡ refused (Room 1)
   pub room-2 : outcome recorded (lists 2 2 2 2 2) ≡ refused (Room 2)
@@ -49,6 +51,7 @@ companions =
     record {
       depth-1 = refl;
       deeper = record { front = refl; back = refl; long = refl; least = omega arith; more = omega arith; most = omega arith };
+      asking = record { front = refl; header = refl; tables = refl };
       depth-2 = refl;
       room-1 = refl;
       room-2 = refl;

@@ -67,6 +67,11 @@ columns-same z columnOf list at o o′ n n′ p q e i =
 
 -- ---- list 2
 
+pub numbers-length : (e s : ℕ) (rs : List Row) (qs : List (List Source)) → length (rowsNumbers e s rs qs) ≡ length rs
+numbers-length e s [] qs = refl
+numbers-length e s (r ∷ rs) [] = ap suc (numbers-length (e + length (r .entries)) s rs [])
+numbers-length e s (r ∷ rs) (q ∷ qs) = ap suc (numbers-length (e + length (r .entries)) (s + length q) rs qs)
+
 pub row-cells : (e s : ℕ) (rs : List Row) (qs : List (List Source)) (i : ℕ) → i < length rs
     → (cell (rowsNumbers e s rs qs) i 0 ≡ getD rs i noRow .object) × (cell (rowsNumbers e s rs qs) i 1 ≡ bits (getD rs i noRow .id))
 row-cells e s [] qs i h = absurd (not-suc-le-zero h)

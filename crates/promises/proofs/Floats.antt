@@ -45,12 +45,12 @@ record Lists (o : Res Done) : Type 0 where
   sources : every? fineSource (sourceList o) ≡ true
 
 module _ (b : List ℕ) (l : Lent) (d : Done) (h : outcome b l ≡ ok d) where
-  world-rows : every? fineAt (worldIn b l .rows) ≡ true
+  pub world-rows : every? fineAt (worldIn b l .rows) ≡ true
   unfolding worldOf
   world-rows =
       every-weaker (λ r. held (r .id) && fineAt r) fineAt (λ r e. and-right (held (r .id)) (fineAt r) e) (rowsIn (bookIn b) (fitIn b)) (sheet-rows b l d h)
 
-  defaults : (a : ℤ) → finite (getDogmaAttribute (bookIn b) a .«default_value») ≡ true
+  pub defaults : (a : ℤ) → finite (getDogmaAttribute (bookIn b) a .«default_value») ≡ true
   defaults = default-finite (bookIn b) (fitIn b) (sheet-fine b l d h)
 
   value-finite : (v : Option Float) → fineValue v ≡ true → finite (Option·getD v zeroF) ≡ true
@@ -80,7 +80,7 @@ lists b l = by (outcome b l) refl
 
 -- ---- the theorems
 
--- "All floats are finite" of a sheet, and "8 NUMBER: a step that is not finite": so of any bytes and lists lent, and whatever the
+-- "All floats are finite" in a sheet, and 8 NUMBER is where "a float step's result is not finite": of any bytes and lists lent, and whatever the
 -- answer, every element of every float column is finite
 pub every-float-finite : (b : List ℕ) (l : Lent) (r : Result) → Meets b l r → Finite r
 unfolding collectedValueColumn baseColumn valueColumn entryValueColumn sourceFloatColumn finite

@@ -167,6 +167,9 @@ module _ (k : Book) (f : Fit) (q : Rooms) (defaults : (a : ℤ) → finite (getD
   pub run-sources : every? (every? fineSource) (d .sources) ≡ true
   run-sources = ap (λ (x : Done). every? (every? fineSource) (x .sources)) (ran k f q d e .is) ∙ gone .whole .sources
 
+  pub all-long : length (d .values) ≡ length (d .rows)
+  all-long = ap length (ran k f q d e .values) ∙ gone .whole .keeps .long ∙ length-map (world .rows) (λ r. none) ∙ sym (ap length (ran k f q d e .rows))
+
   pub row-valued : Sound f → (i : ℕ) → i < length (d .rows) → Is (getD (d .values) i none)
   row-valued s i h =
       let r = ran k f q d e in

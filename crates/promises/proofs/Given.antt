@@ -1,4 +1,4 @@
--- Demand 3 of what comes back: of bytes, lists lent, and results that meet the definition, with or without a run in between.
+-- Demand 3 of what comes back: of bytes, lists lent, and results that meet the definition, refused or not.
 use Prim.Native.Nat.{ℕ, _<_}
 use native.Mathlib.Omega.{arith}
 use mathlib.Core.Path.{_≡_, refl, sym, ap, subst, _∙_}
@@ -6,7 +6,6 @@ use mathlib.Core.Bool.{Bool, true, _&&_}
 use mathlib.Core.List.{List, [], map}
 use mathlib.Core.Option.{Option, none, some, Option·getD}
 use lib.Ieee.{Float}
-use lib.IntN.{ℤ}
 use lib.ListN.{length, getD, replicate, List·getD-map}
 use Rattle.laws.specs.Lists.{every?, flat}
 use Rattle.laws.specs.Floats.{finite, zeroF}
@@ -14,23 +13,29 @@ use Rattle.laws.proofs.Bools.{and-left}
 use Rattle.laws.proofs.Every.{every-at}
 use Rattle.laws.proofs.Maps.{map-itself}
 use Rattle.rules.specs.Answer.{Res, ok, refused, number, place, answerOf}
+<<<<<<< HEAD
 use Rattle.rules.specs.Bytes.{signed, bits}
 use Rattle.rules.specs.Columns.{Counts, countsOf, collectedNumbers, rowsNumbers, entryNumbers, zeroEntry, plainNumbers, sourceNumbers, sourceFloats, originValue, collectedList, rowList, valueList, entryList, plainList, sourceList, sourcesByRow, collectedColumn, collectedValueColumn, rowColumn, baseColumn, valueColumn, entryColumn, entryValueColumn, plainColumn, sourceColumn, sourceFloatColumn, stateColumn}
+=======
+use Rattle.rules.specs.Bytes.{signed}
+use Rattle.rules.specs.Columns.{Counts, countsOf, collectedNumbers, rowsNumbers, entryNumbers, plainNumbers, sourceNumbers, sourceFloats, originValue, collectedList, rowList, valueList, entryList, plainList, sourceList, sourcesByRow, collectedColumn, collectedValueColumn, rowColumn, baseColumn, valueColumn, entryColumn, entryValueColumn, plainColumn, sourceColumn, sourceFloatColumn, stateColumn}
+>>>>>>> 7862d2def90f44056e819bad7779faeb2cebe254
 use Rattle.rules.specs.Dispatch.{Row}
 use Rattle.rules.specs.Fresh.{fresh}
-use Rattle.rules.specs.Outcome.{Lent, Done, rowsIn, roomsOf, outcome}
+use Rattle.rules.specs.Outcome.{Lent, Done, roomsOf, outcome}
 use Rattle.rules.specs.declared.Answer.the-variants.{Refused}
 use Rattle.rules.specs.declared.Refusal.{Refusal}
 use Rattle.rules.specs.declared.Refusal.the-variants.{Shape, Func, Domain, Category, Operation, Other, Room, Number, Depth}
-use Rattle.promises.specs.Given.{cell, Same, SameResult, SameValues}
-use Rattle.promises.specs.NoMemory.{noRow, NoLoop, SameButAsks, bookIn, fitIn, worldIn}
+use Rattle.promises.specs.Given.{cell, SameResult, SameValues}
+use Rattle.promises.specs.NoMemory.{noRow, NoLoop, bookIn, fitIn, worldIn}
 use Rattle.promises.specs.Result.{Result, resultFor, Meets}
-use Rattle.promises.specs.Sheets.{Deeper}
+use Rattle.promises.specs.Sheets.{Deeper, Asking}
 use Rattle.promises.specs.Unless.{Unless, refused-so, the-same}
 use Rattle.promises.specs.Wider.{Longer}
+use Rattle.promises.proofs.Asking.{asking-same}
 use Rattle.promises.proofs.Ends.{column-place, column-cell, columns-same, row-cells, rows-four}
-use Rattle.promises.proofs.FloatsCollected.{held, held-is, fineEntry}
-use Rattle.promises.proofs.FloatsSheet.{sheet-fine, sheet-rows}
+use Rattle.promises.proofs.FloatsCollected.{held, held-is}
+use Rattle.promises.proofs.FloatsSheet.{sheet-rows}
 use Rattle.promises.proofs.NoMemory.{is-run, no-memory, same-values}
 use Rattle.promises.proofs.NoMemoryRun.{run-rows}
 use Rattle.promises.proofs.OneAnswer.{is-the-one}
@@ -129,14 +134,14 @@ values-same b c l n r s m k d e h j rows values =
     entries : entryList (outcome b l) ≡ entryList (outcome c n)
     entries = ap (flat (λ x. x .entries)) listed
 
--- of two sheets that differ in asks, depth and recording alone, and any lists lent for each: where nothing leads back to itself and both
--- results are DONE, they have the same rows, bases, entries and values
-pub same-values-given : (b c : List ℕ) (l n : Lent) (r s : Result) → Meets b l r → Meets c n s → r .number ≡ 0 → s .number ≡ 0
-    → bookIn b ≡ bookIn c → SameButAsks (fitIn b) (fitIn c) → NoLoop (worldIn b l) → SameValues r s
-same-values-given b c l n r s m k y z book fit free =
+-- of two sheets whose bytes differ in asks, depth and recording alone, and any lists lent for each: where no attribute leads back to
+-- itself and both results are DONE, they have the same rows, bases, entries and values
+pub same-values-given : (b c : List ℕ) (l n : Lent) (r s : Result) → Asking b c → Meets b l r → Meets c n s → r .number ≡ 0 → s .number ≡ 0 → NoLoop (worldIn b l) → SameValues r s
+same-values-given b c l n r s a m k y z free =
     let o = is-done b l r m y in
     let p = is-done c n s k z in
-    let both = same-values b c l n (o .done) (p .done) (o .is) (p .is) book fit free in
+    let read = asking-same b c l (o .done) a (o .is) in
+    let both = same-values b c l n (o .done) (p .done) (o .is) (p .is) (read .0) (read .1) free in
     values-same b c l n r s m k (o .done) (p .done) (o .is) (p .is) (both .0) (both .1)
 
 -- ---- more depth

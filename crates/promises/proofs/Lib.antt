@@ -26,6 +26,8 @@ pub mod FloatsSteps
 pub mod FloatsRun
 pub mod FloatsSheet
 pub mod Ends
+pub mod Asking
 pub mod Given
 pub mod Floats
 pub mod Numbers
+pub mod Unused

@@ -72,6 +72,14 @@ module _ (b : List ℕ) (l : Lent) (d : Done) (h : outcome b l ≡ ok d) where
       by none e = e
       by (some n) e = let z : _≡_ {A = ℕ} 0 1 = cc in absurd (omega arith)
 
+  pub header-good : headerGood b (pairsOf b) ≡ true
+  unfolding badShape
+  header-good = by (headerGood b (pairsOf b)) no-table-bad
+    where
+      by : (t : Bool) → _≡_ {A = Option ℕ} (elim t [ false ↦ some 0 | true ↦ elim (bookBad (bookIn b)) [ some n ↦ some n | none ↦ fitBad (fitIn b) ] ]) none → t ≡ true
+      by true e = refl
+      by false e = let z : _≡_ {A = ℕ} 0 1 = cc in absurd (omega arith)
+
   pub book-good : bookBad (bookIn b) ≡ none
   unfolding badShape
   book-good = by (headerGood b (pairsOf b)) (bookBad (bookIn b)) no-table-bad

@@ -1,22 +1,21 @@
--- What the condition of no-memory lets in and rules out: on case L no attribute leads back to itself, and asks change what is
--- calculated first but no value; on four sheets with a loop, one for each way to need an attribute, they or recording change one.
+-- What the condition of no-memory lets in and rules out: on case L, and on sheets with limits, with a resistance and with an effect
+-- that does not run, no attribute leads back to itself, and on case L asks change what is calculated first but no value; on four sheets with a loop, one for each way to need an attribute, they or recording change one.
 use Prim.Native.Nat.{ℕ}
 use mathlib.Core.Path.{_≡_, refl}
 use mathlib.Core.Bool.{Bool, true, false, cond}
 use mathlib.Core.List.{List, [], _∷_, map}
 use mathlib.Core.Option.{Option, some}
-use lib.Dec.{eqb}
 use lib.IntN.{pos}
 use lib.Ieee.{Float, binary64, ofInt}
 use Rattle.laws.proofs.Bools.{both-ways}
 use Rattle.rules.specs.Answer.{Res, ok, refused}
-use Rattle.rules.specs.Dispatch.{Key}
+use Rattle.rules.specs.Dispatch.{Key, sameKey}
 use Rattle.rules.specs.Outcome.{Lent, Done, outcome}
 use Rattle.rules.specs.Fresh.{last, next, LeadsBack}
 use Rattle.rules.specs.declared.Refusal.the-variants.{Depth}
 use Rattle.rules.proofs.Everything.{everything}
-use Rattle.rules.proofs.Marked.{lent, caseL, looped}
-use Rattle.rules.proofs.Loops.{limiting, resisting, idling, recorded, ofShip}
+use Rattle.rules.proofs.Marked.{lent, caseL, limited, looped}
+use Rattle.rules.proofs.Loops.{limiting, resisting, idling, recorded, resistedOnce, idleOnce, ofShip}
 use Rattle.rules.proofs.Ranked.{ranked}
 use Rattle.rules.proofs.Written.{ask}
 use Rattle.promises.specs.NoMemory.{NoLoop, SameButAsks, bookIn, fitIn, worldIn}
@@ -36,9 +35,9 @@ done? (refused r) = false
 abbrev strengthsFirst : List (List ℕ)
 strengthsFirst = ask 2 20 ∷ ask 3 20 ∷ []
 
--- there the ship's attribute needs the two strengths, and nothing else needs anything
-abbrev shipLast : Key → ℕ
-shipLast a = cond (eqb (a .object) 0) 1 0
+-- one attribute of the ship above all others: it alone needs any
+abbrev above : ℕ → Key → ℕ
+above a x = cond (sameKey x (ofShip a)) 1 0
 
 -- two sheets that differ in asks, depth and recording alone, on which an attribute leads back to itself, and their values
 pub record Changes (b c : List ℕ) (a : Key) (u v : List ℕ) : Type 0 where
@@ -54,6 +53,10 @@ pub record LoopMatters : Type 0 where
   pub walked : outcome (caseL 1 []) lent ≡ refused (Depth 2)
   pub asked : done? (outcome (caseL 1 strengthsFirst) lent) ≡ true
   pub same : valuesOf (outcome (caseL 2 []) lent) ≡ valuesOf (outcome (caseL 1 strengthsFirst) lent)
+  -- nor has a sheet with limits, one with a resistance, and one with an effect that does not run
+  pub free-limits : NoLoop (worldIn limited lent)
+  pub free-resistance : NoLoop (worldIn resistedOnce lent)
+  pub free-idle : NoLoop (worldIn idleOnce lent)
   -- document 01's A and B: "walk gives A 21, B 11; asked B first, A 11, B 12"
   pub by-sources : Changes (looped []) (looped (ask 0 37 ∷ [])) (ofShip 20) (21 ∷ 11 ∷ []) (11 ∷ 12 ∷ [])
   -- a loop through limits, and one through a resistance: an ask changes values
@@ -73,7 +76,7 @@ values-agree b c l m book fit free h j = by (outcome b l) (outcome c m) refl ref
 
 L-free : NoLoop (worldIn (caseL 2 []) lent)
 unfolding everything
-L-free = ranked (worldIn (caseL 2 []) lent) shipLast refl
+L-free = ranked (worldIn (caseL 2 []) lent) (above 37) refl
 
 pub loop-matters : LoopMatters
 unfolding everything
@@ -83,6 +86,9 @@ loop-matters =
       walked = refl;
       asked = refl;
       same = values-agree (caseL 2 []) (caseL 1 strengthsFirst) lent lent refl (record { objects = refl; bases = refl; ids = refl; buffs = refl }) L-free refl refl;
+      free-limits = ranked (worldIn limited lent) (above 20) refl;
+      free-resistance = ranked (worldIn resistedOnce lent) (above 37) refl;
+      free-idle = ranked (worldIn idleOnce lent) (above 20) refl;
       by-sources =
           record {
             loop = next {b = ofShip 37} tt (last tt);

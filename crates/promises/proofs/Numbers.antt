@@ -264,16 +264,16 @@ record Found (rs : List Row) (p : ℕ) : Type 0 where
   own : j < length (getD rs i noRow .entries)
   is : p ≡ before rs i + j
 
+find-by : (r : Row) (rs : List Row) (p : ℕ) → p < length (all (r ∷ rs)) → (t : Bool) → ltb p (length (r .entries)) ≡ t → ((q : ℕ) → q < length (all rs) → Found rs q) → Found (r ∷ rs) p
+find-by r rs p h true e further = record { i = 0; row = omega arith; j = p; own = ltb-true p (length (r .entries)) e; is = sym (zero-add p) }
+find-by r rs p h false e further =
+    let past = ltb-false p (length (r .entries)) e in
+    let a = further (p - length (r .entries)) (omega (arith, h, past, length-append (r .entries) (all rs))) in
+    record { i = suc (a .i); row = suc-le-suc (a .row); j = a .j; own = a .own; is = omega (arith, a .is, past) }
+
 find : (rs : List Row) (p : ℕ) → p < length (all rs) → Found rs p
 find [] p h = absurd (not-suc-le-zero h)
-find (r ∷ rs) p h = by (ltb p (length (r .entries))) refl
-  where
-    by : (t : Bool) → ltb p (length (r .entries)) ≡ t → Found (r ∷ rs) p
-    by true e = record { i = 0; row = omega arith; j = p; own = ltb-true p (length (r .entries)) e; is = sym (zero-add p) }
-    by false e =
-        let past = ltb-false p (length (r .entries)) e in
-        let a = find rs (p - length (r .entries)) (omega (arith, h, past, length-append (r .entries) (all rs))) in
-        record { i = suc (a .i); row = suc-le-suc (a .row); j = a .j; own = a .own; is = omega (arith, a .is, past) }
+find (r ∷ rs) p h = find-by r rs p h (ltb p (length (r .entries))) refl (λ q l. find rs q l)
 
 inside-all : (rs : List Row) (i : ℕ) → i < length rs → before rs i + length (getD rs i noRow .entries) ≤ length (all rs)
 inside-all [] i h = absurd (not-suc-le-zero h)
@@ -363,21 +363,21 @@ module _ (b : List ℕ) (l : Lent) (r : Result) (m : Meets b l r) (d : Done) (e 
       number-is p (omega (arith, q, k, inside-all (d .rows) i h))
       ∙ ap (λ (n : ℕ). getD (all (d .rows)) n noEntry .number) q ∙ ap (λ (x : Effect). x .number) (flat-at (d .rows) i j noEntry k)
 
+  own-climbs : (i j k : ℕ) → i < length (d .rows) → j < k → k < length (getD (d .rows) i noRow .entries) → own i j .number < own i k .number
+  own-climbs i j k h jk kn =
+      let es = getD (d .rows) i noRow .entries in
+      rw (sym (map-at (λ (x : Effect). x .number) es j noEntry 0 (omega (arith, jk, kn))), sym (map-at (λ (x : Effect). x .number) es k noEntry 0 kn))
+      (climbs-at (map (λ x. x .number) es) j k (each-at (Says (bookIn b) (fitIn b) ts) (d .rows) says i noRow h .climb) jk (subst (λ (n : ℕ). k < n) (sym (length-map es (λ x. x .number))) kn))
+
+  ascend-at : (i j k p q : ℕ) → i < length (d .rows) → j < k → k < length (getD (d .rows) i noRow .entries) → p ≡ before (d .rows) i + j → q ≡ before (d .rows) i + k → numberAt r p < numberAt r q
+  ascend-at i j k p q h jk kn pj qk = rw (own-number i j p h (omega (arith, jk, kn)) pj, own-number i k q h kn qk) (own-climbs i j k h jk kn)
+
   ascending : Ascending r
   ascending i p q a c lt =
       let h : i < length (d .rows) = subst (λ (n : ℕ). i < n) (row-count b l r m d e) (a .row) in
       let first = row-first i h in
       let count = row-holds i h in
-      let es = getD (d .rows) i noRow .entries in
-      let j = p - before (d .rows) i in
-      let k = q - before (d .rows) i in
-      let jk : j < k = omega (arith, first, a .from, lt) in
-      let kn : k < length es = omega (arith, first, count, c .from, c .below) in
-      let climb = each-at (Says (bookIn b) (fitIn b) ts) (d .rows) says i noRow h .climb in
-      let below = climbs-at (map (λ x. x .number) es) j k climb jk (subst (λ (n : ℕ). k < n) (sym (length-map es (λ x. x .number))) kn) in
-      let pj : numberAt r p ≡ getD (map (λ x. x .number) es) j 0 = own-number i j p h (omega (arith, jk, kn)) (omega (arith, first, a .from)) ∙ sym (map-at (λ x. x .number) es j noEntry 0 (omega (arith, jk, kn))) in
-      let qk : numberAt r q ≡ getD (map (λ x. x .number) es) k 0 = own-number i k q h kn (omega (arith, first, c .from)) ∙ sym (map-at (λ x. x .number) es k noEntry 0 kn) in
-      rw (pj, qk) below
+      ascend-at i (p - before (d .rows) i) (q - before (d .rows) i) p q h (omega (arith, first, a .from, lt)) (omega (arith, first, count, c .from, c .below)) (omega (arith, first, a .from)) (omega (arith, first, c .from))
 
   module _ (p : ℕ) (h : p < length (all (d .rows))) where
     found : Found (d .rows) p
@@ -419,7 +419,7 @@ module _ (b : List ℕ) (l : Lent) (r : Result) (m : Meets b l r) (d : Done) (e 
             from = omega (arith, row-first (found .i) (found .row), found .is);
             below = omega (arith, row-first (found .i) (found .row), row-holds (found .i) (found .row), found .is, found .own);
           };
-          inside = rw (number-by, collected-count) (source .inside);
+          inside = omega (arith, number-by, collected-count, source .inside);
           origin = λ j q. entry-at j ∙ front (effect .origin) _ j q ∙ sym (effect-at j ∙ fronts (effect .origin) (modifierNumbers (effect .modifier)) (rest effect) j q);
           operator = entry-at 6 ∙ six (effect .origin) _ _ ∙ sym (effect-at 8 ∙ behind (effect .origin) (effect .modifier) 0 (rest effect));
           given = entry-at 9 ∙ nine (effect .origin) (effect .resistance) _ _ _ _ ∙ sym (effect-at 12 ∙ behind (effect .origin) (effect .modifier) 4 (rest effect));

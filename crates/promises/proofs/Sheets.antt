@@ -25,11 +25,11 @@ use Rattle.promises.specs.Unless.{Unless, the-same, withDepth}
 use Rattle.promises.specs.Sheets.{Deeper}
 use Rattle.promises.proofs.Depth.{more-depth}
 
-second : (x y z u v w : Bool) → x && y && z && u && v && w ≡ true → y ≡ true
+pub second : (x y z u v w : Bool) → x && y && z && u && v && w ≡ true → y ≡ true
 second x y z u v w e = and-right x y (and-left (x && y) z (and-left (x && y && z) u (and-left (x && y && z && u) v (and-left (x && y && z && u && v) w e))))
 
 -- tables stand after the header
-after-header : (ps : List (List ℕ)) → every? (placed ps) (from 0 10) ≡ true → (t : ℕ) → t < 10 → 100 ≤ offsetOf ps (suc t)
+pub after-header : (ps : List (List ℕ)) → every? (placed ps) (from 0 10) ≡ true → (t : ℕ) → t < 10 → 100 ≤ offsetOf ps (suc t)
 after-header ps h t l = by t l (at t l)
   where
     at : (t : ℕ) → t < 10 → offsetOf ps (suc t) ≡ endOf ps t

@@ -96,7 +96,7 @@ two : countsOf (outcome recorded lent) .sources ≡ 2
 unfolding everything
 two = refl
 
--- recording turned round, either way: "source rows only when recording"
+-- recording turned round: source rows where nothing is recorded, or none where they are
 pub records-always : (r : Result) → Meets (caseL 2 []) lent r → (r .counts .sources ≡ 0 → ⊥) → ⊥
 records-always r m h = h (ap (λ (c : Counts). c .sources) (m .by-counts) ∙ unrecorded)
 
@@ -274,6 +274,6 @@ room-first : number (answerOf (outcome (caseL 1 []) (lists 2 2 2 2 2))) ≡ 7
 unfolding everything
 room-first = refl
 
--- "the first refusal met wins": case L at depth 1 with room for two rows is refused ROOM, and not DEPTH
+-- "The first refusal met wins": case L at depth 1 with room for two rows is refused ROOM, and not DEPTH
 pub later-refusal : (r : Result) → Meets (caseL 1 []) (lists 2 2 2 2 2) r → r .number ≡ 9 → ⊥
 later-refusal r m h = omega (arith, h, m .by-number ∙ room-first)

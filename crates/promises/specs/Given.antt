@@ -1,5 +1,5 @@
 -- The words of what is said of results alone. Definitions only.
-use Prim.Native.Nat.{ℕ, _<_}
+use Prim.Native.Nat.{ℕ, _≤_, _<_}
 use mathlib.Core.Path.{_≡_}
 use mathlib.Core.Bool.{true}
 use mathlib.Core.List.{List, []}
@@ -47,6 +47,19 @@ pub record SameValues (r s : Result) : Type 0 where
   pub values : Same zeroF (r .values) (s .values)
   pub entries : Same zeroEntry (r .entries) (s .entries)
   pub entryValues : Same zeroF (r .entryValues) (s .entryValues)
+
+-- nothing but zeros behind the count of each list
+pub record ZeroEnds (r : Result) : Type 0 where
+  pub collected : (i : ℕ) → r .counts .collected ≤ i → getD (r .collected) i (replicate 14 0) ≡ replicate 14 0
+  pub collectedValues : (i : ℕ) → r .counts .collected ≤ i → getD (r .collectedValues) i zeroF ≡ zeroF
+  pub rows : (i : ℕ) → r .counts .rows ≤ i → getD (r .rows) i (replicate 6 0) ≡ replicate 6 0
+  pub bases : (i : ℕ) → r .counts .rows ≤ i → getD (r .bases) i zeroF ≡ zeroF
+  pub values : (i : ℕ) → r .counts .rows ≤ i → getD (r .values) i zeroF ≡ zeroF
+  pub entries : (i : ℕ) → r .counts .entries ≤ i → getD (r .entries) i (replicate 11 0) ≡ replicate 11 0
+  pub entryValues : (i : ℕ) → r .counts .entries ≤ i → getD (r .entryValues) i zeroF ≡ zeroF
+  pub plain : (i : ℕ) → r .counts .plain ≤ i → getD (r .plain) i (replicate 2 0) ≡ replicate 2 0
+  pub sources : (i : ℕ) → r .counts .sources ≤ i → getD (r .sources) i (replicate 10 0) ≡ replicate 10 0
+  pub sourceFloats : (i : ℕ) → r .counts .sources ≤ i → getD (r .sourceFloats) i (replicate 2 zeroF) ≡ replicate 2 zeroF
 
 -- every float is finite
 pub record Finite (r : Result) : Type 0 where

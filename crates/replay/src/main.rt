@@ -4,6 +4,7 @@ use calculate::Outcome;
 use calculate::dogma_calculate;
 use columns::AttributeRow;
 use columns::CollectedRow;
+use columns::ENTRY_WIDTH;
 use columns::EntryRow;
 use columns::PlainRow;
 use columns::SourceFloats;
@@ -473,7 +474,7 @@ fn replayed(data: &[u8], at: usize) -> Seen {
     let mut rows = [[RUBBISH; 6]; 128];
     let mut bases = [1.5; 128];
     let mut values = [1.5; 128];
-    let mut entries = [[RUBBISH; 12]; 128];
+    let mut entries = [[RUBBISH; ENTRY_WIDTH]; 128];
     let mut entry_values = [1.5; 128];
     let mut plain = [[RUBBISH; 2]; 128];
     let mut sources = [[RUBBISH; 10]; 128];

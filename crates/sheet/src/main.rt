@@ -2,6 +2,7 @@
 use calculate::Outcome;
 use calculate::dogma_calculate;
 use columns::AttributeRow;
+use columns::ENTRY_WIDTH;
 use libc::STDERR_FILENO;
 use libc::STDIN_FILENO;
 use libc::STDOUT_FILENO;
@@ -93,7 +94,7 @@ fn print_sheet(sheet: &[u8]) -> bool {
     let mut rows = [[0u32; 6]; 4096];
     let mut bases = [0.0; 4096];
     let mut values = [0.0; 4096];
-    let mut entries = [[0u32; 11]; 4096];
+    let mut entries = [[0u32; ENTRY_WIDTH]; 4096];
     let mut entry_values = [0.0; 4096];
     let mut plain = [[0u32; 2]; 4096];
     let mut sources = [[0u32; 10]; 4096];
