@@ -13,13 +13,8 @@ use Rattle.laws.proofs.Bools.{and-left}
 use Rattle.laws.proofs.Every.{every-at}
 use Rattle.laws.proofs.Maps.{map-itself}
 use Rattle.rules.specs.Answer.{Res, ok, refused, number, place, answerOf}
-<<<<<<< HEAD
-use Rattle.rules.specs.Bytes.{signed, bits}
-use Rattle.rules.specs.Columns.{Counts, countsOf, collectedNumbers, rowsNumbers, entryNumbers, zeroEntry, plainNumbers, sourceNumbers, sourceFloats, originValue, collectedList, rowList, valueList, entryList, plainList, sourceList, sourcesByRow, collectedColumn, collectedValueColumn, rowColumn, baseColumn, valueColumn, entryColumn, entryValueColumn, plainColumn, sourceColumn, sourceFloatColumn, stateColumn}
-=======
 use Rattle.rules.specs.Bytes.{signed}
-use Rattle.rules.specs.Columns.{Counts, countsOf, collectedNumbers, rowsNumbers, entryNumbers, plainNumbers, sourceNumbers, sourceFloats, originValue, collectedList, rowList, valueList, entryList, plainList, sourceList, sourcesByRow, collectedColumn, collectedValueColumn, rowColumn, baseColumn, valueColumn, entryColumn, entryValueColumn, plainColumn, sourceColumn, sourceFloatColumn, stateColumn}
->>>>>>> 7862d2def90f44056e819bad7779faeb2cebe254
+use Rattle.rules.specs.Columns.{Counts, countsOf, collectedNumbers, rowsNumbers, entryNumbers, zeroEntry, plainNumbers, sourceNumbers, sourceFloats, originValue, collectedList, rowList, valueList, entryList, plainList, sourceList, sourcesByRow, collectedColumn, collectedValueColumn, rowColumn, baseColumn, valueColumn, entryColumn, entryValueColumn, plainColumn, sourceColumn, sourceFloatColumn, stateColumn}
 use Rattle.rules.specs.Dispatch.{Row}
 use Rattle.rules.specs.Fresh.{fresh}
 use Rattle.rules.specs.Outcome.{Lent, Done, roomsOf, outcome}

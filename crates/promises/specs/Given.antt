@@ -55,7 +55,7 @@ pub record ZeroEnds (r : Result) : Type 0 where
   pub rows : (i : ℕ) → r .counts .rows ≤ i → getD (r .rows) i (replicate 6 0) ≡ replicate 6 0
   pub bases : (i : ℕ) → r .counts .rows ≤ i → getD (r .bases) i zeroF ≡ zeroF
   pub values : (i : ℕ) → r .counts .rows ≤ i → getD (r .values) i zeroF ≡ zeroF
-  pub entries : (i : ℕ) → r .counts .entries ≤ i → getD (r .entries) i (replicate 11 0) ≡ replicate 11 0
+  pub entries : (i : ℕ) → r .counts .entries ≤ i → getD (r .entries) i zeroEntry ≡ zeroEntry
   pub entryValues : (i : ℕ) → r .counts .entries ≤ i → getD (r .entryValues) i zeroF ≡ zeroF
   pub plain : (i : ℕ) → r .counts .plain ≤ i → getD (r .plain) i (replicate 2 0) ≡ replicate 2 0
   pub sources : (i : ℕ) → r .counts .sources ≤ i → getD (r .sources) i (replicate 10 0) ≡ replicate 10 0
