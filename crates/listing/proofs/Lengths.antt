@@ -1,9 +1,9 @@
 -- How long a number of 32 bits, a signed one and a value with two decimals are at most.
 use Prim.Native.Nat.{ℕ, suc, _+_, _*_, _/_, _^_, _≤_, _<_}
 use native.Mathlib.Omega.{arith}
-use mathlib.Core.Path.{_≡_, refl, ap}
+use mathlib.Core.Path.{_≡_, refl}
 use mathlib.Core.Bool.{Bool, true, false, _&&_, cond}
-use mathlib.Core.List.{List, [], _∷_, _++_}
+use mathlib.Core.List.{_++_}
 use lib.ListN.{length, length-append}
 use lib.Dec.{leb, ltb}
 use lib.IntN.{ℤ, pos, negsuc}

@@ -5,4 +5,5 @@ pub mod Decimals
 pub mod Texts
 pub mod Lengths
 pub mod Wholes
-pub mod Blocks
+pub mod Lined
+pub mod Told

@@ -1,12 +1,12 @@
 -- The pieces of a listing, one after another, and how long a piece is at most.
-use Prim.Native.Nat.{ℕ, _≤_, _<_}
+use Prim.Native.Nat.{ℕ, _<_}
 use mathlib.Core.Path.{_≡_}
 use mathlib.Core.List.{List, [], _++_}
 use lib.Ieee.{Float}
 use lib.ListN.{length, take, getD}
 use mir.Syntax.{w32}
 use mir.Val.{toZ}
-use Rattle.rules.specs.Answer.{ok}
+use Rattle.rules.specs.Answer.{Res, ok, number, place, answerOf}
 use Rattle.rules.specs.Dispatch.{Row}
 use Rattle.rules.specs.Outcome.{Done}
 use Rattle.rules.specs.Columns.{valueList}
@@ -36,10 +36,8 @@ pub record Shown (d : Done) (n : ℕ) (rows : List (List ℕ)) (values : List Fl
   pub id : (i : ℕ) (r : Row) → i < n → getD (d .rows) i r .id ≡ toZ w32 (getD (getD rows i []) 1 0)
   pub value : (i : ℕ) (v : Float) → i < n → getD (valueList (ok d)) i v ≡ getD values i v
 
--- the first bytes of a text are the lines of the rows from one up to the next, of n; where one is left, there is one
-pub record Prints (from n : ℕ) (rows : List (List ℕ)) (values : List Float) (text : List ℕ) (end next : ℕ) : Type 0 where
-  pub inside : end ≤ length text
-  pub behind : from ≤ next
-  pub within : next ≤ n
-  pub moves : from < n → from < next
-  pub goes-on : (d : Done) → Shown d n rows values → printed d from ++ take end text ≡ printed d next
+-- what came back tells of an outcome: its number and place and, where it is done, its n rows and their values
+pub record Tells (o : Res Done) (number₀ place₀ n : ℕ) (rows : List (List ℕ)) (values : List Float) : Type 0 where
+  pub by-number : number₀ ≡ number (answerOf o)
+  pub by-place : place₀ ≡ place (answerOf o)
+  pub by-rows : (d : Done) → o ≡ ok d → Shown d n rows values

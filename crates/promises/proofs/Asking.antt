@@ -9,7 +9,7 @@ use lib.Dec.{leb, eqb}
 use lib.ListN.{length, getD, take, drop}
 use lib.Seq.{getD-take, take-take, drop-drop}
 use borrow.Author.Tests.{eqb-true}
-use Rattle.laws.specs.Lists.{from, every?, span}
+use Rattle.laws.specs.Lists.{from, every?}
 use Rattle.laws.proofs.Bools.{and-right}
 use Rattle.laws.proofs.Every.{every-at}
 use Rattle.laws.proofs.From.{from-at, table-same}

@@ -1,11 +1,11 @@
 -- Laws of every? over what lists are made of: parts, places, and the first that passes.
-use Prim.Native.Nat.{ℕ, zero, suc, _<_}
+use Prim.Native.Nat.{ℕ, zero, suc}
 use mathlib.Core.Path.{_≡_, refl, sym, ap, _∙_}
-use mathlib.Core.Bool.{Bool, true, false, _&&_}
+use mathlib.Core.Bool.{Bool, true, false}
 use mathlib.Core.List.{List, [], _∷_, _++_}
-use mathlib.Core.Option.{Option, none, some}
+use mathlib.Core.Option.{Option, some}
 use lib.IntN.{ℤ}
-use lib.ListN.{getD, set, take, drop}
+use lib.ListN.{getD, set, drop}
 use Rattle.laws.specs.Lists.{every?, flat, first, orElse, span, insert, insertAll}
 use Rattle.laws.proofs.Bools.{and-left, and-right, and-both}
 use Rattle.laws.proofs.Every.{every-append, every-take, every-drop}

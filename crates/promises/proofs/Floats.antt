@@ -2,12 +2,12 @@
 use Prim.Native.Nat.{ℕ, _<_}
 use mathlib.Core.Path.{_≡_, refl, sym, ap, subst, _∙_}
 use mathlib.Core.Bool.{Bool, true, _&&_}
-use mathlib.Core.List.{List, [], _∷_, map}
+use mathlib.Core.List.{List}
 use mathlib.Core.Option.{Option, none, some, Option·getD}
 use lib.Ieee.{Float}
 use lib.IntN.{ℤ}
-use lib.ListN.{length, getD, replicate}
-use Rattle.laws.specs.Lists.{every?, flat}
+use lib.ListN.{replicate}
+use Rattle.laws.specs.Lists.{every?}
 use Rattle.laws.specs.Floats.{finite, zeroF}
 use Rattle.laws.proofs.Bools.{and-left, and-right, and-both}
 use Rattle.laws.proofs.Every.{every-map, every-weaker}
@@ -16,10 +16,8 @@ use Rattle.rules.specs.Columns.{originValue, sourceFloats, collectedList, rowLi
 use Rattle.rules.specs.Dispatch.{Row}
 use Rattle.rules.specs.Info.{getDogmaAttribute}
 use Rattle.rules.specs.Outcome.{Lent, Done, collectedIn, rowsIn, roomsOf, worldOf, outcome}
-use Rattle.rules.specs.Value.{World}
 use Rattle.rules.specs.declared.Effect.{Effect}
 use Rattle.rules.specs.declared.Pass2Effect.{Pass2Effect}
-use Rattle.rules.specs.declared.Source.{Source}
 use Rattle.promises.specs.Given.{Finite, Valued}
 use Rattle.promises.specs.NoMemory.{bookIn, fitIn, worldIn}
 use Rattle.promises.specs.Result.{Result, Meets}

@@ -1,19 +1,18 @@
 -- What is read from a sound sheet: every float of a collected effect and of a row is finite, and every id is one of 32 bits.
 use Prim.Native.Nat.{ℕ, suc, _-_, _^_}
 use native.Mathlib.Omega.{arith}
-use mathlib.Core.Path.{_≡_, refl, sym, ap, subst, _∙_}
+use mathlib.Core.Path.{_≡_, refl, sym, subst, _∙_}
 use mathlib.Core.Bool.{Bool, true, false, _&&_, _||_, not, cond}
 use mathlib.Core.List.{List, [], _∷_, _++_, map}
 use mathlib.Core.Option.{Option, none, some, Option·getD}
 use borrow.Author.Tests.{ltb-true, ltb-false}
 use lib.Dec.{ltb, leb, eqb}
-use lib.Ieee.{Float}
 use lib.IntN.{ℤ, pos, negsuc}
 use mir.Syntax.{w32}
 use mir.Val.{SFits, sel}
 use mir.ValLaws.{toZ-ofZ}
 use Rattle.laws.specs.Lists.{eqZ, every?, keep, flat, span, first}
-use Rattle.laws.specs.Floats.{finite, zeroF}
+use Rattle.laws.specs.Floats.{finite}
 use Rattle.laws.proofs.Bools.{and-left, and-right, and-both}
 use Rattle.laws.proofs.Every.{every-map}
 use Rattle.laws.proofs.Keep.{every-kept}
@@ -44,7 +43,7 @@ use Rattle.rules.specs.declared.Pass2Effect.{Pass2Effect}
 use Rattle.rules.specs.declared.ProjectedBuff.{ProjectedBuff}
 use Rattle.rules.specs.declared.Refusal.the-variants.{Category}
 use Rattle.rules.specs.declared.TypeDogmaEffect.{TypeDogmaEffect}
-use Rattle.promises.proofs.Everywhere.{every-all, every-both, every-span, every-first, flat-every, flat-all, insertAll-every}
+use Rattle.promises.proofs.Everywhere.{every-both, every-span, every-first, flat-every, flat-all, insertAll-every}
 
 -- ---- ids of 32 bits
 

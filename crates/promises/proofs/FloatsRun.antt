@@ -13,7 +13,7 @@ use Rattle.laws.specs.Lists.{eqZ, some?, every?}
 use Rattle.laws.specs.Floats.{finite}
 use Rattle.laws.proofs.Bools.{both-ways, and-left, and-right}
 use Rattle.laws.proofs.First.{there?}
-use Rattle.rules.specs.Answer.{Res, ok, refused, _>>=_}
+use Rattle.rules.specs.Answer.{Res, ok, refused}
 use Rattle.rules.specs.Sheet.{Book, Fit}
 use Rattle.rules.specs.Columns.{originValue}
 use Rattle.rules.specs.Dispatch.{Row, Key, sameKey}
@@ -23,12 +23,12 @@ use Rattle.rules.specs.Outcome.{Rooms, Done, startsOf, valued, worldOf, blank, 
 use Rattle.rules.specs.declared.Ask.{Ask}
 use Rattle.rules.specs.declared.Refusal.the-variants.{Depth}
 use Rattle.rules.proofs.Ranked.{same-key}
-use Rattle.promises.specs.NoMemory.{keyAt, noRow, Sound}
-use Rattle.promises.proofs.Everywhere.{every-all, every-or}
+use Rattle.promises.specs.NoMemory.{keyAt, Sound}
+use Rattle.promises.proofs.Everywhere.{every-or}
 use Rattle.promises.proofs.FloatsNumbers.{Gives, stops, gives, on, given}
 use Rattle.promises.proofs.FloatsSteps.{fineValue, fineSource, Whole, WholeRead, calculate-fine}
-use Rattle.promises.proofs.NoMemoryReads.{Keeps, keeps-same, keeps-on}
-use Rattle.promises.proofs.NoMemoryRun.{keyAsked, Is, there-is, Ran, ran, walk-asks, found-row}
+use Rattle.promises.proofs.NoMemoryReads.{keeps-same, keeps-on}
+use Rattle.promises.proofs.NoMemoryRun.{keyAsked, Is, there-is, ran, walk-asks, found-row}
 use Rattle.promises.proofs.Ranks.{found-at}
 
 -- a row that is found is one of them

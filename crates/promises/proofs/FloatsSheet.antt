@@ -1,10 +1,9 @@
 -- A sheet that is not refused for its shape has finite floats alone, and ids of 32 bits.
 use Prim.Native.Nat.{ℕ}
-use mathlib.Core.Path.{_≡_, ap, subst, _∙_}
-use mathlib.Core.Bool.{Bool, true, _&&_}
+use mathlib.Core.Path.{_≡_, _∙_}
+use mathlib.Core.Bool.{true, _&&_}
 use mathlib.Core.List.{List}
 use lib.Dec.{leb}
-use lib.ListN.{length}
 use Rattle.laws.specs.Lists.{from, every?, ascends}
 use Rattle.laws.specs.Floats.{finite}
 use Rattle.laws.proofs.Bools.{and-left, and-right}
@@ -13,8 +12,6 @@ use Rattle.rules.specs.Answer.{ok}
 use Rattle.rules.specs.Bytes.{pairsOf, countOf, recordAt, u32At}
 use Rattle.rules.specs.Sheet.{bookOf, fitOf, modifierFrom, baseFrom, basesOf}
 use Rattle.rules.specs.Shape.{attributesGood, basesGood, buffsGood}
-use Rattle.rules.specs.Collect.{moves, takenOf}
-use Rattle.rules.specs.Dispatch.{Row}
 use Rattle.rules.specs.Outcome.{Lent, Done, collectedIn, rowsIn, outcome}
 use Rattle.rules.proofs.Verdicts.{attributes-good, bases-good, buffs-good}
 use mathlib.Core.List.{map}

@@ -2,7 +2,7 @@
 -- Nothing is said of loops here: they are let in.
 use Prim.Native.Nat.{ℕ, zero, suc, _-_, _<_, min}
 use native.Mathlib.Omega.{arith}
-use mathlib.Core.Path.{_≡_, refl, sym, ap, subst, _∙_}
+use mathlib.Core.Path.{_≡_, refl, ap, _∙_}
 use mathlib.Core.Bool.{Bool, true, false, _&&_, _||_}
 use mathlib.Core.List.{List, [], _∷_, _++_}
 use mathlib.Core.Option.{Option, none, some}
@@ -21,9 +21,9 @@ use Rattle.rules.specs.Columns.{originValue}
 use Rattle.rules.specs.Dispatch.{Row}
 use Rattle.rules.specs.Info.{getDogmaAttribute, highIsGood}
 use Rattle.rules.specs.Item.{runsAt}
-use Rattle.rules.specs.Number.{times, weight, numberAt}
+use Rattle.rules.specs.Number.{times, weight}
 use Rattle.rules.specs.Operate.{Copy, Values, simplified, hasPenalty, sorted, applied}
-use Rattle.rules.specs.Value.{World, Mem, Read, Reader, Gathered, stateOf, toSource, withPenalty, noSource, ownSources, nothing, withStack, withCopy, note, copies, penalised, unpenalised, contribute, resisted, gatherFrom, gather, marked, withOwn, markedBy, operate, clamped, atLeast, atMost, setValue, calculate}
+use Rattle.rules.specs.Value.{World, Mem, Read, Reader, Gathered, stateOf, toSource, withPenalty, noSource, ownSources, nothing, withStack, withCopy, note, copies, penalised, unpenalised, contribute, resisted, gatherFrom, gather, marked, markedBy, operate, clamped, atLeast, atMost, setValue, calculate}
 use Rattle.rules.specs.declared.Effect.{Effect}
 use Rattle.rules.specs.declared.EffectOperator.{EffectOperator}
 use Rattle.rules.specs.declared.OptionalId.{OptionalId}

@@ -2,9 +2,9 @@
 use Prim.Native.Nat.{ℕ, _<_}
 use native.Mathlib.Omega.{arith}
 use mathlib.Core.Path.{_≡_, refl, sym, ap, subst, _∙_}
-use mathlib.Core.Bool.{Bool, true, _&&_}
-use mathlib.Core.List.{List, [], map}
-use mathlib.Core.Option.{Option, none, some, Option·getD}
+use mathlib.Core.Bool.{true, _&&_}
+use mathlib.Core.List.{List, map}
+use mathlib.Core.Option.{Option, none, Option·getD}
 use lib.Ieee.{Float}
 use lib.ListN.{length, getD, replicate, List·getD-map}
 use Rattle.laws.specs.Lists.{every?, flat}

@@ -1,7 +1,7 @@
 -- "Unused ends are zero", of results: behind its list's count no column keeps what was lent.
 use Prim.Native.Nat.{ℕ, _≤_}
 use mathlib.Core.Path.{_≡_, refl, sym, ap, subst, _∙_}
-use mathlib.Core.List.{List, [], map}
+use mathlib.Core.List.{List, map}
 use mathlib.Core.Option.{Option·getD}
 use lib.Ieee.{Float}
 use lib.ListN.{length, getD, replicate, length-map, List·getD-eq-default}

@@ -1,8 +1,9 @@
 -- Builds that are wrong, as theorems: whatever its proof, no build that does one of these gives what meets the definition. Each is
 -- shown on case L, or on it and another small sheet. 01, "How much the contracts say": "Demand 2 rejects these".
 use Prim.Native.Nat.{ℕ, suc, _<_}
+use native.Mathlib.Nat.{zero-add}
 use native.Mathlib.Omega.{arith}
-use mathlib.Core.Path.{_≡_, refl, sym, ap, _∙_}
+use mathlib.Core.Path.{_≡_, refl, sym, ap, subst, _∙_}
 use mathlib.Core.Bool.{Bool, true, false}
 use mathlib.Core.List.{List, [], _∷_}
 use borrow.Author.Tests.{eq-eqb, eqb-true}
@@ -10,14 +11,15 @@ use lib.Dec.{eqb}
 use lib.Ieee.{Float, binary64, toBits}
 use lib.ListN.{getD}
 use Rattle.laws.specs.Floats.{zeroF}
-use Rattle.laws.specs.Lists.{every?}
+use Rattle.laws.specs.Lists.{from, every?}
 use Rattle.laws.proofs.Bools.{both-ways}
 use Rattle.laws.proofs.Every.{every-at}
+use Rattle.laws.proofs.From.{from-at}
 use Rattle.rules.specs.Answer.{number, place, answerOf}
 use Rattle.rules.specs.Columns.{Counts, countsOf, collectedColumn, collectedValueColumn, rowColumn, baseColumn, valueColumn, entryColumn, entryValueColumn, plainColumn, sourceColumn, sourceFloatColumn, stateColumn}
 use Rattle.rules.specs.Outcome.{Lent, outcome}
 use Rattle.rules.proofs.Everything.{everything}
-use Rattle.rules.proofs.Marked.{caseL, limited, looped, lent}
+use Rattle.rules.proofs.Marked.{caseL, limited, looped, divided, lent}
 use Rattle.rules.proofs.Written.{whole, attribute, effect, modifier, typeEffect, collection, hull, fitted, base, buff, ask, sheetOf}
 use Rattle.promises.specs.Result.{Result, Meets}
 use Rattle.promises.specs.Zeros.{Empty}
@@ -277,3 +279,54 @@ room-first = refl
 -- "The first refusal met wins": case L at depth 1 with room for two rows is refused ROOM, and not DEPTH
 pub later-refusal : (r : Result) → Meets (caseL 1 []) (lists 2 2 2 2 2) r → r .number ≡ 9 → ⊥
 later-refusal r m h = omega (arith, h, m .by-number ∙ room-first)
+
+-- ---- one that swaps two answers, or never gives one of them
+
+-- the ship has an effect of a category, with one modifier of a func, a domain and an operation: record 1 of tables 2 and 3
+abbrev coded : (category func domain operation : ℕ) → List ℕ
+coded category func domain operation =
+    sheetOf 2 0 []
+    (effect 1 0 0 0 0 ∷ effect 2 category 0 1 1 ∷ [])
+    (modifier 4 0 3 20 37 0 ∷ modifier func domain operation 20 37 0 ∷ [])
+    (typeEffect 8 2 ∷ [])
+    []
+    (hull 0 8 0 1 ∷ hull 2 0 0 0 ∷ [])
+    (base 37 (whole 8) ∷ [])
+    []
+    []
+
+-- DONE, then a sheet for each refusal in the order of their numbers, the lists lent, and the places
+abbrev pub tenSheets : List (List ℕ)
+tenSheets =
+    caseL 2 [] ∷ [] ∷ coded 0 6 0 3 ∷ coded 0 4 7 3 ∷ coded 8 4 0 3 ∷ coded 0 4 0 10 ∷ coded 0 4 3 3 ∷ caseL 2 [] ∷ divided ∷ caseL 1 [] ∷ []
+
+abbrev pub tenLents : List Lent
+tenLents = lent ∷ lent ∷ lent ∷ lent ∷ lent ∷ lent ∷ lent ∷ lists 2 2 2 2 2 ∷ lent ∷ lent ∷ []
+
+abbrev pub tenPlaces : List ℕ
+tenPlaces = 0 ∷ 0 ∷ 1 ∷ 1 ∷ 1 ∷ 1 ∷ 1 ∷ 2 ∷ 1 ∷ 2 ∷ []
+
+abbrev numbered? : ℕ → Bool
+numbered? i = eqb (number (answerOf (outcome (getD tenSheets i []) (getD tenLents i lent)))) i
+
+abbrev placed? : ℕ → Bool
+placed? i = eqb (place (answerOf (outcome (getD tenSheets i []) (getD tenLents i lent)))) (getD tenPlaces i 0)
+
+all-numbered : every? numbered? (from 0 10) ≡ true
+unfolding everything
+all-numbered = refl
+
+all-placed : every? placed? (from 0 10) ≡ true
+unfolding everything
+all-placed = refl
+
+module _ (i : ℕ) (h : i < 10) where
+  here : getD (from 0 10) i 0 ≡ i
+  here = from-at 0 10 i 0 h ∙ zero-add i
+
+  -- each of the ten answers is the only one on its sheet, and so is its place
+  pub each-number : (r : Result) → Meets (getD tenSheets i []) (getD tenLents i lent) r → r .number ≡ i
+  each-number r m = m .by-number ∙ eqb-true (number (answerOf (outcome (getD tenSheets i []) (getD tenLents i lent)))) i (subst (λ (n : ℕ). numbered? n ≡ true) here (every-at numbered? (from 0 10) i 0 all-numbered h))
+
+  pub each-place : (r : Result) → Meets (getD tenSheets i []) (getD tenLents i lent) r → r .place ≡ getD tenPlaces i 0
+  each-place r m = m .by-place ∙ eqb-true (place (answerOf (outcome (getD tenSheets i []) (getD tenLents i lent)))) (getD tenPlaces i 0) (subst (λ (n : ℕ). placed? n ≡ true) here (every-at placed? (from 0 10) i 0 all-placed h))

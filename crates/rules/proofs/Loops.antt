@@ -15,7 +15,7 @@ use Rattle.rules.specs.Sheet.{bookOf, fitOf}
 use Rattle.rules.specs.Dispatch.{Key, sameKey}
 use Rattle.rules.specs.Outcome.{worldOf}
 use Rattle.rules.specs.Value.{World}
-use Rattle.rules.specs.Fresh.{fresh, needsAt, Leads, last, next, LeadsBack}
+use Rattle.rules.specs.Fresh.{fresh, needsAt, last, next, LeadsBack}
 use Rattle.rules.specs.declared.Refusal.the-variants.{Depth}
 use Rattle.rules.proofs.Everything.{everything}
 use Rattle.rules.proofs.Written.{whole, attribute, effect, modifier, typeEffect, object, hull, base, sheet}

@@ -3,12 +3,11 @@ use Prim.Native.Nat.{ℕ, _<_}
 use native.Mathlib.Omega.{arith}
 use mathlib.Core.Path.{_≡_, refl, sym, subst, _∙_}
 use mathlib.Core.Bool.{Bool, true, false, _||_}
-use mathlib.Core.List.{List, [], _∷_, _++_}
-use mathlib.Core.Logic.{_⊎_, inl, inr}
+use mathlib.Core.List.{List, [], _∷_}
 use borrow.Author.Tests.{eqb-true, ltb-true}
 use lib.Dec.{T, eqb, ltb}
 use Rattle.laws.specs.Lists.{eqZ, some?, every?, put, keep, flat}
-use Rattle.laws.proofs.Bools.{both-ways, true-or-false, and-left, and-right}
+use Rattle.laws.proofs.Bools.{both-ways, and-left, and-right}
 use Rattle.laws.proofs.Every.{some-append}
 use Rattle.laws.proofs.Order.{eqZ-true}
 use Rattle.rules.specs.Dispatch.{Row, Key, sameKey}

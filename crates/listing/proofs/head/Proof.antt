@@ -33,7 +33,7 @@ same-length c = search needs
 
 returns : tie.Need-returns
 unfolding headOf
-returns c = (after rowsWord (ended (c .before .before .before .before .before .before .before .before .before .before .before .before .before .before .args .rows)) (put (c .before .before .before .before .before .before .before .before .before .before .before .before .before .before .args .at) (c .before .before .before .before .before .before .before .before .before .before .before .before .before .before .args .out .now)) (c .before .before .before .before .before .before .before .before .before .before .put-text .ensures .0) (after (natural (c .before .before .before .before .before .before .before .before .before .before .before .before .before .before .args .rows)) (10 ∷ []) _ (c .before .before .before .before .before .before .put-u64 .ensures .0) (c .before .before .put-byte .ensures .0)), omega (arith, c .before .before .before .before .before .before .before .before .before .before .put-text .ensures .1, c .before .before .before .before .before .before .put-u64 .ensures .1, c .before .before .put-byte .ensures .1))
+returns c = (after rowsWord (ended (c .before .before .before .before .before .before .before .before .before .before .before .before .before .before .args .rows)) (put 0 (c .before .before .before .before .before .before .before .before .before .before .before .before .before .before .args .out .now)) (c .before .before .before .before .before .before .before .before .before .before .put-text .ensures .0) (after (natural (c .before .before .before .before .before .before .before .before .before .before .before .before .before .before .args .rows)) (10 ∷ []) _ (c .before .before .before .before .before .before .put-u64 .ensures .0) (c .before .before .put-byte .ensures .0)), omega (arith, c .before .before .before .before .before .before .before .before .before .before .put-text .ensures .1, c .before .before .before .before .before .before .put-u64 .ensures .1, c .before .before .put-byte .ensures .1))
 
 pub head-spec : {M : Type 1} → statement M
 head-spec =

@@ -10,9 +10,11 @@ use Rattle.listing.proofs.put_text.Reads as put-text-reads
 use Rattle.listing.proofs.put_u64.Reads as put-u64-reads
 use native.Mathlib.Omega.{arith}
 use mathlib.Core.List.{[], _∷_}
-use Rattle.rules.specs.Listing.{natural}
+use Rattle.rules.specs.Listing.{natural, listing}
+use Rattle.rules.specs.Answer.{refused}
 use Rattle.listing.specs.Put.{put}
 use Rattle.listing.proofs.Puts.{after, renamed}
+use Rattle.listing.proofs.Lined.{begun}
 use Rattle.listing.proofs.Texts.{refusedWord, numbered, ended, refusal-is}
 
 slice-aggregate-put-text : tie.Need-slice-aggregate-put-text
@@ -37,7 +39,7 @@ same-length : tie.Need-same-length
 same-length c = search needs
 
 returns : tie.Need-returns
-returns c = (λ x n p. renamed _ (refusal-is x n p) (after refusedWord (numbered (c .before .before .before .before .before .before .before .before .before .before .before .before .before .before .before .before .before .before .before .before .before .before .args .number) (c .before .before .before .before .before .before .before .before .before .before .before .before .before .before .before .before .before .before .before .before .before .before .args .place)) (put (c .before .before .before .before .before .before .before .before .before .before .before .before .before .before .before .before .before .before .before .before .before .before .args .at) (c .before .before .before .before .before .before .before .before .before .before .before .before .before .before .before .before .before .before .before .before .before .before .args .out .now)) (c .before .before .before .before .before .before .before .before .before .before .before .before .before .before .before .before .before .before .put-text .ensures .0) (after (natural (c .before .before .before .before .before .before .before .before .before .before .before .before .before .before .before .before .before .before .before .before .before .before .args .number)) (32 ∷ ended (c .before .before .before .before .before .before .before .before .before .before .before .before .before .before .before .before .before .before .before .before .before .before .args .place)) _ (c .before .before .before .before .before .before .before .before .before .before .before .before .before .before .put-u64 .ensures .0) (after (32 ∷ []) (ended (c .before .before .before .before .before .before .before .before .before .before .before .before .before .before .before .before .before .before .before .before .before .before .args .place)) _ (c .before .before .before .before .before .before .before .before .before .before .put-byte .ensures .0) (after (natural (c .before .before .before .before .before .before .before .before .before .before .before .before .before .before .before .before .before .before .before .before .before .before .args .place)) (10 ∷ []) _ (c .before .before .before .before .before .before .put-u642 .ensures .0) (c .before .before .put-byte2 .ensures .0))))), omega (arith, c .before .before .before .before .before .before .before .before .before .before .before .before .before .before .before .before .before .before .put-text .ensures .1, c .before .before .before .before .before .before .before .before .before .before .before .before .before .before .put-u64 .ensures .1, c .before .before .before .before .before .before .before .before .before .before .put-byte .ensures .1, c .before .before .before .before .before .before .put-u642 .ensures .1, c .before .before .put-byte2 .ensures .1))
+returns c = λ x n p. begun (listing (refused x)) (c .before .before .before .before .before .before .before .before .before .before .before .before .before .before .before .before .before .before .before .before .before .before .args .out .now) (omega (arith, c .before .before .before .before .before .before .before .before .before .before .before .before .before .before .before .before .before .before .before .before .before .before .pre, c .before .before .before .before .before .before .before .before .before .before .before .before .before .before .before .before .before .before .put-text .ensures .1, c .before .before .before .before .before .before .before .before .before .before .before .before .before .before .put-u64 .ensures .1, c .before .before .before .before .before .before .before .before .before .before .put-byte .ensures .1, c .before .before .before .before .before .before .put-u642 .ensures .1, c .before .before .put-byte2 .ensures .1)) (renamed _ (refusal-is x n p) (after refusedWord (numbered (c .before .before .before .before .before .before .before .before .before .before .before .before .before .before .before .before .before .before .before .before .before .before .args .number) (c .before .before .before .before .before .before .before .before .before .before .before .before .before .before .before .before .before .before .before .before .before .before .args .place)) (put 0 (c .before .before .before .before .before .before .before .before .before .before .before .before .before .before .before .before .before .before .before .before .before .before .args .out .now)) (c .before .before .before .before .before .before .before .before .before .before .before .before .before .before .before .before .before .before .put-text .ensures .0) (after (natural (c .before .before .before .before .before .before .before .before .before .before .before .before .before .before .before .before .before .before .before .before .before .before .args .number)) (32 ∷ ended (c .before .before .before .before .before .before .before .before .before .before .before .before .before .before .before .before .before .before .before .before .before .before .args .place)) _ (c .before .before .before .before .before .before .before .before .before .before .before .before .before .before .put-u64 .ensures .0) (after (32 ∷ []) (ended (c .before .before .before .before .before .before .before .before .before .before .before .before .before .before .before .before .before .before .before .before .before .before .args .place)) _ (c .before .before .before .before .before .before .before .before .before .before .put-byte .ensures .0) (after (natural (c .before .before .before .before .before .before .before .before .before .before .before .before .before .before .before .before .before .before .before .before .before .before .args .place)) (10 ∷ []) _ (c .before .before .before .before .before .before .put-u642 .ensures .0) (c .before .before .put-byte2 .ensures .0))))))
 
 pub refusal-spec : {M : Type 1} → statement M
 refusal-spec =

@@ -1,15 +1,15 @@
 -- Made by `answers` from Proof.answers: edit that file.
--- `sheet::main` is safe: what was read lies inside the buffer. Assumes nothing.
+-- `sheet::main` is safe: what was read lies inside the buffer, and the text inside its own. Assumes nothing.
 use borrow.Author.Needs.{needs}
 use Rattle.sheet.proofs.main.Statement.{statement}
 use Rattle.sheet.proofs.main.Tie as tie
 use Rattle.sheet.proofs.main.Reads as reads
 use Rattle.sheet.proofs.main.Lts as lts
+use Rattle.io.proofs.write_all.Reads as write-all-reads
 use Rattle.sheet.proofs.complain.Reads as complain-reads
-use Rattle.sheet.proofs.print_refusal.Reads as print-refusal-reads
-use Rattle.sheet.proofs.print_sheet.Reads as print-sheet-reads
 use Rattle.sheet.proofs.read_input.Reads as read-input-reads
 use Rattle.sheet.proofs.read_rest.Reads as read-rest-reads
+use Rattle.text.proofs.sheet_text.Reads as sheet-text-reads
 use mathlib.Core.Path.{sym}
 use lib.Seq.{length-take-le}
 
@@ -34,14 +34,20 @@ returns c = search needs
 array-share-prefix-buffer : tie.Need-array-share-prefix-buffer
 array-share-prefix-buffer c = search needs
 
-slice-aggregate-print-sheet : tie.Need-slice-aggregate-print-sheet
-slice-aggregate-print-sheet c = sym (length-take-le (c .before .before .before .before .before .before .before .before .read-input .result .bytes) (c .before .before .before .before .before .before .before .before .read-input .last .0) (c .before .before .before .before .before .before .before .before .read-input .ensures))
+slice-aggregate-sheet-text : tie.Need-slice-aggregate-sheet-text
+slice-aggregate-sheet-text c = sym (length-take-le (c .before .before .before .before .before .before .before .read-input .result .bytes) (c .before .before .before .before .before .before .before .read-input .last .0) (c .before .before .before .before .before .before .before .read-input .ensures))
 
-print-sheet-requires : tie.Need-print-sheet-requires
-print-sheet-requires c κs = search needs
+sheet-text-requires : tie.Need-sheet-text-requires
+sheet-text-requires c κs = search needs
 
-print-refusal-requires : tie.Need-print-refusal-requires
-print-refusal-requires c κs = search needs
+array-share-prefix-text : tie.Need-array-share-prefix-text
+array-share-prefix-text c = search needs
+
+slice-aggregate-write-all : tie.Need-slice-aggregate-write-all
+slice-aggregate-write-all c = sym (length-take-le (c .before .sheet-text .result) (c .before .sheet-text .last .0) (c .before .sheet-text .ensures .1 .1))
+
+write-all-requires : tie.Need-write-all-requires
+write-all-requires c κs = search needs
 
 slice-aggregate-complain-2 : tie.Need-slice-aggregate-complain-2
 slice-aggregate-complain-2 c = search needs
@@ -66,9 +72,11 @@ main-spec =
     complain-requires
     returns
     array-share-prefix-buffer
-    slice-aggregate-print-sheet
-    print-sheet-requires
-    print-refusal-requires
+    slice-aggregate-sheet-text
+    sheet-text-requires
+    array-share-prefix-text
+    slice-aggregate-write-all
+    write-all-requires
     slice-aggregate-complain-2
     complain-requires-2
     returns-2

@@ -4,29 +4,26 @@ use native.Mathlib.Nat.{not-suc-le-zero, le-of-suc-le-suc}
 use native.Mathlib.Omega.{arith}
 use mathlib.Core.Path.{_≡_, refl, sym, ap, subst, _∙_}
 use mathlib.Core.Bool.{cond}
-use mathlib.Core.List.{List, [], _∷_, _++_, map}
+use mathlib.Core.List.{List, [], _∷_, map}
 use mathlib.Core.Option.{Option, none, some, Option·getD}
 use lib.Dec.{leb}
 use lib.Ieee.{Float}
 use lib.ListN.{length, getD, replicate, length-append, length-map, length-replicate}
 use mir.Syntax.{w32}
-use mir.Val.{SFits, toZ, ofZ}
+use mir.Val.{SFits, toZ}
 use mir.Facts.{toZ-ofZ}
 use Rattle.laws.specs.Columns.{column}
 use Rattle.laws.specs.Floats.{zeroF}
 use Rattle.laws.proofs.Laid.{column-row}
-use Rattle.rules.specs.Answer.{Res, ok, refused, number, place, answerOf}
+use Rattle.rules.specs.Answer.{Res, ok, refused}
 use Rattle.rules.specs.Bytes.{bits, pairsOf}
 use Rattle.rules.specs.Collect.{moves}
-use Rattle.rules.specs.Columns.{rowsNumbers, rowList, valueList, sourcesByRow, countsOf, rowColumn, valueColumn}
+use Rattle.rules.specs.Columns.{rowsNumbers, rowList, valueList, sourcesByRow, rowColumn, valueColumn}
 use Rattle.rules.specs.Dispatch.{Row, baseKeys, hitKeys, fullAt}
-use Rattle.rules.specs.Listing.{listing}
 use Rattle.rules.specs.Outcome.{Lent, Rooms, Done, full, collected, startsOf, valued, collectedIn, rowsIn, worldOf, blank, roomsOf, run, outcome}
 use Rattle.rules.specs.Shape.{badShape}
 use Rattle.rules.specs.Sheet.{Book, Fit, bookOf, fitOf}
 use Rattle.rules.specs.Value.{World}
-use Rattle.rules.specs.declared.Answer.the-variants as answer
-use Rattle.rules.specs.declared.Refusal.{Refusal}
 use Rattle.rules.specs.declared.Refusal.the-variants as refusal
 use Rattle.rules.specs.declared.Source.{Source}
 use Rattle.shape.proofs.Shapes.{sound-book, sound-fit}

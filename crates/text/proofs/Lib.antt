@@ -1,0 +1,3 @@
+pub mod Shows
+pub mod Tells
+pub mod Texts
