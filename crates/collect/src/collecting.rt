@@ -9,41 +9,45 @@ use modifier::moves::CollectedRooms;
 use modifier::moves::Counted;
 use modifier::moves::put;
 ghost use mathlib.Core.Path.{_≡_};
-ghost use mathlib.Core.List.{List};
-ghost use Prim.Native.Nat.{ℕ, _+_, _≤_};
+ghost use Prim.Native.Nat.{_+_, _≤_};
 ghost use Rattle.laws.specs.Lists.{flat, span};
 ghost use Rattle.rules.specs.Bytes.{countOf};
-ghost use Rattle.rules.specs.Sheet.{Fit, bookOf};
+ghost use Rattle.rules.specs.Sheet.{Fit};
+ghost use Rattle.info.specs.At.{bookAt};
 ghost use Rattle.info.specs.Sound.{HeldBook};
 ghost use Rattle.modifier.specs.Causes.{CauseOf, causeMoves};
-ghost use Rattle.modifier.specs.Ran.{Lent, at, ran, standOf};
+ghost use Rattle.modifier.specs.Ran.{Lent, RunsCollected};
 
+// The modifiers of a run, in order, each by what it is collected for.
 pub fn collect_modifiers(
-    c: &mut [CollectedRow],
-    v: &mut [f64],
+    collected: &mut [CollectedRow],
+    collected_values: &mut [f64],
     book: &[u8],
     pairs: &TablePairs,
     rooms: CollectedRooms,
-    n: usize,
-    p: usize,
+    used: usize,
+    used_plain: usize,
     cause: Cause,
     first: u32,
     count: u32,
 ) -> Counted
-    requires { ⌜ Lent rooms (now c) (now v) ⌝ }
-    requires { ⌜ HeldBook (now book) (now pairs) ⌝ }
-    requires { ⌜ first + count ≤ countOf (now pairs) 3 ⌝ }
-    ensures { λ r. ⌜ ((f : Fit) (l : List (List ℕ)) → CauseOf f cause → standOf r (now (c .exit)) (now (v .exit)) l ≡ ran rooms (flat (causeMoves (bookOf (now (book .entry)) (now (pairs .entry))) f cause) (span first count (bookOf (now (book .entry)) (now (pairs .entry)) .modifiers))) (at n p (now (c .entry)) (now (v .entry)) l)) ⌝ }
+    requires lent { ⌜ Lent rooms (now collected) (now «collected_values») ⌝ }
+    requires held_book { ⌜ HeldBook (now book) (now pairs) ⌝ }
+    requires inside { ⌜ first + count ≤ countOf (now pairs) 3 ⌝ }
+    ensures defined { λ r.
+        let modifiers = span first count (bookAt book pairs .modifiers) in
+        ⌜ ((f : Fit) → CauseOf f cause
+        → RunsCollected rooms r used «used_plain» (flat (causeMoves (bookAt book pairs) f cause) modifiers) collected «collected_values») ⌝ }
 {
-    let mut a = n;
-    let mut b = p;
+    let mut a = used;
+    let mut b = used_plain;
     let mut i = index(first);
     let end = i + index(count);
     while i < end {
         let m = modifier(book, pairs, i);
         i += 1;
         let x = move_of(cause, m);
-        let got = put(c, v, rooms, a, b, x);
+        let got = put(collected, collected_values, rooms, a, b, x);
         match got {
             Counted::At(k, l) => {
                 a = k;

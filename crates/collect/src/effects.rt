@@ -2,6 +2,7 @@
 use super::collecting::collect_modifiers;
 use super::uses::is_used;
 use columns::CollectedRow;
+use columns::PlainRow;
 use columns::TablePairs;
 use info::look_ups::FoundEffect;
 use info::look_ups::TypeEffects;
@@ -21,66 +22,68 @@ use rules::DogmaEffect;
 use rules::Refusal;
 use rules::TypeDogmaEffect;
 use states::has_effect;
-ghost use mathlib.Core.Path.{_≡_};
 ghost use Prim.Native.Nat.{_+_, _≤_};
-ghost use Rattle.laws.specs.Lists.{flat, span};
+ghost use Rattle.laws.specs.Lists.{flat};
 ghost use Rattle.rules.specs.Bytes.{countOf};
-ghost use Rattle.rules.specs.Sheet.{bookOf, fitOf};
+ghost use Rattle.rules.specs.Sheet.{fitOf};
 ghost use Rattle.rules.specs.Collect.{foundMoves, effectMoves, ownMoves};
+ghost use Rattle.info.specs.At.{bookAt, fitAt};
 ghost use Rattle.info.specs.Sound.{HeldBook, SoundBook, SoundFit};
 ghost use Rattle.modifier.specs.Tests.{OwnerOf};
+ghost use Rattle.modifier.specs.Ran.{AllLent, Runs};
+ghost use Rattle.collect.specs.At.{runAt};
 ghost use Rattle.collect.specs.OfFit.{OfFit};
-ghost use Rattle.modifier.specs.Ran.{AllLent, at, ran, standOf};
 ghost use Rattle.collect.specs.New.{newMoves};
 
 // The category is tested for every effect found. An effect with no modifiers goes to the plain list.
 fn collect_found(
-    c: &mut [CollectedRow],
-    v: &mut [f64],
-    l: &mut [[u32; 2]],
+    collected: &mut [CollectedRow],
+    collected_values: &mut [f64],
+    plain: &mut [PlainRow],
     book: &[u8],
     fit: &[u8],
     pairs: &TablePairs,
     rooms: CollectedRooms,
-    n: usize,
-    p: usize,
+    used: usize,
+    used_plain: usize,
     w: Owner,
     t: TypeDogmaEffect,
     e: DogmaEffect,
 ) -> Counted
-    requires { ⌜ AllLent rooms (now c) (now v) (now l) ⌝ }
-    requires { ⌜ HeldBook (now book) (now pairs) ⌝ }
-    requires { ⌜ SoundFit (now fit) (now pairs) ⌝ }
-    requires { ⌜ OfFit (fitOf (now fit) (now pairs)) (w .item) ⌝ }
-    requires { ⌜ OwnerOf (fitOf (now fit) (now pairs)) w ⌝ }
-    requires { ⌜ e .«first_modifier» + e .modifiers ≤ countOf (now pairs) 3 ⌝ }
-    ensures { λ r. ⌜ standOf r (now (c .exit)) (now (v .exit)) (now (l .exit)) ≡ ran rooms (foundMoves (bookOf (now (book .entry)) (now (pairs .entry))) (fitOf (now (fit .entry)) (now (pairs .entry))) (w .item) t e) (at n p (now (c .entry)) (now (v .entry)) (now (l .entry))) ⌝ }
+    requires lent { ⌜ AllLent rooms (now collected) (now «collected_values») (now plain) ⌝ }
+    requires held_book { ⌜ HeldBook (now book) (now pairs) ⌝ }
+    requires sound_fit { ⌜ SoundFit (now fit) (now pairs) ⌝ }
+    requires of_fit { ⌜ OfFit (fitOf (now fit) (now pairs)) (w .item) ⌝ }
+    requires owner { ⌜ OwnerOf (fitOf (now fit) (now pairs)) w ⌝ }
+    requires inside { ⌜ e .«first_modifier» + e .modifiers ≤ countOf (now pairs) 3 ⌝ }
+    ensures defined { λ r.
+        ⌜ Runs rooms r used «used_plain» (foundMoves (bookAt book pairs) (fitAt fit pairs) (w .item) t e) collected «collected_values» plain ⌝ }
 {
     let o = w.item;
     let found = category_at(e.category);
     match found {
         CategoryFound::At(category) => {
             let on = category_on(o, category);
-            let used = is_used(fit, pairs, o, e, t, on);
-            if used {
+            let in_use = is_used(fit, pairs, o, e, t, on);
+            if in_use {
                 if e.modifiers == 0 {
-                    return push_plain(l, rooms, n, p, o.number, e.id);
+                    return push_plain(plain, rooms, used, used_plain, o.number, e.id);
                 }
                 let cause = Cause::Own(w, e, on);
                 return collect_modifiers(
-                    c,
-                    v,
+                    collected,
+                    collected_values,
                     book,
                     pairs,
                     rooms,
-                    n,
-                    p,
+                    used,
+                    used_plain,
                     cause,
                     e.first_modifier,
                     e.modifiers,
                 );
             }
-            Counted::At(n, p)
+            Counted::At(used, used_plain)
         }
         CategoryFound::Nothing => Counted::Refused(Refusal::Category(e.number)),
     }
@@ -88,93 +91,136 @@ fn collect_found(
 
 // A missing effect is passed over.
 fn collect_effect(
-    c: &mut [CollectedRow],
-    v: &mut [f64],
-    l: &mut [[u32; 2]],
+    collected: &mut [CollectedRow],
+    collected_values: &mut [f64],
+    plain: &mut [PlainRow],
     book: &[u8],
     fit: &[u8],
     pairs: &TablePairs,
     rooms: CollectedRooms,
-    n: usize,
-    p: usize,
+    used: usize,
+    used_plain: usize,
     w: Owner,
     t: TypeDogmaEffect,
 ) -> Counted
-    requires { ⌜ AllLent rooms (now c) (now v) (now l) ⌝ }
-    requires { ⌜ SoundBook (now book) (now pairs) ⌝ }
-    requires { ⌜ SoundFit (now fit) (now pairs) ⌝ }
-    requires { ⌜ OfFit (fitOf (now fit) (now pairs)) (w .item) ⌝ }
-    requires { ⌜ OwnerOf (fitOf (now fit) (now pairs)) w ⌝ }
-    ensures { λ r. ⌜ standOf r (now (c .exit)) (now (v .exit)) (now (l .exit)) ≡ ran rooms (effectMoves (bookOf (now (book .entry)) (now (pairs .entry))) (fitOf (now (fit .entry)) (now (pairs .entry))) (w .item) t) (at n p (now (c .entry)) (now (v .entry)) (now (l .entry))) ⌝ }
+    requires lent { ⌜ AllLent rooms (now collected) (now «collected_values») (now plain) ⌝ }
+    requires sound_book { ⌜ SoundBook (now book) (now pairs) ⌝ }
+    requires sound_fit { ⌜ SoundFit (now fit) (now pairs) ⌝ }
+    requires of_fit { ⌜ OfFit (fitOf (now fit) (now pairs)) (w .item) ⌝ }
+    requires owner { ⌜ OwnerOf (fitOf (now fit) (now pairs)) w ⌝ }
+    ensures defined { λ r.
+        ⌜ Runs rooms r used «used_plain» (effectMoves (bookAt book pairs) (fitAt fit pairs) (w .item) t) collected «collected_values» plain ⌝ }
 {
     let found = get_dogma_effect(book, pairs, t.effect_id);
     match found {
-        FoundEffect::At(e) => collect_found(c, v, l, book, fit, pairs, rooms, n, p, w, t, e),
-        FoundEffect::Nothing => Counted::At(n, p),
+        FoundEffect::At(e) => collect_found(
+            collected,
+            collected_values,
+            plain,
+            book,
+            fit,
+            pairs,
+            rooms,
+            used,
+            used_plain,
+            w,
+            t,
+            e,
+        ),
+        FoundEffect::Nothing => Counted::At(used, used_plain),
     }
 }
 
 // An effect that is not among the type's own.
 fn collect_new(
-    c: &mut [CollectedRow],
-    v: &mut [f64],
-    l: &mut [[u32; 2]],
+    collected: &mut [CollectedRow],
+    collected_values: &mut [f64],
+    plain: &mut [PlainRow],
     book: &[u8],
     fit: &[u8],
     pairs: &TablePairs,
     rooms: CollectedRooms,
-    n: usize,
-    p: usize,
+    used: usize,
+    used_plain: usize,
     w: Owner,
     t: TypeDogmaEffect,
     own: TypeEffects,
 ) -> Counted
-    requires { ⌜ AllLent rooms (now c) (now v) (now l) ⌝ }
-    requires { ⌜ SoundBook (now book) (now pairs) ⌝ }
-    requires { ⌜ SoundFit (now fit) (now pairs) ⌝ }
-    requires { ⌜ OfFit (fitOf (now fit) (now pairs)) (w .item) ⌝ }
-    requires { ⌜ OwnerOf (fitOf (now fit) (now pairs)) w ⌝ }
-    requires { ⌜ own .first + own .count ≤ countOf (now pairs) 4 ⌝ }
-    ensures { λ r. ⌜ standOf r (now (c .exit)) (now (v .exit)) (now (l .exit)) ≡ ran rooms (newMoves (bookOf (now (book .entry)) (now (pairs .entry))) (fitOf (now (fit .entry)) (now (pairs .entry))) (w .item) (span (own .first) (own .count) (bookOf (now (book .entry)) (now (pairs .entry)) .typeEffects)) t) (at n p (now (c .entry)) (now (v .entry)) (now (l .entry))) ⌝ }
+    requires lent { ⌜ AllLent rooms (now collected) (now «collected_values») (now plain) ⌝ }
+    requires sound_book { ⌜ SoundBook (now book) (now pairs) ⌝ }
+    requires sound_fit { ⌜ SoundFit (now fit) (now pairs) ⌝ }
+    requires of_fit { ⌜ OfFit (fitOf (now fit) (now pairs)) (w .item) ⌝ }
+    requires owner { ⌜ OwnerOf (fitOf (now fit) (now pairs)) w ⌝ }
+    requires inside { ⌜ own .first + own .count ≤ countOf (now pairs) 4 ⌝ }
+    ensures defined { λ r.
+        let moves = newMoves (bookAt book pairs) (fitAt fit pairs) (w .item) (runAt book pairs own) t in
+        ⌜ Runs rooms r used «used_plain» moves collected «collected_values» plain ⌝ }
 {
     if has_effect(book, pairs, own.first, own.count, t) {
-        return Counted::At(n, p);
+        return Counted::At(used, used_plain);
     }
-    collect_effect(c, v, l, book, fit, pairs, rooms, n, p, w, t)
+    collect_effect(
+        collected,
+        collected_values,
+        plain,
+        book,
+        fit,
+        pairs,
+        rooms,
+        used,
+        used_plain,
+        w,
+        t,
+    )
 }
 
 // A run of type effects, but for those that are among the type's own.
 fn collect_run(
-    c: &mut [CollectedRow],
-    v: &mut [f64],
-    l: &mut [[u32; 2]],
+    collected: &mut [CollectedRow],
+    collected_values: &mut [f64],
+    plain: &mut [PlainRow],
     book: &[u8],
     fit: &[u8],
     pairs: &TablePairs,
     rooms: CollectedRooms,
-    n: usize,
-    p: usize,
+    used: usize,
+    used_plain: usize,
     w: Owner,
     run: TypeEffects,
     own: TypeEffects,
 ) -> Counted
-    requires { ⌜ AllLent rooms (now c) (now v) (now l) ⌝ }
-    requires { ⌜ SoundBook (now book) (now pairs) ⌝ }
-    requires { ⌜ SoundFit (now fit) (now pairs) ⌝ }
-    requires { ⌜ OfFit (fitOf (now fit) (now pairs)) (w .item) ⌝ }
-    requires { ⌜ OwnerOf (fitOf (now fit) (now pairs)) w ⌝ }
-    requires { ⌜ run .first + run .count ≤ countOf (now pairs) 4 ⌝ }
-    requires { ⌜ own .first + own .count ≤ countOf (now pairs) 4 ⌝ }
-    ensures { λ r. ⌜ standOf r (now (c .exit)) (now (v .exit)) (now (l .exit)) ≡ ran rooms (flat (newMoves (bookOf (now (book .entry)) (now (pairs .entry))) (fitOf (now (fit .entry)) (now (pairs .entry))) (w .item) (span (own .first) (own .count) (bookOf (now (book .entry)) (now (pairs .entry)) .typeEffects))) (span (run .first) (run .count) (bookOf (now (book .entry)) (now (pairs .entry)) .typeEffects))) (at n p (now (c .entry)) (now (v .entry)) (now (l .entry))) ⌝ }
+    requires lent { ⌜ AllLent rooms (now collected) (now «collected_values») (now plain) ⌝ }
+    requires sound_book { ⌜ SoundBook (now book) (now pairs) ⌝ }
+    requires sound_fit { ⌜ SoundFit (now fit) (now pairs) ⌝ }
+    requires of_fit { ⌜ OfFit (fitOf (now fit) (now pairs)) (w .item) ⌝ }
+    requires owner { ⌜ OwnerOf (fitOf (now fit) (now pairs)) w ⌝ }
+    requires inside { ⌜ run .first + run .count ≤ countOf (now pairs) 4 ⌝ }
+    requires inside_own { ⌜ own .first + own .count ≤ countOf (now pairs) 4 ⌝ }
+    ensures defined { λ r.
+        let all = flat (newMoves (bookAt book pairs) (fitAt fit pairs) (w .item) (runAt book pairs own)) (runAt book pairs run) in
+        ⌜ Runs rooms r used «used_plain» all collected «collected_values» plain ⌝ }
 {
-    let mut a = n;
-    let mut b = p;
+    let mut a = used;
+    let mut b = used_plain;
     let mut i = run.first;
     let end = i + run.count;
     while i < end {
         let t = type_effect(book, pairs, i);
         i += 1;
-        let got = collect_new(c, v, l, book, fit, pairs, rooms, a, b, w, t, own);
+        let got = collect_new(
+            collected,
+            collected_values,
+            plain,
+            book,
+            fit,
+            pairs,
+            rooms,
+            a,
+            b,
+            w,
+            t,
+            own,
+        );
         match got {
             Counted::At(k, j) => {
                 a = k;
@@ -188,35 +234,61 @@ fn collect_run(
 
 // Own type effects first, then base effects whose id the type lacks.
 pub fn collect_effects(
-    c: &mut [CollectedRow],
-    v: &mut [f64],
-    l: &mut [[u32; 2]],
+    collected: &mut [CollectedRow],
+    collected_values: &mut [f64],
+    plain: &mut [PlainRow],
     book: &[u8],
     fit: &[u8],
     pairs: &TablePairs,
     rooms: CollectedRooms,
-    n: usize,
-    p: usize,
+    used: usize,
+    used_plain: usize,
     w: Owner,
 ) -> Counted
-    requires { ⌜ AllLent rooms (now c) (now v) (now l) ⌝ }
-    requires { ⌜ SoundBook (now book) (now pairs) ⌝ }
-    requires { ⌜ SoundFit (now fit) (now pairs) ⌝ }
-    requires { ⌜ OfFit (fitOf (now fit) (now pairs)) (w .item) ⌝ }
-    requires { ⌜ OwnerOf (fitOf (now fit) (now pairs)) w ⌝ }
-    ensures { λ r. ⌜ standOf r (now (c .exit)) (now (v .exit)) (now (l .exit)) ≡ ran rooms (ownMoves (bookOf (now (book .entry)) (now (pairs .entry))) (fitOf (now (fit .entry)) (now (pairs .entry))) (w .item)) (at n p (now (c .entry)) (now (v .entry)) (now (l .entry))) ⌝ }
+    requires lent { ⌜ AllLent rooms (now collected) (now «collected_values») (now plain) ⌝ }
+    requires sound_book { ⌜ SoundBook (now book) (now pairs) ⌝ }
+    requires sound_fit { ⌜ SoundFit (now fit) (now pairs) ⌝ }
+    requires of_fit { ⌜ OfFit (fitOf (now fit) (now pairs)) (w .item) ⌝ }
+    requires owner { ⌜ OwnerOf (fitOf (now fit) (now pairs)) w ⌝ }
+    ensures defined { λ r. ⌜ Runs rooms r used «used_plain» (ownMoves (bookAt book pairs) (fitAt fit pairs) (w .item)) collected «collected_values» plain ⌝ }
 {
     let o = w.item;
     let own = get_dogma_effects(book, pairs, o.type_id);
     let none = TypeEffects { first: 0, count: 0 };
-    let got = collect_run(c, v, l, book, fit, pairs, rooms, n, p, w, own, none);
+    let got = collect_run(
+        collected,
+        collected_values,
+        plain,
+        book,
+        fit,
+        pairs,
+        rooms,
+        used,
+        used_plain,
+        w,
+        own,
+        none,
+    );
     if !mutated(o) {
         return got;
     }
     match got {
         Counted::At(a, b) => {
             let base = get_dogma_effects(book, pairs, o.mutation_base);
-            collect_run(c, v, l, book, fit, pairs, rooms, a, b, w, base, own)
+            collect_run(
+                collected,
+                collected_values,
+                plain,
+                book,
+                fit,
+                pairs,
+                rooms,
+                a,
+                b,
+                w,
+                base,
+                own,
+            )
         }
         Counted::Refused(x) => Counted::Refused(x),
     }

@@ -7,6 +7,8 @@ use super::owners::hull_of;
 use super::owners::owner_of;
 use super::projected::collect_projected;
 use columns::CollectedRow;
+use columns::PlainRow;
+use columns::TABLE_OBJECTS;
 use columns::TablePairs;
 use info::header::count_of;
 use info::records::object;
@@ -26,14 +28,16 @@ ghost use lib.ListN.{length};
 ghost use Rattle.rules.specs.Sheet.{bookOf, fitOf};
 ghost use Rattle.rules.specs.Collect.{moves};
 ghost use Rattle.rules.specs.Outcome as outcome;
+ghost use Rattle.info.specs.At.{bookAt, fitAt};
 ghost use Rattle.info.specs.Sound.{SoundBook, SoundFit};
+ghost use Rattle.modifier.specs.Ran.{AllLent, Runs};
+ghost use Rattle.collect.specs.At.{Collects};
 ghost use Rattle.collect.specs.OfFit.{OfFit};
-ghost use Rattle.modifier.specs.Ran.{AllLent, at, ran, standOf, ended};
 ghost use Rattle.collect.specs.Parts.{HullOf, inPhase, objectMoves, allOf, restOf};
 
 // Whether an object is collected in a phase.
 fn in_phase(phase: Phase, o: Item) -> bool
-    ensures { λ r. ⌜ r ≡ inPhase phase o ⌝ }
+    ensures defined { λ r. ⌜ r ≡ inPhase phase o ⌝ }
 {
     match phase {
         Phase::Front => o.kind <= CHAR,
@@ -45,70 +49,104 @@ fn in_phase(phase: Phase, o: Item) -> bool
 
 // One object in a phase. An item that is passed over gives nothing, and its charge neither.
 fn collect_object(
-    c: &mut [CollectedRow],
-    v: &mut [f64],
-    l: &mut [[u32; 2]],
+    collected: &mut [CollectedRow],
+    collected_values: &mut [f64],
+    plain: &mut [PlainRow],
     book: &[u8],
     fit: &[u8],
     pairs: &TablePairs,
     rooms: CollectedRooms,
-    n: usize,
-    p: usize,
+    used: usize,
+    used_plain: usize,
     hull: Hull,
     phase: Phase,
     o: Item,
 ) -> Counted
-    requires { ⌜ AllLent rooms (now c) (now v) (now l) ⌝ }
-    requires { ⌜ SoundBook (now book) (now pairs) ⌝ }
-    requires { ⌜ SoundFit (now fit) (now pairs) ⌝ }
-    requires { ⌜ HullOf (bookOf (now book) (now pairs)) (fitOf (now fit) (now pairs)) hull ⌝ }
-    requires { ⌜ OfFit (fitOf (now fit) (now pairs)) o ⌝ }
-    ensures { λ r. ⌜ standOf r (now (c .exit)) (now (v .exit)) (now (l .exit)) ≡ ran rooms (objectMoves (bookOf (now (book .entry)) (now (pairs .entry))) (fitOf (now (fit .entry)) (now (pairs .entry))) phase o) (at n p (now (c .entry)) (now (v .entry)) (now (l .entry))) ⌝ }
+    requires lent { ⌜ AllLent rooms (now collected) (now «collected_values») (now plain) ⌝ }
+    requires sound_book { ⌜ SoundBook (now book) (now pairs) ⌝ }
+    requires sound_fit { ⌜ SoundFit (now fit) (now pairs) ⌝ }
+    requires hull_of_fit { ⌜ HullOf (bookOf (now book) (now pairs)) (fitOf (now fit) (now pairs)) hull ⌝ }
+    requires of_fit { ⌜ OfFit (fitOf (now fit) (now pairs)) o ⌝ }
+    ensures defined { λ r. ⌜ Runs rooms r used «used_plain» (objectMoves (bookAt book pairs) (fitAt fit pairs) phase o) collected «collected_values» plain ⌝ }
 {
     let inside = in_phase(phase, o);
     if !inside {
-        return Counted::At(n, p);
+        return Counted::At(used, used_plain);
     }
     let categories = hull.categories;
     let over = is_passed_over(fit, pairs, categories, hull.structure, o);
     if over {
-        return Counted::At(n, p);
+        return Counted::At(used, used_plain);
     }
     let w = owner_of(fit, pairs, hull, o);
     if is_projected(o) {
-        return collect_projected(c, v, book, fit, pairs, rooms, n, p, w);
+        return collect_projected(
+            collected,
+            collected_values,
+            book,
+            fit,
+            pairs,
+            rooms,
+            used,
+            used_plain,
+            w,
+        );
     }
-    collect_effects(c, v, l, book, fit, pairs, rooms, n, p, w)
+    collect_effects(
+        collected,
+        collected_values,
+        plain,
+        book,
+        fit,
+        pairs,
+        rooms,
+        used,
+        used_plain,
+        w,
+    )
 }
 
 // All objects of a phase, in order.
 fn collect_objects(
-    c: &mut [CollectedRow],
-    v: &mut [f64],
-    l: &mut [[u32; 2]],
+    collected: &mut [CollectedRow],
+    collected_values: &mut [f64],
+    plain: &mut [PlainRow],
     book: &[u8],
     fit: &[u8],
     pairs: &TablePairs,
     rooms: CollectedRooms,
-    n: usize,
-    p: usize,
+    used: usize,
+    used_plain: usize,
     hull: Hull,
     phase: Phase,
 ) -> Counted
-    requires { ⌜ AllLent rooms (now c) (now v) (now l) ⌝ }
-    requires { ⌜ SoundBook (now book) (now pairs) ⌝ }
-    requires { ⌜ SoundFit (now fit) (now pairs) ⌝ }
-    requires { ⌜ HullOf (bookOf (now book) (now pairs)) (fitOf (now fit) (now pairs)) hull ⌝ }
-    ensures { λ r. ⌜ standOf r (now (c .exit)) (now (v .exit)) (now (l .exit)) ≡ ran rooms (allOf (bookOf (now (book .entry)) (now (pairs .entry))) (fitOf (now (fit .entry)) (now (pairs .entry))) phase) (at n p (now (c .entry)) (now (v .entry)) (now (l .entry))) ⌝ }
+    requires lent { ⌜ AllLent rooms (now collected) (now «collected_values») (now plain) ⌝ }
+    requires sound_book { ⌜ SoundBook (now book) (now pairs) ⌝ }
+    requires sound_fit { ⌜ SoundFit (now fit) (now pairs) ⌝ }
+    requires hull_of_fit { ⌜ HullOf (bookOf (now book) (now pairs)) (fitOf (now fit) (now pairs)) hull ⌝ }
+    ensures defined { λ r. ⌜ Runs rooms r used «used_plain» (allOf (bookAt book pairs) (fitAt fit pairs) phase) collected «collected_values» plain ⌝ }
 {
-    let mut a = n;
-    let mut b = p;
+    let mut a = used;
+    let mut b = used_plain;
     let mut i = 0;
-    let end = count_of(pairs, 6);
+    let end = count_of(pairs, TABLE_OBJECTS);
     while i < end {
         let o = object(fit, pairs, i);
         i += 1;
-        let got = collect_object(c, v, l, book, fit, pairs, rooms, a, b, hull, phase, o);
+        let got = collect_object(
+            collected,
+            collected_values,
+            plain,
+            book,
+            fit,
+            pairs,
+            rooms,
+            a,
+            b,
+            hull,
+            phase,
+            o,
+        );
         match got {
             Counted::At(k, j) => {
                 a = k;
@@ -122,57 +160,105 @@ fn collect_objects(
 
 // Two phases, one after the other.
 fn collect_phases(
-    c: &mut [CollectedRow],
-    v: &mut [f64],
-    l: &mut [[u32; 2]],
+    collected: &mut [CollectedRow],
+    collected_values: &mut [f64],
+    plain: &mut [PlainRow],
     book: &[u8],
     fit: &[u8],
     pairs: &TablePairs,
     rooms: CollectedRooms,
-    n: usize,
-    p: usize,
+    used: usize,
+    used_plain: usize,
     hull: Hull,
     early: Phase,
     late: Phase,
 ) -> Counted
-    requires { ⌜ AllLent rooms (now c) (now v) (now l) ⌝ }
-    requires { ⌜ SoundBook (now book) (now pairs) ⌝ }
-    requires { ⌜ SoundFit (now fit) (now pairs) ⌝ }
-    requires { ⌜ HullOf (bookOf (now book) (now pairs)) (fitOf (now fit) (now pairs)) hull ⌝ }
-    ensures { λ r. ⌜ standOf r (now (c .exit)) (now (v .exit)) (now (l .exit)) ≡ ran rooms (allOf (bookOf (now (book .entry)) (now (pairs .entry))) (fitOf (now (fit .entry)) (now (pairs .entry))) early ++ allOf (bookOf (now (book .entry)) (now (pairs .entry))) (fitOf (now (fit .entry)) (now (pairs .entry))) late) (at n p (now (c .entry)) (now (v .entry)) (now (l .entry))) ⌝ }
+    requires lent { ⌜ AllLent rooms (now collected) (now «collected_values») (now plain) ⌝ }
+    requires sound_book { ⌜ SoundBook (now book) (now pairs) ⌝ }
+    requires sound_fit { ⌜ SoundFit (now fit) (now pairs) ⌝ }
+    requires hull_of_fit { ⌜ HullOf (bookOf (now book) (now pairs)) (fitOf (now fit) (now pairs)) hull ⌝ }
+    ensures defined { λ r.
+        let both = allOf (bookAt book pairs) (fitAt fit pairs) early ++ allOf (bookAt book pairs) (fitAt fit pairs) late in
+        ⌜ Runs rooms r used «used_plain» both collected «collected_values» plain ⌝ }
 {
-    let got = collect_objects(c, v, l, book, fit, pairs, rooms, n, p, hull, early);
+    let got = collect_objects(
+        collected,
+        collected_values,
+        plain,
+        book,
+        fit,
+        pairs,
+        rooms,
+        used,
+        used_plain,
+        hull,
+        early,
+    );
     match got {
-        Counted::At(a, b) => collect_objects(c, v, l, book, fit, pairs, rooms, a, b, hull, late),
+        Counted::At(a, b) => collect_objects(
+            collected,
+            collected_values,
+            plain,
+            book,
+            fit,
+            pairs,
+            rooms,
+            a,
+            b,
+            hull,
+            late,
+        ),
         Counted::Refused(x) => Counted::Refused(x),
     }
 }
 
 // The buffs, items each with its charge, and skills.
 fn collect_rest(
-    c: &mut [CollectedRow],
-    v: &mut [f64],
-    l: &mut [[u32; 2]],
+    collected: &mut [CollectedRow],
+    collected_values: &mut [f64],
+    plain: &mut [PlainRow],
     book: &[u8],
     fit: &[u8],
     pairs: &TablePairs,
     rooms: CollectedRooms,
-    n: usize,
-    p: usize,
+    used: usize,
+    used_plain: usize,
     hull: Hull,
 ) -> Counted
-    requires { ⌜ AllLent rooms (now c) (now v) (now l) ⌝ }
-    requires { ⌜ SoundBook (now book) (now pairs) ⌝ }
-    requires { ⌜ SoundFit (now fit) (now pairs) ⌝ }
-    requires { ⌜ HullOf (bookOf (now book) (now pairs)) (fitOf (now fit) (now pairs)) hull ⌝ }
-    ensures { λ r. ⌜ standOf r (now (c .exit)) (now (v .exit)) (now (l .exit)) ≡ ran rooms (restOf (bookOf (now (book .entry)) (now (pairs .entry))) (fitOf (now (fit .entry)) (now (pairs .entry)))) (at n p (now (c .entry)) (now (v .entry)) (now (l .entry))) ⌝ }
+    requires lent { ⌜ AllLent rooms (now collected) (now «collected_values») (now plain) ⌝ }
+    requires sound_book { ⌜ SoundBook (now book) (now pairs) ⌝ }
+    requires sound_fit { ⌜ SoundFit (now fit) (now pairs) ⌝ }
+    requires hull_of_fit { ⌜ HullOf (bookOf (now book) (now pairs)) (fitOf (now fit) (now pairs)) hull ⌝ }
+    ensures defined { λ r. ⌜ Runs rooms r used «used_plain» (restOf (bookAt book pairs) (fitAt fit pairs)) collected «collected_values» plain ⌝ }
 {
-    let got = collect_buffs(c, v, book, fit, pairs, rooms, n, p);
+    let got = collect_buffs(
+        collected,
+        collected_values,
+        book,
+        fit,
+        pairs,
+        rooms,
+        used,
+        used_plain,
+    );
     match got {
         Counted::At(a, b) => {
             let early = Phase::Fitted;
             let late = Phase::Skills;
-            collect_phases(c, v, l, book, fit, pairs, rooms, a, b, hull, early, late)
+            collect_phases(
+                collected,
+                collected_values,
+                plain,
+                book,
+                fit,
+                pairs,
+                rooms,
+                a,
+                b,
+                hull,
+                early,
+                late,
+            )
         }
         Counted::Refused(x) => Counted::Refused(x),
     }
@@ -180,20 +266,22 @@ fn collect_rest(
 
 // Collection of a sound sheet into lists 1 and 4. After a refusal the columns may hold anything: who lent them clears them.
 pub fn collect(
-    c: &mut [CollectedRow],
-    v: &mut [f64],
-    l: &mut [[u32; 2]],
+    collected: &mut [CollectedRow],
+    collected_values: &mut [f64],
+    plain: &mut [PlainRow],
     book: &[u8],
     fit: &[u8],
     pairs: &TablePairs,
     room: usize,
     room_plain: usize,
 ) -> Counted
-    requires { ⌜ (room ≤ length (now c)) × (room ≤ length (now v)) ⌝ }
-    requires { ⌜ «room_plain» ≤ length (now l) ⌝ }
-    requires { ⌜ SoundBook (now book) (now pairs) ⌝ }
-    requires { ⌜ SoundFit (now fit) (now pairs) ⌝ }
-    ensures { λ r. ⌜ ((q : outcome.Rooms) → q .collected ≡ room → q .plain ≡ «room_plain» → standOf r (now (c .exit)) (now (v .exit)) (now (l .exit)) ≡ ended (outcome.collected q 0 0 (moves (bookOf (now (book .entry)) (now (pairs .entry))) (fitOf (now (fit .entry)) (now (pairs .entry))))) (moves (bookOf (now (book .entry)) (now (pairs .entry))) (fitOf (now (fit .entry)) (now (pairs .entry)))) (now (c .entry)) (now (v .entry)) (now (l .entry))) ⌝ }
+    requires inside { ⌜ (room ≤ length (now collected)) × (room ≤ length (now «collected_values»)) ⌝ }
+    requires plain_inside { ⌜ «room_plain» ≤ length (now plain) ⌝ }
+    requires sound_book { ⌜ SoundBook (now book) (now pairs) ⌝ }
+    requires sound_fit { ⌜ SoundFit (now fit) (now pairs) ⌝ }
+    ensures defined { λ r.
+        ⌜ ((q : outcome.Rooms) → q .collected ≡ room → q .plain ≡ «room_plain»
+        → Collects q r (moves (bookAt book pairs) (fitAt fit pairs)) collected «collected_values» plain) ⌝ }
 {
     let rooms = CollectedRooms {
         collected: room,
@@ -202,9 +290,33 @@ pub fn collect(
     let hull = hull_of(book, fit, pairs);
     let early = Phase::Front;
     let late = Phase::Projected;
-    let got = collect_phases(c, v, l, book, fit, pairs, rooms, 0, 0, hull, early, late);
+    let got = collect_phases(
+        collected,
+        collected_values,
+        plain,
+        book,
+        fit,
+        pairs,
+        rooms,
+        0,
+        0,
+        hull,
+        early,
+        late,
+    );
     match got {
-        Counted::At(a, b) => collect_rest(c, v, l, book, fit, pairs, rooms, a, b, hull),
+        Counted::At(a, b) => collect_rest(
+            collected,
+            collected_values,
+            plain,
+            book,
+            fit,
+            pairs,
+            rooms,
+            a,
+            b,
+            hull,
+        ),
         Counted::Refused(x) => Counted::Refused(x),
     }
 }

@@ -1,5 +1,6 @@
 // An object with what of the fit its modifiers go by.
 use super::Hull;
+use columns::TABLE_OBJECTS;
 use columns::TablePairs;
 use info::header::count_of;
 use info::little_endian::index;
@@ -15,18 +16,19 @@ ghost use mathlib.Core.Path.{_≡_};
 ghost use mathlib.Core.Bool.{cond};
 ghost use Prim.Native.Nat.{suc, _-_, _≤_, _<_};
 ghost use lib.ListN.{length};
-ghost use Rattle.rules.specs.Sheet.{Book, bookOf, fitOf};
-ghost use Rattle.rules.specs.Item as items;
+ghost use Rattle.rules.specs.Sheet.{Book, fitOf};
 ghost use Rattle.rules.specs.Item.{isItem, isCharge};
+ghost use Rattle.info.specs.At.{bookAt, fitAt, objectAt};
 ghost use Rattle.info.specs.Sound.{HeldFit, SoundFit};
 ghost use Rattle.modifier.specs.Tests.{OwnerOf};
 ghost use Rattle.collect.specs.OfFit.{OfFit};
 ghost use Rattle.collect.specs.Parts.{HullOf};
 
+// What of the fit all its objects go by.
 pub fn hull_of(book: &[u8], fit: &[u8], pairs: &TablePairs) -> Hull
-    requires { ⌜ 100 ≤ length (now book) ⌝ }
-    requires { ⌜ SoundFit (now fit) (now pairs) ⌝ }
-    ensures { λ r. ⌜ HullOf (bookOf (now (book .entry)) (now (pairs .entry))) (fitOf (now (fit .entry)) (now (pairs .entry))) r ⌝ }
+    requires inside { ⌜ 100 ≤ length (now book) ⌝ }
+    requires sound_fit { ⌜ SoundFit (now fit) (now pairs) ⌝ }
+    ensures of_the_fit { λ r. ⌜ HullOf (bookAt book pairs) (fitAt fit pairs) r ⌝ }
 {
     let categories = categories_of(book);
     let structure = is_structure_fit(fit, pairs);
@@ -40,11 +42,11 @@ pub fn hull_of(book: &[u8], fit: &[u8], pairs: &TablePairs) -> Hull
 
 // Whether a charge stands right after an object.
 fn is_charged(fit: &[u8], pairs: &TablePairs, number: u32) -> bool
-    requires { ⌜ HeldFit (now fit) (now pairs) ⌝ }
-    ensures { λ r. ⌜ r ≡ isCharge (items.object (fitOf (now (fit .entry)) (now (pairs .entry))) (suc number)) ⌝ }
+    requires held_fit { ⌜ HeldFit (now fit) (now pairs) ⌝ }
+    ensures defined { λ r. ⌜ r ≡ isCharge (objectAt fit pairs (suc number)) ⌝ }
 {
     let next = index(number) + 1;
-    if next < count_of(pairs, 6) {
+    if next < count_of(pairs, TABLE_OBJECTS) {
         let o = object(fit, pairs, next);
         return is_charge(o);
     }
@@ -53,8 +55,8 @@ fn is_charged(fit: &[u8], pairs: &TablePairs, number: u32) -> bool
 
 // An item's charge stands after it, and a charge's item before it.
 fn beside(o: Item) -> u32
-    requires { ⌜ o .number < 1024 ⌝ }
-    ensures { λ r. ⌜ r ≡ cond (isItem o) (suc (o .number)) (o .number - 1) ⌝ }
+    requires inside { ⌜ o .number < 1024 ⌝ }
+    ensures defined { λ r. ⌜ r ≡ cond (isItem o) (suc (o .number)) (o .number - 1) ⌝ }
 {
     if is_item(o) {
         return o.number + 1;
@@ -65,10 +67,11 @@ fn beside(o: Item) -> u32
     o.number - 1
 }
 
+// An object with what of the fit its modifiers go by.
 pub fn owner_of(fit: &[u8], pairs: &TablePairs, hull: Hull, o: Item) -> Owner
-    requires { ⌜ HeldFit (now fit) (now pairs) ⌝ }
-    requires { ⌜ OfFit (fitOf (now fit) (now pairs)) o ⌝ }
-    ensures { λ r. ⌜ ((k : Book) → HullOf k (fitOf (now (fit .entry)) (now (pairs .entry))) hull → OwnerOf (fitOf (now (fit .entry)) (now (pairs .entry))) r) × (r .item ≡ o) ⌝ }
+    requires held_fit { ⌜ HeldFit (now fit) (now pairs) ⌝ }
+    requires of_fit { ⌜ OfFit (fitOf (now fit) (now pairs)) o ⌝ }
+    ensures of_the_fit { λ r. ⌜ ((k : Book) → HullOf k (fitAt fit pairs) hull → OwnerOf (fitAt fit pairs) r) × (r .item ≡ o) ⌝ }
 {
     let charged = is_charged(fit, pairs, o.number);
     let other = beside(o);

@@ -10,23 +10,21 @@ use rules::EffectCategory;
 use rules::Item;
 use rules::TypeDogmaEffect;
 ghost use mathlib.Core.Path.{_≡_};
-ghost use mathlib.Core.Bool.{_&&_, _||_, not, cond};
 ghost use Prim.Native.Nat.{_+_, _≤_};
-ghost use lib.Dec.{eqb};
-ghost use lib.IntN.{pos};
 ghost use Rattle.laws.specs.Lists.{eqZ, some?, span};
 ghost use Rattle.rules.specs.Bytes.{countOf};
-ghost use Rattle.rules.specs.Sheet.{Book, fitOf, abilitiesOf, sideEffectsOf};
-ghost use Rattle.rules.specs.Item.{isFighter, isPassive, abilitiesGiven};
+ghost use Rattle.rules.specs.Sheet.{Book, fitOf};
 ghost use Rattle.rules.specs.Collect.{inUse};
+ghost use Rattle.info.specs.At.{fitAt};
 ghost use Rattle.info.specs.Sound.{HeldFit, SoundFit};
 ghost use Rattle.collect.specs.OfFit.{OfFit};
+ghost use Rattle.collect.specs.Uses.{isAble, isTaken};
 
 // Whether an id is among those that an object's record points at.
 fn has_id(fit: &[u8], pairs: &TablePairs, first: u32, count: u32, id: i32) -> bool
-    requires { ⌜ HeldFit (now fit) (now pairs) ⌝ }
-    requires { ⌜ first + count ≤ countOf (now pairs) 8 ⌝ }
-    ensures { λ r. ⌜ r ≡ some? (eqZ id) (span first count (fitOf (now (fit .entry)) (now (pairs .entry)) .ids)) ⌝ }
+    requires held_fit { ⌜ HeldFit (now fit) (now pairs) ⌝ }
+    requires inside { ⌜ first + count ≤ countOf (now pairs) 8 ⌝ }
+    ensures defined { λ r. ⌜ r ≡ some? (eqZ id) (span first count (fitAt fit pairs .ids)) ⌝ }
 {
     let mut i = index(first);
     let end = i + index(count);
@@ -49,9 +47,9 @@ fn is_able(
     default: u32,
     category: EffectCategory,
 ) -> bool
-    requires { ⌜ SoundFit (now fit) (now pairs) ⌝ }
-    requires { ⌜ OfFit (fitOf (now fit) (now pairs)) o ⌝ }
-    ensures { λ r. ⌜ r ≡ (not (isFighter o && not (isPassive category)) || cond (abilitiesGiven o) (some? (eqZ id) (abilitiesOf (fitOf (now (fit .entry)) (now (pairs .entry))) o)) (eqb default 1)) ⌝ }
+    requires sound_fit { ⌜ SoundFit (now fit) (now pairs) ⌝ }
+    requires of_fit { ⌜ OfFit (fitOf (now fit) (now pairs)) o ⌝ }
+    ensures defined { λ r. ⌜ r ≡ isAble (fitAt fit pairs) o id default category ⌝ }
 {
     if is_fighter(o) & !is_passive(category) {
         if abilities_given(o) {
@@ -64,9 +62,9 @@ fn is_able(
 
 // A side effect is one that the fit names.
 fn is_taken(fit: &[u8], pairs: &TablePairs, o: Item, e: DogmaEffect) -> bool
-    requires { ⌜ SoundFit (now fit) (now pairs) ⌝ }
-    requires { ⌜ OfFit (fitOf (now fit) (now pairs)) o ⌝ }
-    ensures { λ r. ⌜ r ≡ (eqZ (e .«usage_chance_attribute_id») (pos 0) || some? (eqZ (e .id)) (sideEffectsOf (fitOf (now (fit .entry)) (now (pairs .entry))) o)) ⌝ }
+    requires sound_fit { ⌜ SoundFit (now fit) (now pairs) ⌝ }
+    requires of_fit { ⌜ OfFit (fitOf (now fit) (now pairs)) o ⌝ }
+    ensures defined { λ r. ⌜ r ≡ isTaken (fitAt fit pairs) o e ⌝ }
 {
     if e.usage_chance_attribute_id == 0 {
         return true;
@@ -83,9 +81,9 @@ pub fn is_used(
     t: TypeDogmaEffect,
     category: EffectCategory,
 ) -> bool
-    requires { ⌜ SoundFit (now fit) (now pairs) ⌝ }
-    requires { ⌜ OfFit (fitOf (now fit) (now pairs)) o ⌝ }
-    ensures { λ r. ⌜ ((k : Book) → r ≡ inUse k (fitOf (now (fit .entry)) (now (pairs .entry))) o e t category) ⌝ }
+    requires sound_fit { ⌜ SoundFit (now fit) (now pairs) ⌝ }
+    requires of_fit { ⌜ OfFit (fitOf (now fit) (now pairs)) o ⌝ }
+    ensures defined { λ r. ⌜ ((k : Book) → r ≡ inUse k (fitAt fit pairs) o e t category) ⌝ }
 {
     is_able(fit, pairs, o, e.id, t.is_default, category) & is_taken(fit, pairs, o, e)
 }

@@ -177,4 +177,16 @@ pub const TABLE_ATTRIBUTES: usize = 1;
 
 pub const TABLE_OBJECTS: usize = 6;
 
+pub const TABLE_BUFFS: usize = 9;
+
 pub const TABLE_ASKS: usize = 10;
+
+// Of each object a number: how many hits it has, or a place in list 3.
+pub type Places = [u32; OBJECTS];
+
+// The key of a hit: its object and its attribute.
+pub type HitKey = [u32; 2];
+
+pub const KEY_OBJECT: usize = 0;
+
+pub const KEY_ATTRIBUTE: usize = 1;

@@ -2,21 +2,23 @@
 use columns::AttributeRow;
 use columns::CollectedRow;
 use columns::EntryRow;
+use columns::OBJECTS;
 use columns::TablePairs;
 use hits::places::set_hits;
 use room::full_at;
 use rows::object_lists::all_lists;
 use rows::rows::Laid;
-ghost use mathlib.Core.Path.{_≡_};
 ghost use mathlib.Core.List.{List};
 ghost use Prim.Native.Nat.{_≤_, _<_, _^_};
 ghost use lib.ListN.{length};
 ghost use Rattle.rules.specs.Bytes.{countOf};
-ghost use Rattle.rules.specs.Sheet.{bookOf, fitOf};
+ghost use Rattle.rules.specs.Sheet.{fitOf};
 ghost use Rattle.rules.specs.Dispatch.{baseKeys};
 ghost use Rattle.rules.specs.declared.Pass2Effect.{Pass2Effect};
+ghost use Rattle.info.specs.At.{bookAt, fitAt};
 ghost use Rattle.info.specs.Sound.{SoundBook, SoundFit};
-ghost use Rattle.dispatch.specs.Whole.{Collection, Collecting, Given};
+ghost use Rattle.dispatch.specs.At.{CollectionAt, GivenAt};
+ghost use Rattle.dispatch.specs.Whole.{Collecting};
 
 pub mod room;
 
@@ -41,14 +43,16 @@ pub fn dispatch(
     room: usize,
     room_entries: usize,
 ) -> Dispatched
-    requires { ⌜ SoundBook (now book) (now pairs) ⌝ }
-    requires { ⌜ SoundFit (now fit) (now pairs) ⌝ }
-    requires { ⌜ Collecting n (now collected) (now «collected_values») (countOf (now pairs) 6) ⌝ }
-    requires { ⌜ (room ≤ length (now rows)) × (room ≤ length (now bases)) × (length (baseKeys (fitOf (now fit) (now pairs))) ≤ room) ⌝ }
-    requires { ⌜ («room_entries» ≤ length (now entries)) × («room_entries» ≤ length (now values)) × (n < 2 ^ 32) × («room_entries» < 2 ^ 32) ⌝ }
-    ensures { λ r. ⌜ ((es : List Pass2Effect) → Collection es n (now (collected .entry)) (now («collected_values» .entry)) (countOf (now (pairs .entry)) 6) → Given r room «room_entries» (bookOf (now (book .entry)) (now (pairs .entry))) (fitOf (now (fit .entry)) (now (pairs .entry))) es (now (rows .entry)) (now (rows .exit)) (now (bases .entry)) (now (bases .exit)) (now (entries .entry)) (now (entries .exit)) (now (values .entry)) (now (values .exit))) ⌝ }
+    requires sound_book { ⌜ SoundBook (now book) (now pairs) ⌝ }
+    requires sound_fit { ⌜ SoundFit (now fit) (now pairs) ⌝ }
+    requires collected_effects { ⌜ Collecting n (now collected) (now «collected_values») (countOf (now pairs) 6) ⌝ }
+    requires inside { ⌜ (room ≤ length (now rows)) × (room ≤ length (now bases)) × (length (baseKeys (fitOf (now fit) (now pairs))) ≤ room) ⌝ }
+    requires entries_inside { ⌜ («room_entries» ≤ length (now entries)) × («room_entries» ≤ length (now values)) × (n < 2 ^ 32) × («room_entries» < 2 ^ 32) ⌝ }
+    ensures defined { λ r.
+        ⌜ ((es : List Pass2Effect) → CollectionAt es n collected «collected_values» pairs
+        → GivenAt r room «room_entries» (bookAt book pairs) (fitAt fit pairs) es rows bases entries values) ⌝ }
 {
-    let mut ends = [0u32; 1024];
+    let mut ends = [0u32; OBJECTS];
     let mut past = [0u32; 2];
     let used = set_hits(
         entries,

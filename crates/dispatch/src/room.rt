@@ -1,5 +1,11 @@
 // Room: how many rows stand before any collection, and the list that the hit past the room of entries finds full.
 use columns::AttributeRow;
+use columns::HitKey;
+use columns::KEY_ATTRIBUTE;
+use columns::KEY_OBJECT;
+use columns::ROW_ATTRIBUTE;
+use columns::ROW_OBJECT;
+use columns::TABLE_OBJECTS;
 use columns::TablePairs;
 use info::header::count_of;
 use info::little_endian::index;
@@ -10,17 +16,17 @@ ghost use Prim.Native.Nat.{ℕ, _≤_};
 ghost use lib.Dec.{eqb};
 ghost use lib.ListN.{length, getD, take};
 ghost use Rattle.laws.specs.Lists.{some?};
-ghost use Rattle.rules.specs.Sheet.{fitOf};
 ghost use Rattle.rules.specs.Dispatch.{baseKeys};
+ghost use Rattle.info.specs.At.{fitAt};
 ghost use Rattle.info.specs.Sound.{SoundFit};
 ghost use Rattle.dispatch.specs.Keyed.{isRow};
 
 // How many base attributes all objects have: the rows that stand before any collection.
 pub fn base_total(fit: &[u8], pairs: &TablePairs) -> usize
-    requires { ⌜ SoundFit (now fit) (now pairs) ⌝ }
-    ensures { λ r. ⌜ r ≡ length (baseKeys (fitOf (now (fit .entry)) (now (pairs .entry)))) ⌝ }
+    requires sound_fit { ⌜ SoundFit (now fit) (now pairs) ⌝ }
+    ensures defined { λ r. ⌜ r ≡ length (baseKeys (fitAt fit pairs)) ⌝ }
 {
-    let objects = count_of(pairs, 6);
+    let objects = count_of(pairs, TABLE_OBJECTS);
     let mut total: usize = 0;
     let mut i = 0;
     while i < objects {
@@ -34,13 +40,13 @@ pub fn base_total(fit: &[u8], pairs: &TablePairs) -> usize
 
 // Whether an attribute of an object has a row among the first n.
 fn has_row(rows: &[AttributeRow], n: usize, object: u32, attribute: u32) -> bool
-    requires { ⌜ n ≤ length (now rows) ⌝ }
-    ensures { λ r. ⌜ r ≡ some? (isRow object attribute) (take n (now (rows .entry))) ⌝ }
+    requires inside { ⌜ n ≤ length (now rows) ⌝ }
+    ensures defined { λ r. ⌜ r ≡ some? (isRow object attribute) (take n (now (rows .entry))) ⌝ }
 {
     let mut k = 0;
     while k < n {
         let row = rows[k];
-        if (row[0] == object) & (row[1] == attribute) {
+        if (row[ROW_OBJECT] == object) & (row[ROW_ATTRIBUTE] == attribute) {
             return true;
         }
         k += 1;
@@ -49,14 +55,16 @@ fn has_row(rows: &[AttributeRow], n: usize, object: u32, attribute: u32) -> bool
 }
 
 // The list that the hit past the room of entries finds full, where n rows stand: it takes its row first.
-pub fn full_at(rows: &[AttributeRow], past: [u32; 2], n: usize, room: usize) -> u32
-    requires { ⌜ n ≤ length (now rows) ⌝ }
-    ensures { λ r. ⌜ r ≡ cond (eqb n room && not (some? (isRow (getD past 0 0) (getD past 1 0)) (take n (now (rows .entry))))) 2 3 ⌝ }
+pub fn full_at(rows: &[AttributeRow], past: HitKey, n: usize, room: usize) -> u32
+    requires inside { ⌜ n ≤ length (now rows) ⌝ }
+    ensures the_list { λ r.
+        let there = some? (isRow (getD past 0 0) (getD past 1 0)) (take n (now (rows .entry))) in
+        ⌜ r ≡ cond (eqb n room && not there) 2 3 ⌝ }
 {
     if n != room {
         return 3;
     }
-    let there = has_row(rows, n, past[0], past[1]);
+    let there = has_row(rows, n, past[KEY_OBJECT], past[KEY_ATTRIBUTE]);
     if there {
         return 3;
     }

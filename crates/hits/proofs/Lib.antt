@@ -10,10 +10,10 @@ pub mod Effects
 pub mod Marking
 pub mod Skipping
 pub mod Running
-pub mod Tallying
+pub mod Views
 pub mod Firsts
 pub mod Arriving
-pub mod Stowing
+pub mod Walking
 pub mod Gathering
 pub mod Gates
 pub mod Filling

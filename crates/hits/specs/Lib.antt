@@ -3,3 +3,4 @@ pub mod Who
 pub mod Marks
 pub mod Strikes
 pub mod Steps
+pub mod At

@@ -1,5 +1,11 @@
 // Whom the collected effects touch (pass_2.rs, second half): the aims of an effect, and the test of an object.
+use columns::COLLECTED_FUNC;
+use columns::COLLECTED_ORIGIN;
+use columns::COLLECTED_SKILL_OR_GROUP;
+use columns::COLLECTED_SOURCE;
+use columns::COLLECTED_TARGET;
 use columns::CollectedRow;
+use columns::OBJECTS;
 use columns::TablePairs;
 use info::little_endian::index;
 use info::records::object;
@@ -20,6 +26,7 @@ ghost use Rattle.rules.specs.Sheet.{Book, Fit, fitOf};
 ghost use Rattle.rules.specs.Dispatch.{meant};
 ghost use Rattle.rules.specs.Columns.{collectedNumbers};
 ghost use Rattle.rules.specs.declared.Pass2Effect.{Pass2Effect};
+ghost use Rattle.info.specs.At.{fitAt};
 ghost use Rattle.info.specs.Sound.{HeldFit, SoundFit};
 ghost use Rattle.info.specs.Stands.{Stands, Pointing, Narrow};
 ghost use Rattle.hits.specs.Who.{passesBy, Aims, atLocation, charItems, bySkill, byOwner, alone, nobody, First, Second};
@@ -39,7 +46,13 @@ pub struct Aim {
     pub test: Test,
 }
 
-// Columns of what reaches an object, each 0 or 1 but the last.
+// What reaches an object, in columns, each 0 or 1 but the last.
+pub const REACH_WIDTH: usize = 8;
+
+pub type ReachRow = [u32; REACH_WIDTH];
+
+pub type ReachTable = [ReachRow; OBJECTS];
+
 const IN_SHIP: usize = 0;
 
 const WITH_CHAR: usize = 1;
@@ -56,11 +69,23 @@ const ANY: usize = 6;
 
 const GROUP: usize = 7;
 
+// The skills that an object requires.
+pub const SKILL_WIDTH: usize = 6;
+
+pub type SkillRow = [u64; SKILL_WIDTH];
+
+pub type SkillTable = [SkillRow; OBJECTS];
+
+// Marks of the skills that the objects require, by their numbers modulo 1,024.
+pub const SKILL_MARKS: usize = 1024;
+
+pub type SkillMarks = [u32; SKILL_MARKS];
+
 // ---- the aims of an effect
 
 // The aim at one object.
 fn one(target: u32, test: Test) -> Aim
-    ensures { λ r. ⌜ r ≡ alone target test ⌝ }
+    ensures defined { λ r. ⌜ r ≡ alone target test ⌝ }
 {
     let from = target as usize;
     Aim {
@@ -73,7 +98,7 @@ fn one(target: u32, test: Test) -> Aim
 
 // The aim at nobody.
 pub fn none() -> Aim
-    ensures { λ r. ⌜ r ≡ nobody ⌝ }
+    ensures defined { λ r. ⌜ r ≡ nobody ⌝ }
 {
     Aim {
         from: 0,
@@ -85,7 +110,7 @@ pub fn none() -> Aim
 
 // The aim at a location: the ship's, the char's without its items, or the object itself.
 fn located(s: Spans, target: u32, test: Test) -> Aim
-    ensures { λ r. ⌜ ((k : Book) (f : Fit) → Stands f s → target < length (f .objects) → Aims (atLocation test target k f) k f r) ⌝ }
+    ensures defined { λ r. ⌜ ((k : Book) (f : Fit) → Stands f s → target < length (f .objects) → Aims (atLocation test target k f) k f r) ⌝ }
 {
     if target == 0 {
         return Aim {
@@ -108,7 +133,7 @@ fn located(s: Spans, target: u32, test: Test) -> Aim
 
 // The aim at the char's items.
 fn char_items(s: Spans, test: Test) -> Aim
-    ensures { λ r. ⌜ ((k : Book) (f : Fit) → Stands f s → Aims (charItems test (s .character) k f) k f r) ⌝ }
+    ensures defined { λ r. ⌜ ((k : Book) (f : Fit) → Stands f s → Aims (charItems test (s .character) k f) k f r) ⌝ }
 {
     Aim {
         from: s.first,
@@ -120,7 +145,7 @@ fn char_items(s: Spans, test: Test) -> Aim
 
 // The aim at items and charges, on the char or in the ship, that require a skill.
 fn skilled(s: Spans, target: u32, test: Test) -> Aim
-    ensures { λ r. ⌜ ((k : Book) (f : Fit) → Stands f s → target < length (f .objects) → Aims (bySkill test target k f) k f r) ⌝ }
+    ensures defined { λ r. ⌜ ((k : Book) (f : Fit) → Stands f s → target < length (f .objects) → Aims (bySkill test target k f) k f r) ⌝ }
 {
     if target == s.character {
         return Aim {
@@ -140,7 +165,7 @@ fn skilled(s: Spans, target: u32, test: Test) -> Aim
 
 // The aim at drones, fighters and charges that require a skill.
 fn owned(s: Spans, test: Test) -> Aim
-    ensures { λ r. ⌜ ((k : Book) (f : Fit) → Stands f s → Aims (byOwner test k f) k f r) ⌝ }
+    ensures defined { λ r. ⌜ ((k : Book) (f : Fit) → Stands f s → Aims (byOwner test k f) k f r) ⌝ }
 {
     Aim {
         from: s.first,
@@ -152,34 +177,39 @@ fn owned(s: Spans, test: Test) -> Aim
 
 // The bits of the skill that effect j means: -1 is the source's own type; a buff's is 0.
 fn skill_of(collected: &[CollectedRow], fit: &[u8], pairs: &TablePairs, j: usize) -> u32
-    requires { ⌜ j < length (now collected) ⌝ }
-    requires { ⌜ HeldFit (now fit) (now pairs) ⌝ }
-    requires { ⌜ Pointing (getD (now collected) j []) (countOf (now pairs) 6) ⌝ }
-    ensures { λ r. ⌜ ((t : Pass2Effect) (s : ℤ) → getD (now (collected .entry)) j [] ≡ collectedNumbers t → getD (getD (now (collected .entry)) j []) 7 0 ≡ bytes.bits s → SFits w32 s → r ≡ bytes.bits (meant (fitOf (now (fit .entry)) (now (pairs .entry))) (t .origin) s)) ⌝ }
+    requires inside { ⌜ j < length (now collected) ⌝ }
+    requires held_fit { ⌜ HeldFit (now fit) (now pairs) ⌝ }
+    requires pointing { ⌜ Pointing (getD (now collected) j []) (countOf (now pairs) 6) ⌝ }
+    ensures defined { λ r.
+        let row = getD (now (collected .entry)) j [] in
+        ⌜ ((t : Pass2Effect) (s : ℤ) → row ≡ collectedNumbers t → getD row 7 0 ≡ bytes.bits s → SFits w32 s
+        → r ≡ bytes.bits (meant (fitAt fit pairs) (t .origin) s)) ⌝ }
 {
-    let skill = collected[j][7];
+    let skill = collected[j][COLLECTED_SKILL_OR_GROUP];
     if skill != 4294967295 {
         return skill;
     }
-    let origin = collected[j][0];
+    let origin = collected[j][COLLECTED_ORIGIN];
     if origin == 1 {
         return 0;
     }
-    let source = object(fit, pairs, index(collected[j][2]));
+    let source = object(fit, pairs, index(collected[j][COLLECTED_SOURCE]));
     bits(source.type_id)
 }
 
 // Whom effect j touches first.
 pub fn aim_of(collected: &[CollectedRow], fit: &[u8], pairs: &TablePairs, s: Spans, j: usize) -> Aim
-    requires { ⌜ j < length (now collected) ⌝ }
-    requires { ⌜ SoundFit (now fit) (now pairs) ⌝ }
-    requires { ⌜ Pointing (getD (now collected) j []) (countOf (now pairs) 6) ⌝ }
-    requires { ⌜ Stands (fitOf (now fit) (now pairs)) s ⌝ }
-    ensures { λ r. ⌜ ((k : Book) (t : Pass2Effect) → getD (now (collected .entry)) j [] ≡ collectedNumbers t → Narrow (t .modifier) → First k (fitOf (now (fit .entry)) (now (pairs .entry))) t r) ⌝ }
+    requires inside { ⌜ j < length (now collected) ⌝ }
+    requires sound_fit { ⌜ SoundFit (now fit) (now pairs) ⌝ }
+    requires pointing { ⌜ Pointing (getD (now collected) j []) (countOf (now pairs) 6) ⌝ }
+    requires standing { ⌜ Stands (fitOf (now fit) (now pairs)) s ⌝ }
+    ensures first { λ r.
+        ⌜ ((k : Book) (t : Pass2Effect) → getD (now (collected .entry)) j [] ≡ collectedNumbers t → Narrow (t .modifier)
+        → First k (fitAt fit pairs) t r) ⌝ }
 {
-    let func = collected[j][6];
-    let what = collected[j][7];
-    let target = collected[j][10];
+    let func = collected[j][COLLECTED_FUNC];
+    let what = collected[j][COLLECTED_SKILL_OR_GROUP];
+    let target = collected[j][COLLECTED_TARGET];
     if func == 4 {
         return one(target, Test::All);
     }
@@ -198,12 +228,14 @@ pub fn aim_of(collected: &[CollectedRow], fit: &[u8], pairs: &TablePairs, s: Spa
 
 // Whom effect j touches then: the char's location has its items last.
 pub fn aim_then(collected: &[CollectedRow], s: Spans, j: usize) -> Aim
-    requires { ⌜ j < length (now collected) ⌝ }
-    ensures { λ r. ⌜ ((k : Book) (f : Fit) (t : Pass2Effect) → Stands f s → t .target < length (f .objects) → getD (now (collected .entry)) j [] ≡ collectedNumbers t → Narrow (t .modifier) → Second k f t r) ⌝ }
+    requires inside { ⌜ j < length (now collected) ⌝ }
+    ensures second { λ r.
+        ⌜ ((k : Book) (f : Fit) (t : Pass2Effect) → Stands f s → t .target < length (f .objects)
+        → getD (now (collected .entry)) j [] ≡ collectedNumbers t → Narrow (t .modifier) → Second k f t r) ⌝ }
 {
-    let func = collected[j][6];
-    let what = collected[j][7];
-    let target = collected[j][10];
+    let func = collected[j][COLLECTED_FUNC];
+    let what = collected[j][COLLECTED_SKILL_OR_GROUP];
+    let target = collected[j][COLLECTED_TARGET];
     if target != s.character {
         return none();
     }
@@ -219,8 +251,8 @@ pub fn aim_then(collected: &[CollectedRow], s: Spans, j: usize) -> Aim
 // ---- the test
 
 // Whether a skill is among those that an object requires.
-fn requires_skill(row: [u64; 6], skill: u32) -> bool
-    ensures { λ r. ⌜ r ≡ some? (eqb skill) row ⌝ }
+fn requires_skill(row: SkillRow, skill: u32) -> bool
+    ensures defined { λ r. ⌜ r ≡ some? (eqb skill) row ⌝ }
 {
     let wanted = skill as u64;
     (wanted == row[0])
@@ -232,15 +264,9 @@ fn requires_skill(row: [u64; 6], skill: u32) -> bool
 }
 
 // Whether an aim by that column and that test is at object i, which stands in its range.
-pub fn is_hit(
-    reach: &[[u32; 8]; 1024],
-    skills: &[[u64; 6]; 1024],
-    column: usize,
-    test: Test,
-    i: usize,
-) -> bool
-    requires { ⌜ (i < 1024) × (column < 8) ⌝ }
-    ensures { λ r. ⌜ r ≡ passesBy column test (getD (now (reach .entry)) i []) (getD (now (skills .entry)) i []) ⌝ }
+pub fn is_hit(reach: &ReachTable, skills: &SkillTable, column: usize, test: Test, i: usize) -> bool
+    requires inside { ⌜ (i < 1024) × (column < 8) ⌝ }
+    ensures defined { λ r. ⌜ r ≡ passesBy column test (getD (now (reach .entry)) i []) (getD (now (skills .entry)) i []) ⌝ }
 {
     let reached = reach[i][column];
     if reached == 0 {
@@ -256,7 +282,7 @@ pub fn is_hit(
     }
 }
 
-pub mod counts;
 pub mod places;
 pub mod reach;
+pub mod walks;
 pub mod wanted;

@@ -1,4 +1,10 @@
 // What of the objects decides who is touched: two tables, a row for each object, read once.
+use super::ReachRow;
+use super::ReachTable;
+use super::SKILL_WIDTH;
+use super::SkillRow;
+use super::SkillTable;
+use columns::TABLE_OBJECTS;
 use columns::TablePairs;
 use info::header::count_of;
 use info::little_endian::index;
@@ -22,18 +28,19 @@ ghost use mathlib.Core.Path.{_≡_};
 ghost use Prim.Native.Nat.{_<_};
 ghost use lib.ListN.{length};
 ghost use Rattle.rules.specs.Bytes.{countOf};
-ghost use Rattle.rules.specs.Sheet.{Book, Fit, bookOf, fitOf};
-ghost use Rattle.rules.specs.Item as items;
+ghost use Rattle.rules.specs.Sheet.{Book, Fit};
 ghost use Rattle.rules.specs.Dispatch.{carrier};
+ghost use Rattle.info.specs.At.{bookAt, fitAt, objectAt};
 ghost use Rattle.info.specs.Sound.{HeldBook, SoundFit};
 ghost use Rattle.item.specs.Categories.{CategoriesOf};
-ghost use Rattle.hits.specs.Reach.{slotOf, requiredBits, reachOf, TableOf};
+ghost use Rattle.hits.specs.At.{ReachAt, SkillsAt};
+ghost use Rattle.hits.specs.Reach.{slotOf, requiredBits, reachOf};
 
 // The item that an item or a charge goes by: a charge's stands before it.
 fn carrier_of(fit: &[u8], pairs: &TablePairs, i: usize) -> Item
-    requires { ⌜ SoundFit (now fit) (now pairs) ⌝ }
-    requires { ⌜ i < countOf (now pairs) 6 ⌝ }
-    ensures { λ r. ⌜ r ≡ carrier (fitOf (now (fit .entry)) (now (pairs .entry))) (items.object (fitOf (now (fit .entry)) (now (pairs .entry))) i) ⌝ }
+    requires sound_fit { ⌜ SoundFit (now fit) (now pairs) ⌝ }
+    requires an_object { ⌜ i < countOf (now pairs) 6 ⌝ }
+    ensures defined { λ r. ⌜ r ≡ carrier (fitAt fit pairs) (objectAt fit pairs i) ⌝ }
 {
     let o = object(fit, pairs, i);
     if o.kind == CHARGE {
@@ -43,8 +50,8 @@ fn carrier_of(fit: &[u8], pairs: &TablePairs, i: usize) -> Item
 }
 
 // The columns of an object, which goes by c.
-fn columns(categories: Categories, o: Item, c: Item) -> [u32; 8]
-    ensures { λ r. ⌜ ((k : Book) (f : Fit) → CategoriesOf k categories → c ≡ carrier f o → r ≡ reachOf k f o) ⌝ }
+fn columns(categories: Categories, o: Item, c: Item) -> ReachRow
+    ensures defined { λ r. ⌜ ((k : Book) (f : Fit) → CategoriesOf k categories → c ≡ carrier f o → r ≡ reachOf k f o) ⌝ }
 {
     let fitted = (o.kind == ITEM) | (o.kind == CHARGE);
     let in_ship = fitted & is_in_ship(categories, c);
@@ -63,11 +70,12 @@ fn columns(categories: Categories, o: Item, c: Item) -> [u32; 8]
     ]
 }
 
-pub fn reach_of(book: &[u8], fit: &[u8], pairs: &TablePairs, i: usize) -> [u32; 8]
-    requires { ⌜ HeldBook (now book) (now pairs) ⌝ }
-    requires { ⌜ SoundFit (now fit) (now pairs) ⌝ }
-    requires { ⌜ i < countOf (now pairs) 6 ⌝ }
-    ensures { λ r. ⌜ r ≡ reachOf (bookOf (now (book .entry)) (now (pairs .entry))) (fitOf (now (fit .entry)) (now (pairs .entry))) (items.object (fitOf (now (fit .entry)) (now (pairs .entry))) i) ⌝ }
+// The columns of object i.
+pub fn reach_of(book: &[u8], fit: &[u8], pairs: &TablePairs, i: usize) -> ReachRow
+    requires held_book { ⌜ HeldBook (now book) (now pairs) ⌝ }
+    requires sound_fit { ⌜ SoundFit (now fit) (now pairs) ⌝ }
+    requires an_object { ⌜ i < countOf (now pairs) 6 ⌝ }
+    ensures defined { λ r. ⌜ r ≡ reachOf (bookAt book pairs) (fitAt fit pairs) (objectAt fit pairs i) ⌝ }
 {
     let categories = categories_of(book);
     let o = object(fit, pairs, i);
@@ -80,7 +88,7 @@ const NO_SKILL: u64 = 4294967296;
 
 // The place in a row of the skill that an attribute names: past it for any other attribute.
 fn slot_of(id: i32) -> usize
-    ensures { λ r. ⌜ r ≡ slotOf id ⌝ }
+    ensures defined { λ r. ⌜ r ≡ slotOf id ⌝ }
 {
     match id {
         182 => 0,
@@ -94,21 +102,21 @@ fn slot_of(id: i32) -> usize
 }
 
 // The skills that object i requires, fixed from base values.
-pub fn required_skills(fit: &[u8], pairs: &TablePairs, i: usize) -> [u64; 6]
-    requires { ⌜ SoundFit (now fit) (now pairs) ⌝ }
-    requires { ⌜ i < countOf (now pairs) 6 ⌝ }
-    ensures { λ r. ⌜ r ≡ requiredBits (fitOf (now (fit .entry)) (now (pairs .entry))) (items.object (fitOf (now (fit .entry)) (now (pairs .entry))) i) ⌝ }
+pub fn required_skills(fit: &[u8], pairs: &TablePairs, i: usize) -> SkillRow
+    requires sound_fit { ⌜ SoundFit (now fit) (now pairs) ⌝ }
+    requires an_object { ⌜ i < countOf (now pairs) 6 ⌝ }
+    ensures defined { λ r. ⌜ r ≡ requiredBits (fitAt fit pairs) (objectAt fit pairs i) ⌝ }
 {
     let o = object(fit, pairs, i);
     let first = index(o.first_attribute);
     let n = index(o.attributes);
-    let mut row = [NO_SKILL; 6];
+    let mut row = [NO_SKILL; SKILL_WIDTH];
     let mut k = 0;
     while k < n {
         let b = base_attribute(fit, pairs, first + k);
         let slot = slot_of(b.attribute_id);
         k += 1;
-        if slot < 6 {
+        if slot < SKILL_WIDTH {
             let skill = bits(cut(b.value));
             row[slot] = skill as u64;
         }
@@ -117,12 +125,12 @@ pub fn required_skills(fit: &[u8], pairs: &TablePairs, i: usize) -> [u64; 6]
 }
 
 // The required skills of all objects, into a table that is lent.
-pub fn skill_table(rows: &mut [[u64; 6]; 1024], fit: &[u8], pairs: &TablePairs)
-    requires { ⌜ SoundFit (now fit) (now pairs) ⌝ }
-    requires { ⌜ length (now rows) ≡ 1024 ⌝ }
-    ensures { λ _. ⌜ TableOf (requiredBits (fitOf (now (fit .entry)) (now (pairs .entry)))) (fitOf (now (fit .entry)) (now (pairs .entry))) (now (rows .exit)) ⌝ }
+pub fn skill_table(rows: &mut SkillTable, fit: &[u8], pairs: &TablePairs)
+    requires sound_fit { ⌜ SoundFit (now fit) (now pairs) ⌝ }
+    requires even { ⌜ length (now rows) ≡ 1024 ⌝ }
+    ensures defined { λ _. ⌜ SkillsAt fit pairs (now (rows .exit)) ⌝ }
 {
-    let objects = count_of(pairs, 6);
+    let objects = count_of(pairs, TABLE_OBJECTS);
     let mut i = 0;
     while i < objects {
         let row = required_skills(fit, pairs, i);
@@ -132,13 +140,13 @@ pub fn skill_table(rows: &mut [[u64; 6]; 1024], fit: &[u8], pairs: &TablePairs)
 }
 
 // The columns of all objects, into a table that is lent.
-pub fn reach_table(rows: &mut [[u32; 8]; 1024], book: &[u8], fit: &[u8], pairs: &TablePairs)
-    requires { ⌜ HeldBook (now book) (now pairs) ⌝ }
-    requires { ⌜ SoundFit (now fit) (now pairs) ⌝ }
-    requires { ⌜ length (now rows) ≡ 1024 ⌝ }
-    ensures { λ _. ⌜ TableOf (reachOf (bookOf (now (book .entry)) (now (pairs .entry))) (fitOf (now (fit .entry)) (now (pairs .entry)))) (fitOf (now (fit .entry)) (now (pairs .entry))) (now (rows .exit)) ⌝ }
+pub fn reach_table(rows: &mut ReachTable, book: &[u8], fit: &[u8], pairs: &TablePairs)
+    requires held_book { ⌜ HeldBook (now book) (now pairs) ⌝ }
+    requires sound_fit { ⌜ SoundFit (now fit) (now pairs) ⌝ }
+    requires even { ⌜ length (now rows) ≡ 1024 ⌝ }
+    ensures defined { λ _. ⌜ ReachAt (bookAt book pairs) fit pairs (now (rows .exit)) ⌝ }
 {
-    let objects = count_of(pairs, 6);
+    let objects = count_of(pairs, TABLE_OBJECTS);
     let mut i = 0;
     while i < objects {
         let row = reach_of(book, fit, pairs, i);

@@ -1,5 +1,10 @@
 // Which skills any object requires: an effect on those that require another touches nobody.
 use super::Aim;
+use super::SKILL_MARKS;
+use super::SKILL_WIDTH;
+use super::SkillMarks;
+use super::SkillRow;
+use super::SkillTable;
 use super::Test;
 use super::none;
 ghost use Prim.Native.Nat.{_≤_};
@@ -12,12 +17,12 @@ ghost use Rattle.hits.specs.Who.{Aims};
 ghost use Rattle.hits.specs.Marks.{Marking, AllMarked, Wanted};
 
 // Marks the six skills of an object.
-fn mark(wanted: &mut [u32; 1024], row: [u64; 6])
-    requires { ⌜ length (now wanted) ≡ 1024 ⌝ }
-    ensures { λ _. ⌜ Marking (now (wanted .entry)) (now (wanted .exit)) row 6 ⌝ }
+fn mark(wanted: &mut SkillMarks, row: SkillRow)
+    requires even { ⌜ length (now wanted) ≡ 1024 ⌝ }
+    ensures defined { λ _. ⌜ Marking (now (wanted .entry)) (now (wanted .exit)) row 6 ⌝ }
 {
     let mut k = 0;
-    while k < 6 {
+    while k < SKILL_WIDTH {
         let required = row[k];
         let at = (required % 1024) as usize;
         wanted[at] = 1;
@@ -26,11 +31,11 @@ fn mark(wanted: &mut [u32; 1024], row: [u64; 6])
 }
 
 // Marks of the skills that the objects require, by their numbers modulo 1,024.
-pub fn wanted_of(skills: &[[u64; 6]; 1024], objects: usize) -> [u32; 1024]
-    requires { ⌜ objects ≤ 1024 ⌝ }
-    ensures { λ r. ⌜ AllMarked objects r (now (skills .entry)) ⌝ }
+pub fn wanted_of(skills: &SkillTable, objects: usize) -> SkillMarks
+    requires inside { ⌜ objects ≤ 1024 ⌝ }
+    ensures marked { λ r. ⌜ AllMarked objects r (now (skills .entry)) ⌝ }
 {
-    let mut wanted = [0u32; 1024];
+    let mut wanted = [0u32; SKILL_MARKS];
     let mut i = 0;
     while i < objects {
         let row = skills[i];
@@ -41,8 +46,8 @@ pub fn wanted_of(skills: &[[u64; 6]; 1024], objects: usize) -> [u32; 1024]
 }
 
 // The aim itself, or the aim at nobody where no object requires the skill.
-pub fn worth(wanted: &[u32; 1024], a: Aim) -> Aim
-    ensures { λ r. ⌜ ((p : Item → Bool) (k : Book) (f : Fit) → Wanted f (now (wanted .entry)) → Aims p k f a → Aims p k f r) ⌝ }
+pub fn worth(wanted: &SkillMarks, a: Aim) -> Aim
+    ensures same { λ r. ⌜ ((p : Item → Bool) (k : Book) (f : Fit) → Wanted f (now (wanted .entry)) → Aims p k f a → Aims p k f r) ⌝ }
 {
     let test = a.test;
     let Test::Requiring(skill) = test else {

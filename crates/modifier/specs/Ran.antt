@@ -1,10 +1,12 @@
 -- What moves do to lists 1 and 4: the counts so far and the columns, or the refusal that ended collection.
 use Prim.Native.Nat.{ℕ, _+_, _≤_}
+use mathlib.Core.Path.{_≡_}
 use mathlib.Core.Bool.{Bool, true, false}
 use mathlib.Core.List.{List, [], _∷_}
 use lib.Dec.{ltb}
 use lib.Ieee.{Float}
 use lib.ListN.{length, set}
+use denote.Ref.{now}
 use Rattle.rules.specs.Answer.{Res, ok, refused}
 use Rattle.rules.specs.Collect.{Move, taken, plain, refuse, takenOf, plainOf}
 use Rattle.rules.specs.Columns.{collectedNumbers, plainNumbers, originValue}
@@ -12,6 +14,7 @@ use Rattle.rules.specs.declared.Pass2Effect.{Pass2Effect}
 use Rattle.rules.specs.declared.Refusal.{Refusal}
 use Rattle.rules.specs.declared.Refusal.the-variants.{Room}
 use Rattle.laws.specs.Columns.{laid}
+use Rattle.info.specs.At.{Rows, Floats}
 use Rattle.modifier.specs.declared.moves.CollectedRooms.{CollectedRooms}
 use Rattle.modifier.specs.declared.moves.Counted.{Counted}
 use Rattle.modifier.specs.declared.moves.Counted.the-variants.{At, Refused}
@@ -59,3 +62,17 @@ pub record AllLent (q : CollectedRooms) (c : List (List ℕ)) (v : List Float) (
 abbrev pub ended : Res Unit → List Move → List (List ℕ) → List Float → List (List ℕ) → Stand
 ended (ok u) ms c v l = at (length (takenOf ms)) (length (plainOf ms)) (laid collectedNumbers (takenOf ms) c) (laid valueOf (takenOf ms) v) (laid plainNumbers (plainOf ms) l)
 ended (refused x) ms c v l = stop x
+
+-- ---- what a call answers that runs the moves ms, where n rows of list 1 stood and p rows of list 4
+
+-- the columns hold what the moves leave
+abbrev pub Runs : CollectedRooms → Counted → ℕ → ℕ → List Move → Rows → Floats → Rows → Type 0
+Runs q r n p ms c v l = standOf r (now (c .exit)) (now (v .exit)) (now (l .exit)) ≡ ran q ms (at n p (now (c .entry)) (now (v .entry)) (now (l .entry)))
+
+-- those of list 1 do, whatever list 4 holds
+abbrev pub RunsCollected : CollectedRooms → Counted → ℕ → ℕ → List Move → Rows → Floats → Type 0
+RunsCollected q r n p ms c v = (l : List (List ℕ)) → standOf r (now (c .exit)) (now (v .exit)) l ≡ ran q ms (at n p (now (c .entry)) (now (v .entry)) l)
+
+-- that of list 4 does, whatever list 1 holds
+abbrev pub RunsPlain : CollectedRooms → Counted → ℕ → ℕ → List Move → Rows → Type 0
+RunsPlain q r n p ms l = (c : List (List ℕ)) (v : List Float) → standOf r c v (now (l .exit)) ≡ ran q ms (at n p c v (now (l .entry)))

@@ -46,7 +46,7 @@ pub enum Cause {
 
 // On attribute 1152 a rig keeps Passive.
 fn source_category(o: Item, category: EffectCategory, attribute: i32) -> EffectCategory
-    ensures { λ r. ⌜ r ≡ cond (isRig o && eqZ attribute upgradeLoad) EffectCategory.Passive category ⌝ }
+    ensures defined { λ r. ⌜ r ≡ cond (isRig o && eqZ attribute upgradeLoad) EffectCategory.Passive category ⌝ }
 {
     if is_rig(o) & (attribute == ATTRIBUTE_UPGRADE_LOAD_ID) {
         return EffectCategory::Passive;
@@ -65,7 +65,7 @@ fn effect_of(
     operator: EffectOperator,
     target: u32,
 ) -> Pass2Effect
-    ensures { λ r. ⌜ r ≡ effectOf o e m source resistance modifier operator target ⌝ }
+    ensures defined { λ r. ⌜ r ≡ effectOf o e m source resistance modifier operator target ⌝ }
 {
     Pass2Effect {
         origin: Origin::Effect {
@@ -85,7 +85,7 @@ fn effect_of(
 
 // An own modifier: func, operation, item without charge, ship domain skipped, target domain.
 fn own_move(w: Owner, e: DogmaEffect, category: EffectCategory, m: DogmaModifier) -> Moved
-    ensures { λ r. ⌜ ((k : Book) (f : Fit) → OwnerOf f w → movesOf r ≡ modifierMoves k f (w .item) e category m) ⌝ }
+    ensures defined { λ r. ⌜ ((k : Book) (f : Fit) → OwnerOf f w → movesOf r ≡ modifierMoves k f (w .item) e category m) ⌝ }
 {
     let o = w.item;
     let func = get_modifier_func(m);
@@ -123,7 +123,9 @@ fn projected_move(
     resistance: OptionalId,
     m: DogmaModifier,
 ) -> Moved
-    ensures { λ r. ⌜ ((f : Fit) → OwnerOf f w → resistance ≡ resistanceOf f (w .item) e → movesOf r ≡ projectedModifierMoves f (w .item) e category m) ⌝ }
+    ensures defined { λ r.
+        ⌜ ((f : Fit) → OwnerOf f w → resistance ≡ resistanceOf f (w .item) e
+        → movesOf r ≡ projectedModifierMoves f (w .item) e category m) ⌝ }
 {
     let o = w.item;
     let aim = get_projected_object(w, m);
@@ -153,7 +155,7 @@ fn projected_move(
 
 // A modifier of a buff: func.
 fn buff_move(b: ProjectedBuff, operator: EffectOperator, m: DogmaModifier) -> Moved
-    ensures { λ r. ⌜ movesOf r ≡ buffModifierMoves b operator m ⌝ }
+    ensures defined { λ r. ⌜ movesOf r ≡ buffModifierMoves b operator m ⌝ }
 {
     let tested = get_modifier_func(m);
     match tested {
@@ -174,8 +176,9 @@ fn buff_move(b: ProjectedBuff, operator: EffectOperator, m: DogmaModifier) -> Mo
     }
 }
 
+// What a modifier gives, by what it is collected for.
 pub fn move_of(cause: Cause, m: DogmaModifier) -> Moved
-    ensures { λ r. ⌜ ((k : Book) (f : Fit) → CauseOf f cause → movesOf r ≡ causeMoves k f cause m) ⌝ }
+    ensures defined { λ r. ⌜ ((k : Book) (f : Fit) → CauseOf f cause → movesOf r ≡ causeMoves k f cause m) ⌝ }
 {
     match cause {
         Cause::Own(w, e, category) => own_move(w, e, category, m),

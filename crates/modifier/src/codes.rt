@@ -44,8 +44,9 @@ pub struct Owner {
     pub character: u32,
 }
 
+// The modifier that a func code stands for.
 pub fn get_modifier_func(m: DogmaModifier) -> FuncTest
-    ensures { λ r. ⌜ funcOf r ≡ testFunc m ⌝ }
+    ensures defined { λ r. ⌜ funcOf r ≡ testFunc m ⌝ }
 {
     let func = m.func;
     match func {
@@ -59,9 +60,9 @@ pub fn get_modifier_func(m: DogmaModifier) -> FuncTest
     }
 }
 
-// The number is that of the record: in table 3, or in table 5 for a buff.
+// The operator that an operation stands for; the number is that of the record: in table 3, or in table 5 for a buff.
 pub fn get_effect_operator(operation: u32, number: u32) -> OperationTest
-    ensures { λ r. ⌜ operationOf r ≡ testOperation operation number ⌝ }
+    ensures defined { λ r. ⌜ operationOf r ≡ testOperation operation number ⌝ }
 {
     let found = operator_at(operation);
     match found {
@@ -77,7 +78,7 @@ pub fn get_effect_operator(operation: u32, number: u32) -> OperationTest
 
 // The other of an item and its charge.
 fn other_of(w: Owner, m: DogmaModifier) -> TargetTest
-    ensures { λ r. ⌜ ((f : Fit) → OwnerOf f w → m .domain ≡ 3 → targetOf r ≡ testDomain f (w .item) m) ⌝ }
+    ensures defined { λ r. ⌜ ((f : Fit) → OwnerOf f w → m .domain ≡ 3 → targetOf r ≡ testDomain f (w .item) m) ⌝ }
 {
     let o = w.item;
     if o.kind == ITEM {
@@ -91,7 +92,7 @@ fn other_of(w: Owner, m: DogmaModifier) -> TargetTest
 
 // The object that an own modifier's domain means.
 pub fn get_target_object(w: Owner, m: DogmaModifier) -> TargetTest
-    ensures { λ r. ⌜ ((f : Fit) → OwnerOf f w → targetOf r ≡ testDomain f (w .item) m) ⌝ }
+    ensures defined { λ r. ⌜ ((f : Fit) → OwnerOf f w → targetOf r ≡ testDomain f (w .item) m) ⌝ }
 {
     let domain = m.domain;
     let o = w.item;
@@ -109,7 +110,7 @@ pub fn get_target_object(w: Owner, m: DogmaModifier) -> TargetTest
 
 // The target of an own modifier, unless it is passed over: an item without charge, a skill's ship domain on a structure fit.
 pub fn get_own_target(w: Owner, m: DogmaModifier) -> TargetTest
-    ensures { λ r. ⌜ ((f : Fit) (g : ℕ → List Move) → OwnerOf f w → then (targetOf r) g ≡ ownTarget f (w .item) m g) ⌝ }
+    ensures defined { λ r. ⌜ ((f : Fit) (g : ℕ → List Move) → OwnerOf f w → then (targetOf r) g ≡ ownTarget f (w .item) m g) ⌝ }
 {
     let o = w.item;
     let domain = m.domain;
@@ -124,7 +125,7 @@ pub fn get_own_target(w: Owner, m: DogmaModifier) -> TargetTest
 
 // The object that a projected modifier's domain means.
 pub fn get_projected_object(w: Owner, m: DogmaModifier) -> TargetTest
-    ensures { λ r. ⌜ ((f : Fit) → OwnerOf f w → targetOf r ≡ testProjectedDomain f m) ⌝ }
+    ensures defined { λ r. ⌜ ((f : Fit) → OwnerOf f w → targetOf r ≡ testProjectedDomain f m) ⌝ }
 {
     let domain = m.domain;
     match domain {

@@ -1,6 +1,13 @@
 // The rows of lists 1 and 4, as what a modifier gives is added to them (pass_2.rs, the inside of collection).
 use super::causes::Moved;
+use columns::COLLECTED_BUFF;
+use columns::COLLECTED_EFFECT;
+use columns::COLLECTED_MODIFYING_ATTRIBUTE;
+use columns::COLLECTED_ORIGIN;
+use columns::COLLECTED_SOURCE;
+use columns::COLLECTED_SOURCE_CATEGORY;
 use columns::CollectedRow;
+use columns::PlainRow;
 use item::codes::category_code;
 use item::codes::operator_code;
 use numbers::integers::bits;
@@ -11,14 +18,18 @@ use rules::Origin;
 use rules::Pass2Effect;
 use rules::Refusal;
 ghost use mathlib.Core.Path.{_≡_};
-ghost use mathlib.Core.List.{List, [], _∷_};
-ghost use Prim.Native.Nat.{ℕ, _+_, _≤_};
-ghost use lib.Ieee.{Float};
+ghost use mathlib.Core.List.{[], _∷_};
+ghost use Prim.Native.Nat.{_≤_};
 ghost use lib.ListN.{length};
-ghost use Rattle.rules.specs.Collect.{taken, plain};
+ghost use Rattle.rules.specs.Collect as rules;
 ghost use Rattle.rules.specs.Columns.{collectedNumbers, modifierNumbers, optionalNumbers, originNumbers, originValue};
 ghost use Rattle.modifier.specs.Causes.{movesOf};
-ghost use Rattle.modifier.specs.Ran.{Lent, at, ran, standOf};
+ghost use Rattle.modifier.specs.Ran.{Lent, RunsCollected, RunsPlain};
+
+// The first six numbers of a row of list 1, what the effect comes from, and the next two.
+type OriginNumbers = [u32; 6];
+
+type ModifierNumbers = [u32; 2];
 
 // The rooms of lists 1 and 4.
 pub struct CollectedRooms {
@@ -32,8 +43,9 @@ pub enum Counted {
     Refused(Refusal),
 }
 
-fn origin_numbers(o: Origin) -> [u32; 6]
-    ensures { λ r. ⌜ r ≡ originNumbers o ⌝ }
+// Numbers 0 to 5 of a row of list 1: effect or buff, the effect, its source, its category, the attribute, the buff (`originNumbers`).
+fn origin_numbers(o: Origin) -> OriginNumbers
+    ensures defined { λ r. ⌜ r ≡ originNumbers o ⌝ }
 {
     match o {
         Origin::Effect {
@@ -54,8 +66,9 @@ fn origin_numbers(o: Origin) -> [u32; 6]
     }
 }
 
+// The value beside a row of list 1: a buff's.
 fn origin_value(o: Origin) -> f64
-    ensures { λ r. ⌜ r ≡ originValue o ⌝ }
+    ensures defined { λ r. ⌜ r ≡ originValue o ⌝ }
 {
     match o {
         Origin::Effect {
@@ -68,9 +81,9 @@ fn origin_value(o: Origin) -> f64
     }
 }
 
-// The func code, and the skill or group.
-fn modifier_numbers(m: Modifier) -> [u32; 2]
-    ensures { λ r. ⌜ r ≡ modifierNumbers m ⌝ }
+// Numbers 6 and 7: the func code, and the skill or group (`modifierNumbers`).
+fn modifier_numbers(m: Modifier) -> ModifierNumbers
+    ensures defined { λ r. ⌜ r ≡ modifierNumbers m ⌝ }
 {
     match m {
         Modifier::LocationRequiredSkillModifier(skill) => [0, bits(skill)],
@@ -81,8 +94,9 @@ fn modifier_numbers(m: Modifier) -> [u32; 2]
     }
 }
 
+// A row of list 1: origin, modifier, operator, quantity, target, its attribute, resistance (`collectedNumbers`).
 fn collected_numbers(e: Pass2Effect) -> CollectedRow
-    ensures { λ r. ⌜ r ≡ collectedNumbers e ⌝ }
+    ensures defined { λ r. ⌜ r ≡ collectedNumbers e ⌝ }
 {
     let origin = e.origin;
     let modifier = e.modifier;
@@ -94,12 +108,12 @@ fn collected_numbers(e: Pass2Effect) -> CollectedRow
     let attribute = bits(e.target_attribute_id);
     let r = optional_numbers(resistance);
     [
-        o[0],
-        o[1],
-        o[2],
-        o[3],
-        o[4],
-        o[5],
+        o[COLLECTED_ORIGIN],
+        o[COLLECTED_EFFECT],
+        o[COLLECTED_SOURCE],
+        o[COLLECTED_SOURCE_CATEGORY],
+        o[COLLECTED_MODIFYING_ATTRIBUTE],
+        o[COLLECTED_BUFF],
         m[0],
         m[1],
         code,
@@ -113,65 +127,65 @@ fn collected_numbers(e: Pass2Effect) -> CollectedRow
 
 // A collected effect goes to the end of list 1.
 pub fn push(
-    c: &mut [CollectedRow],
-    v: &mut [f64],
+    collected: &mut [CollectedRow],
+    collected_values: &mut [f64],
     rooms: CollectedRooms,
-    n: usize,
-    p: usize,
+    used: usize,
+    used_plain: usize,
     e: Pass2Effect,
 ) -> Counted
-    requires { ⌜ Lent rooms (now c) (now v) ⌝ }
-    ensures { λ r. ⌜ ((l : List (List ℕ)) → standOf r (now (c .exit)) (now (v .exit)) l ≡ ran rooms (taken e ∷ []) (at n p (now (c .entry)) (now (v .entry)) l)) ⌝ }
+    requires lent { ⌜ Lent rooms (now collected) (now «collected_values») ⌝ }
+    ensures defined { λ r. ⌜ RunsCollected rooms r used «used_plain» (rules.taken e ∷ []) collected «collected_values» ⌝ }
 {
     let room = rooms.collected;
-    if room <= n {
+    if room <= used {
         return Counted::Refused(Refusal::Room(1));
     }
     let row = collected_numbers(e);
     let origin = e.origin;
     let value = origin_value(origin);
-    c[n] = row;
-    v[n] = value;
-    Counted::At(n + 1, p)
+    collected[used] = row;
+    collected_values[used] = value;
+    Counted::At(used + 1, used_plain)
 }
 
 // What a modifier gives goes to list 1.
 pub fn put(
-    c: &mut [CollectedRow],
-    v: &mut [f64],
+    collected: &mut [CollectedRow],
+    collected_values: &mut [f64],
     rooms: CollectedRooms,
-    n: usize,
-    p: usize,
+    used: usize,
+    used_plain: usize,
     x: Moved,
 ) -> Counted
-    requires { ⌜ Lent rooms (now c) (now v) ⌝ }
-    ensures { λ r. ⌜ ((l : List (List ℕ)) → standOf r (now (c .exit)) (now (v .exit)) l ≡ ran rooms (movesOf x) (at n p (now (c .entry)) (now (v .entry)) l)) ⌝ }
+    requires lent { ⌜ Lent rooms (now collected) (now «collected_values») ⌝ }
+    ensures defined { λ r. ⌜ RunsCollected rooms r used «used_plain» (movesOf x) collected «collected_values» ⌝ }
 {
     match x {
-        Moved::Taken(e) => push(c, v, rooms, n, p, e),
-        Moved::Over => Counted::At(n, p),
+        Moved::Taken(e) => push(collected, collected_values, rooms, used, used_plain, e),
+        Moved::Over => Counted::At(used, used_plain),
         Moved::Bad(y) => Counted::Refused(y),
     }
 }
 
 // A plain effect goes to the end of list 4.
 pub fn push_plain(
-    l: &mut [[u32; 2]],
+    plain: &mut [PlainRow],
     rooms: CollectedRooms,
-    n: usize,
-    p: usize,
+    used: usize,
+    used_plain: usize,
     object: u32,
     id: i32,
 ) -> Counted
-    requires { ⌜ rooms .plain ≤ length (now l) ⌝ }
-    ensures { λ r. ⌜ ((c : List (List ℕ)) (v : List Float) → standOf r c v (now (l .exit)) ≡ ran rooms (plain object id ∷ []) (at n p c v (now (l .entry)))) ⌝ }
+    requires lent { ⌜ rooms .plain ≤ length (now plain) ⌝ }
+    ensures defined { λ r. ⌜ RunsPlain rooms r used «used_plain» (rules.plain object id ∷ []) plain ⌝ }
 {
     let room = rooms.plain;
-    if room <= p {
+    if room <= used_plain {
         return Counted::Refused(Refusal::Room(4));
     }
     let code = bits(id);
     let row = [object, code];
-    l[p] = row;
-    Counted::At(n, p + 1)
+    plain[used_plain] = row;
+    Counted::At(used, used_plain + 1)
 }

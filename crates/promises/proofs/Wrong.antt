@@ -21,16 +21,13 @@ use Rattle.rules.specs.Outcome.{Lent, outcome}
 use Rattle.rules.proofs.Everything.{everything}
 use Rattle.rules.proofs.Marked.{caseL, limited, looped, divided, lent}
 use Rattle.rules.proofs.Written.{whole, attribute, effect, modifier, typeEffect, collection, hull, fitted, base, buff, ask, sheetOf}
+use Rattle.promises.specs.Given.{cell}
 use Rattle.promises.specs.Result.{Result, Meets}
 use Rattle.promises.specs.Zeros.{Empty}
 use Rattle.promises.proofs.Companions.{recorded, lists}
 use Rattle.promises.proofs.OneAnswer.{refused-is-empty}
 
 -- ---- tests of two results
-
--- element j of row i
-abbrev cell : List (List ℕ) → ℕ → ℕ → ℕ
-cell c i j = getD (getD c i []) j 0
 
 abbrev sameFloat : Float → Float → Bool
 sameFloat x y = eqb (toBits binary64 x) (toBits binary64 y)

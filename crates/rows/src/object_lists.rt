@@ -7,6 +7,8 @@ use super::spread::spread;
 use columns::AttributeRow;
 use columns::CollectedRow;
 use columns::EntryRow;
+use columns::Places;
+use columns::TABLE_OBJECTS;
 use columns::TablePairs;
 use info::header::count_of;
 use info::little_endian::index;
@@ -19,12 +21,13 @@ ghost use Rattle.rules.specs.Sheet.{bookOf, fitOf};
 ghost use Rattle.rules.specs.Item as items;
 ghost use Rattle.rules.specs.Columns.{rowsNumbers};
 ghost use Rattle.rules.specs.declared.Pass2Effect.{Pass2Effect};
+ghost use Rattle.info.specs.At.{bookAt, fitAt, objectsAt};
 ghost use Rattle.info.specs.Sound.{SoundBook, SoundFit};
 ghost use Rattle.rows.specs.Tallies.{hitId, Numbered, tallied};
 ghost use Rattle.rows.specs.Effects.{Listing};
-ghost use Rattle.rows.specs.At.{bookAt, fitAt, rowsOf, Holding};
-ghost use Rattle.rows.specs.Laying.{Tallied, EntriesLaid, ObjectLaid};
-ghost use Rattle.rows.specs.Parts.{hitsTo, Parts, Parting, rowsTo, AllLaid};
+ghost use Rattle.rows.specs.At.{rowsOf, Holding, ObjectLaidAt, AllLaidAt};
+ghost use Rattle.rows.specs.Laying.{Tallied, EntriesLaid};
+ghost use Rattle.rows.specs.Parts.{hitsTo, Parts, Parting, rowsTo};
 
 // The entries of object i, in its own segment, which begins at place `from` of list 3; `rows` are its rows as the hits left them.
 fn object_entries(
@@ -39,12 +42,12 @@ fn object_entries(
     i: u32,
     from: u32,
 )
-    requires { ⌜ SoundBook (now book) (now pairs) ⌝ }
-    requires { ⌜ SoundFit (now fit) (now pairs) ⌝ }
-    requires { ⌜ i < countOf (now pairs) 6 ⌝ }
-    requires { ⌜ Listing (now collected) (now «collected_values») (countOf (now pairs) 6) ⌝ }
-    requires { ⌜ length (now segment) ≡ length (now values) ⌝ }
-    requires { ⌜ (Numbered (now segment) (now collected)) × (from + length (now segment) < 2 ^ 32) ⌝ }
+    requires sound_book { ⌜ SoundBook (now book) (now pairs) ⌝ }
+    requires sound_fit { ⌜ SoundFit (now fit) (now pairs) ⌝ }
+    requires an_object { ⌜ i < countOf (now pairs) 6 ⌝ }
+    requires listed { ⌜ Listing (now collected) (now «collected_values») (countOf (now pairs) 6) ⌝ }
+    requires even { ⌜ length (now segment) ≡ length (now values) ⌝ }
+    requires numbered { ⌜ (Numbered (now segment) (now collected)) × (from + length (now segment) < 2 ^ 32) ⌝ }
     requires raised { let f = fitOf (now fit) (now pairs) in
         ⌜ Tallied i (tallied (bookOf (now book) (now pairs)) f (items.object f i) (map (hitId (now collected)) (now segment))) (now rows) ⌝ }
     ensures laid { λ _.
@@ -80,16 +83,15 @@ pub fn object_lists(
     i: usize,
     from: u32,
 ) -> Laid
-    requires { ⌜ SoundBook (now book) (now pairs) ⌝ }
-    requires { ⌜ SoundFit (now fit) (now pairs) ⌝ }
-    requires { ⌜ i < countOf (now pairs) 6 ⌝ }
-    requires { ⌜ Listing (now collected) (now «collected_values») (countOf (now pairs) 6) ⌝ }
-    requires { ⌜ (length (now rows) ≡ length (now bases)) × (length (now segment) ≡ length (now values)) ⌝ }
-    requires { ⌜ (Numbered (now segment) (now collected)) × (from + length (now segment) < 2 ^ 32) ⌝ }
+    requires sound_book { ⌜ SoundBook (now book) (now pairs) ⌝ }
+    requires sound_fit { ⌜ SoundFit (now fit) (now pairs) ⌝ }
+    requires an_object { ⌜ i < countOf (now pairs) 6 ⌝ }
+    requires listed { ⌜ Listing (now collected) (now «collected_values») (countOf (now pairs) 6) ⌝ }
+    requires even { ⌜ (length (now rows) ≡ length (now bases)) × (length (now segment) ≡ length (now values)) ⌝ }
+    requires numbered { ⌜ (Numbered (now segment) (now collected)) × (from + length (now segment) < 2 ^ 32) ⌝ }
     ensures laid { λ r.
         ⌜ ((es : List Pass2Effect) → Holding es collected «collected_values» pairs
-        → ObjectLaid r from (rowsOf book fit pairs i segment es)
-        (now (rows .entry)) (now (rows .exit)) (now (bases .entry)) (now (bases .exit)) (now (segment .exit)) (now (values .exit))) ⌝ }
+        → ObjectLaidAt r from (rowsOf book fit pairs i segment es) rows bases segment values) ⌝ }
 {
     let laid = object_rows(rows, bases, segment, collected, book, fit, pairs, i);
     let Laid::Rows(k) = laid else {
@@ -116,7 +118,7 @@ pub fn all_lists(
     bases: &mut [f64],
     entries: &mut [EntryRow],
     values: &mut [f64],
-    ends: &[u32; 1024],
+    ends: &Places,
     collected: &[CollectedRow],
     collected_values: &[f64],
     book: &[u8],
@@ -124,19 +126,17 @@ pub fn all_lists(
     pairs: &TablePairs,
     room: usize,
 ) -> Laid
-    requires { ⌜ SoundBook (now book) (now pairs) ⌝ }
-    requires { ⌜ SoundFit (now fit) (now pairs) ⌝ }
-    requires { ⌜ Listing (now collected) (now «collected_values») (countOf (now pairs) 6) ⌝ }
-    requires { ⌜ (room ≤ length (now rows)) × (room ≤ length (now bases)) ⌝ }
-    requires { ⌜ Parting (countOf (now pairs) 6) (now entries) (now values) (now ends) (now collected) ⌝ }
+    requires sound_book { ⌜ SoundBook (now book) (now pairs) ⌝ }
+    requires sound_fit { ⌜ SoundFit (now fit) (now pairs) ⌝ }
+    requires listed { ⌜ Listing (now collected) (now «collected_values») (countOf (now pairs) 6) ⌝ }
+    requires inside { ⌜ (room ≤ length (now rows)) × (room ≤ length (now bases)) ⌝ }
+    requires parted { ⌜ Parting (countOf (now pairs) 6) (now entries) (now values) (now ends) (now collected) ⌝ }
     ensures laid { λ r.
-        let n = countOf (now (pairs .entry)) 6 in
+        let n = objectsAt pairs in
         ⌜ ((es : List Pass2Effect) (part : ℕ → List ℕ) → Holding es collected «collected_values» pairs → Parts part n (now (entries .entry)) (now (ends .entry))
-        → AllLaid r room (hitsTo part n) (rowsTo (bookAt book pairs) (fitAt fit pairs) es part n)
-        (now (rows .entry)) (now (rows .exit)) (now (bases .entry)) (now (bases .exit))
-        (now (entries .entry)) (now (entries .exit)) (now (values .entry)) (now (values .exit))) ⌝ }
+        → AllLaidAt r room (hitsTo part n) (rowsTo (bookAt book pairs) (fitAt fit pairs) es part n) rows bases entries values) ⌝ }
 {
-    let objects = count_of(pairs, 6);
+    let objects = count_of(pairs, TABLE_OBJECTS);
     let mut n: usize = 0;
     let mut from: usize = 0;
     let mut i: usize = 0;

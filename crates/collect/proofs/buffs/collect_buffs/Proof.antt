@@ -16,10 +16,10 @@ use Rattle.modifier.proofs.Loops.{Left, begin, next, refused-on, at-end, all-of
 use Rattle.info.proofs.Elements.{buffs-length}
 
 abbrev Inv-loop : tie.InvT-loop
-Inv-loop c₀ v₀ book fit pairs rooms n p a₀ b₀ i₀ end c v a b i = Left rooms (λ (x : List (List ℕ)). buffMoves (bookOf book pairs)) (fitOf fit pairs .buffs) 0 end (λ x. at a₀ b₀ c₀ v₀ x) (λ x. at a b c v x) i × ((length c ≡ length c₀) × (length v ≡ length v₀))
+Inv-loop collected₀ collected-values₀ book fit pairs rooms used used-plain a₀ b₀ i₀ end collected collected-values a b i = Left rooms (λ (x : List (List ℕ)). buffMoves (bookOf book pairs)) (fitOf fit pairs .buffs) 0 end (λ x. at a₀ b₀ collected₀ collected-values₀ x) (λ x. at a b collected collected-values x) i × ((length collected ≡ length collected₀) × (length collected-values ≡ length collected-values₀))
 
 abbrev μ-loop : tie.MeasureT-loop
-μ-loop c₀ v₀ book fit pairs rooms n p a₀ b₀ i₀ end c v a b i = end - i
+μ-loop collected₀ collected-values₀ book fit pairs rooms used used-plain a₀ b₀ i₀ end collected collected-values a b i = end - i
 
 pub collect-buffs-spec : {M : Type 1} → statement M
 collect-buffs-spec =

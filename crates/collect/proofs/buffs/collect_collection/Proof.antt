@@ -20,6 +20,6 @@ collect-collection-spec =
     (λ c. search needs)
     (λ c. search needs)
     (λ c. search needs)
-    (λ c. λ g l. c .before .before .before .collect-modifiers .ensures noFit l tt ∙ ran-same _ _ (buff-some (bookOf (c .before .before .before .before .before .before .before .before .before .before .before .before .args .book .now) (c .before .before .before .before .before .before .before .before .before .before .before .before .args .pairs .now)) (c .before .before .before .before .before .before .before .before .before .before .before .before .args .b) (c .before .before .before .before .before .before .before .before .before .before .before .before .args .found) g (sym (c .before .before .before .before .before .before .before .before .before .get-effect-operator .ensures) ∙ ap operationOf (c .before .before .before .before .before .before .before .tested .given .1))))
+    (λ c. λ g l. c .before .before .before .collect-modifiers .ensures noFit tt l ∙ ran-same _ _ (buff-some (bookOf (c .before .before .before .before .before .before .before .before .before .before .before .before .args .book .now) (c .before .before .before .before .before .before .before .before .before .before .before .before .args .pairs .now)) (c .before .before .before .before .before .before .before .before .before .before .before .before .args .b) (c .before .before .before .before .before .before .before .before .before .before .before .before .args .found) g (sym (c .before .before .before .before .before .before .before .before .before .get-effect-operator .ensures) ∙ ap operationOf (c .before .before .before .before .before .before .before .tested .given .1))))
     (λ c. λ g l. sym (ran-none _ _) ∙ ran-same _ _ (buff-some (bookOf (c .before .before .before .before .before .args .book .now) (c .before .before .before .before .before .args .pairs .now)) (c .before .before .before .before .before .args .b) (c .before .before .before .before .before .args .found) g (sym (c .before .before .get-effect-operator .ensures) ∙ ap operationOf (c .enum-told .given .1))))
     (λ c. λ g l. refused-one _ _ _ _ _ l _ ∙ ran-same _ _ (buff-some (bookOf (c .before .before .before .before .before .before .args .book .now) (c .before .before .before .before .before .before .args .pairs .now)) (c .before .before .before .before .before .before .args .b) (c .before .before .before .before .before .before .args .found) g (sym (c .before .before .before .get-effect-operator .ensures) ∙ ap operationOf (c .before .tested2 .given .1)))))

@@ -17,10 +17,10 @@ use Rattle.collect.specs.New.{newMoves}
 use Rattle.collect.proofs.Turns.{all-lent-kept}
 
 abbrev Inv-loop : tie.InvT-loop
-Inv-loop c₀ v₀ l₀ book fit pairs rooms n p w own a₀ b₀ i₀ end c v l a b i = Left rooms (λ (x : Unit {0}). newMoves (bookOf book pairs) (fitOf fit pairs) (w .item) (span (own .first) (own .count) (bookOf book pairs .typeEffects))) (bookOf book pairs .typeEffects) i₀ end (λ x. at a₀ b₀ c₀ v₀ l₀) (λ x. at a b c v l) i × ((length c ≡ length c₀) × ((length v ≡ length v₀) × (length l ≡ length l₀)))
+Inv-loop collected₀ collected-values₀ plain₀ book fit pairs rooms used used-plain w own a₀ b₀ i₀ end collected collected-values plain a b i = Left rooms (λ (x : Unit {0}). newMoves (bookOf book pairs) (fitOf fit pairs) (w .item) (span (own .first) (own .count) (bookOf book pairs .typeEffects))) (bookOf book pairs .typeEffects) i₀ end (λ x. at a₀ b₀ collected₀ collected-values₀ plain₀) (λ x. at a b collected collected-values plain) i × ((length collected ≡ length collected₀) × ((length collected-values ≡ length collected-values₀) × (length plain ≡ length plain₀)))
 
 abbrev μ-loop : tie.MeasureT-loop
-μ-loop c₀ v₀ l₀ book fit pairs rooms n p w own a₀ b₀ i₀ end c v l a b i = end - i
+μ-loop collected₀ collected-values₀ plain₀ book fit pairs rooms used used-plain w own a₀ b₀ i₀ end collected collected-values plain a b i = end - i
 
 pub collect-run-spec : {M : Type 1} → statement M
 collect-run-spec =
@@ -40,8 +40,8 @@ collect-run-spec =
     (λ c. omega (arith, c .before .before .before .before .before .before .before .collect-new .kept, c .before .before .before .before .before .before .before .before .before .before .before .before .before .loop .inv .1))
     (λ c. omega (arith, c .before .before .before .before .before .before .before .collect-new .kept, c .before .before .before .before .before .before .before .before .before .before .before .before .before .loop .inv .1))
     (λ c. omega (arith, c .before .before .before .before .before .before .before .collect-new .kept, c .before .before .before .before .before .before .before .before .before .before .before .before .before .loop .inv .1))
-    (λ c. refused-on (next (c .before .before .before .before .before .before .before .before .before .before .before .before .before .loop .inv .0) (λ x. (newMoves (bookOf (c .before .before .before .before .before .before .before .before .before .before .before .before .before .before .before .before .before .before .args .book .now) (c .before .before .before .before .before .before .before .before .before .before .before .before .before .before .before .before .before .before .args .pairs .now)) (fitOf (c .before .before .before .before .before .before .before .before .before .before .before .before .before .before .before .before .before .before .args .fit .now) (c .before .before .before .before .before .before .before .before .before .before .before .before .before .before .before .before .before .before .args .pairs .now)) (c .before .before .before .before .before .before .before .before .before .before .before .before .before .before .before .before .before .before .args .w .item) (span (c .before .before .before .before .before .before .before .before .before .before .before .before .before .before .before .before .before .before .args .own .first) (c .before .before .before .before .before .before .before .before .before .before .before .before .before .before .before .before .before .before .args .own .count) ((bookOf (c .before .before .before .before .before .before .before .before .before .before .before .before .before .before .before .before .before .before .args .book .now) (c .before .before .before .before .before .before .before .before .before .before .before .before .before .before .before .before .before .before .args .pairs .now)) .typeEffects))) (c .before .before .before .before .before .before .before .before .before .before .before .type-effect .result)) _ (c .before .before .before .before .before .before .before .before .before .before .before .before .loop-test .taken) (omega (arith, type-effects-length (c .before .before .before .before .before .before .before .before .before .before .before .before .before .before .before .before .before .before .args .book .now) (c .before .before .before .before .before .before .before .before .before .before .before .before .before .before .before .before .before .before .args .pairs .now), c .before .before .before .before .before .before .before .before .before .before .before .before .before .before .before .before .before .before .pre .1 .1 .1 .1 .1 .0)) (c .before .before .before .before .before .before .before .before .before .before .before .type-effect .ensures) (λ x. refl) (λ x. c .before .before .before .before .before .before .before .collect-new .ensures)) tt _ (was-refused (c .before .got2 .given .1) _ _ _) ∙ counted-from _ (newMoves (bookOf (c .before .before .before .before .before .before .before .before .before .before .before .before .before .before .before .before .before .before .args .book .now) (c .before .before .before .before .before .before .before .before .before .before .before .before .before .before .before .before .before .before .args .pairs .now)) (fitOf (c .before .before .before .before .before .before .before .before .before .before .before .before .before .before .before .before .before .before .args .fit .now) (c .before .before .before .before .before .before .before .before .before .before .before .before .before .before .before .before .before .before .args .pairs .now)) (c .before .before .before .before .before .before .before .before .before .before .before .before .before .before .before .before .before .before .args .w .item) (span (c .before .before .before .before .before .before .before .before .before .before .before .before .before .before .before .before .before .before .args .own .first) (c .before .before .before .before .before .before .before .before .before .before .before .before .before .before .before .before .before .before .args .own .count) ((bookOf (c .before .before .before .before .before .before .before .before .before .before .before .before .before .before .before .before .before .before .args .book .now) (c .before .before .before .before .before .before .before .before .before .before .before .before .before .before .before .before .before .before .args .pairs .now)) .typeEffects))) ((bookOf (c .before .before .before .before .before .before .before .before .before .before .before .before .before .before .before .before .before .before .args .book .now) (c .before .before .before .before .before .before .before .before .before .before .before .before .before .before .before .before .before .before .args .pairs .now)) .typeEffects) (at (c .before .before .before .before .before .before .before .before .before .before .before .before .before .before .before .before .before .before .args .n) (c .before .before .before .before .before .before .before .before .before .before .before .before .before .before .before .before .before .before .args .p) (c .before .before .before .before .before .before .before .before .before .before .before .before .before .before .before .before .before .before .args .c .now) (c .before .before .before .before .before .before .before .before .before .before .before .before .before .before .before .before .before .before .args .v .now) (c .before .before .before .before .before .before .before .before .before .before .before .before .before .before .before .before .before .before .args .l .now)) {i = c .before .before .before .before .before .before .before .before .before .before .before .before .before .before .before .before .before .before .args .run .first} {first = c .before .before .before .before .before .before .before .before .before .before .before .before .before .before .before .before .before .before .args .run .first} {count = c .before .before .before .before .before .before .before .before .before .before .before .before .before .before .before .before .before .before .args .run .count} {j = c .before .before .before .before .before .before .before .before .before .before .before .before .before .before .before .before .before .before .args .run .count} refl refl refl)
+    (λ c. refused-on (next (c .before .before .before .before .before .before .before .before .before .before .before .before .before .loop .inv .0) (λ x. (newMoves (bookOf (c .before .before .before .before .before .before .before .before .before .before .before .before .before .before .before .before .before .before .args .book .now) (c .before .before .before .before .before .before .before .before .before .before .before .before .before .before .before .before .before .before .args .pairs .now)) (fitOf (c .before .before .before .before .before .before .before .before .before .before .before .before .before .before .before .before .before .before .args .fit .now) (c .before .before .before .before .before .before .before .before .before .before .before .before .before .before .before .before .before .before .args .pairs .now)) (c .before .before .before .before .before .before .before .before .before .before .before .before .before .before .before .before .before .before .args .w .item) (span (c .before .before .before .before .before .before .before .before .before .before .before .before .before .before .before .before .before .before .args .own .first) (c .before .before .before .before .before .before .before .before .before .before .before .before .before .before .before .before .before .before .args .own .count) ((bookOf (c .before .before .before .before .before .before .before .before .before .before .before .before .before .before .before .before .before .before .args .book .now) (c .before .before .before .before .before .before .before .before .before .before .before .before .before .before .before .before .before .before .args .pairs .now)) .typeEffects))) (c .before .before .before .before .before .before .before .before .before .before .before .type-effect .result)) _ (c .before .before .before .before .before .before .before .before .before .before .before .before .loop-test .taken) (omega (arith, type-effects-length (c .before .before .before .before .before .before .before .before .before .before .before .before .before .before .before .before .before .before .args .book .now) (c .before .before .before .before .before .before .before .before .before .before .before .before .before .before .before .before .before .before .args .pairs .now), c .before .before .before .before .before .before .before .before .before .before .before .before .before .before .before .before .before .before .pre .1 .1 .1 .1 .1 .0)) (c .before .before .before .before .before .before .before .before .before .before .before .type-effect .ensures) (λ x. refl) (λ x. c .before .before .before .before .before .before .before .collect-new .ensures)) tt _ (was-refused (c .before .got2 .given .1) _ _ _) ∙ counted-from _ (newMoves (bookOf (c .before .before .before .before .before .before .before .before .before .before .before .before .before .before .before .before .before .before .args .book .now) (c .before .before .before .before .before .before .before .before .before .before .before .before .before .before .before .before .before .before .args .pairs .now)) (fitOf (c .before .before .before .before .before .before .before .before .before .before .before .before .before .before .before .before .before .before .args .fit .now) (c .before .before .before .before .before .before .before .before .before .before .before .before .before .before .before .before .before .before .args .pairs .now)) (c .before .before .before .before .before .before .before .before .before .before .before .before .before .before .before .before .before .before .args .w .item) (span (c .before .before .before .before .before .before .before .before .before .before .before .before .before .before .before .before .before .before .args .own .first) (c .before .before .before .before .before .before .before .before .before .before .before .before .before .before .before .before .before .before .args .own .count) ((bookOf (c .before .before .before .before .before .before .before .before .before .before .before .before .before .before .before .before .before .before .args .book .now) (c .before .before .before .before .before .before .before .before .before .before .before .before .before .before .before .before .before .before .args .pairs .now)) .typeEffects))) ((bookOf (c .before .before .before .before .before .before .before .before .before .before .before .before .before .before .before .before .before .before .args .book .now) (c .before .before .before .before .before .before .before .before .before .before .before .before .before .before .before .before .before .before .args .pairs .now)) .typeEffects) (at (c .before .before .before .before .before .before .before .before .before .before .before .before .before .before .before .before .before .before .args .used) (c .before .before .before .before .before .before .before .before .before .before .before .before .before .before .before .before .before .before .args .used-plain) (c .before .before .before .before .before .before .before .before .before .before .before .before .before .before .before .before .before .before .args .collected .now) (c .before .before .before .before .before .before .before .before .before .before .before .before .before .before .before .before .before .before .args .collected-values .now) (c .before .before .before .before .before .before .before .before .before .before .before .before .before .before .before .before .before .before .args .plain .now)) {i = c .before .before .before .before .before .before .before .before .before .before .before .before .before .before .before .before .before .before .args .run .first} {first = c .before .before .before .before .before .before .before .before .before .before .before .before .before .before .before .before .before .before .args .run .first} {count = c .before .before .before .before .before .before .before .before .before .before .before .before .before .before .before .before .before .before .args .run .count} {j = c .before .before .before .before .before .before .before .before .before .before .before .before .before .before .before .before .before .before .args .run .count} refl refl refl)
     (λ c. c .before .loop .inv .1 .0)
     (λ c. c .before .loop .inv .1 .1 .0)
     (λ c. c .before .loop .inv .1 .1 .1)
-    (λ c. at-end (c .before .loop .inv .0) tt (c .loop-test .left) ∙ counted-from _ (newMoves (bookOf (c .before .before .before .before .before .before .args .book .now) (c .before .before .before .before .before .before .args .pairs .now)) (fitOf (c .before .before .before .before .before .before .args .fit .now) (c .before .before .before .before .before .before .args .pairs .now)) (c .before .before .before .before .before .before .args .w .item) (span (c .before .before .before .before .before .before .args .own .first) (c .before .before .before .before .before .before .args .own .count) ((bookOf (c .before .before .before .before .before .before .args .book .now) (c .before .before .before .before .before .before .args .pairs .now)) .typeEffects))) ((bookOf (c .before .before .before .before .before .before .args .book .now) (c .before .before .before .before .before .before .args .pairs .now)) .typeEffects) (at (c .before .before .before .before .before .before .args .n) (c .before .before .before .before .before .before .args .p) (c .before .before .before .before .before .before .args .c .now) (c .before .before .before .before .before .before .args .v .now) (c .before .before .before .before .before .before .args .l .now)) {i = c .before .before .before .before .before .before .args .run .first} {first = c .before .before .before .before .before .before .args .run .first} {count = c .before .before .before .before .before .before .args .run .count} {j = c .before .before .before .before .before .before .args .run .count} refl refl refl))
+    (λ c. at-end (c .before .loop .inv .0) tt (c .loop-test .left) ∙ counted-from _ (newMoves (bookOf (c .before .before .before .before .before .before .args .book .now) (c .before .before .before .before .before .before .args .pairs .now)) (fitOf (c .before .before .before .before .before .before .args .fit .now) (c .before .before .before .before .before .before .args .pairs .now)) (c .before .before .before .before .before .before .args .w .item) (span (c .before .before .before .before .before .before .args .own .first) (c .before .before .before .before .before .before .args .own .count) ((bookOf (c .before .before .before .before .before .before .args .book .now) (c .before .before .before .before .before .before .args .pairs .now)) .typeEffects))) ((bookOf (c .before .before .before .before .before .before .args .book .now) (c .before .before .before .before .before .before .args .pairs .now)) .typeEffects) (at (c .before .before .before .before .before .before .args .used) (c .before .before .before .before .before .before .args .used-plain) (c .before .before .before .before .before .before .args .collected .now) (c .before .before .before .before .before .before .args .collected-values .now) (c .before .before .before .before .before .before .args .plain .now)) {i = c .before .before .before .before .before .before .args .run .first} {first = c .before .before .before .before .before .before .args .run .first} {count = c .before .before .before .before .before .before .args .run .count} {j = c .before .before .before .before .before .before .args .run .count} refl refl refl))

@@ -17,7 +17,7 @@ collect-spec =
     (λ c κs. (c .before .before .before .pre .1 .1 .0 .held .header, c .before .before .before .pre .1 .1 .1))
     (λ c κs. (record { collected = record { numbers = c .before .before .before .before .before .before .before .pre .0 .0; values = c .before .before .before .before .before .before .before .pre .0 .1 }; plain = c .before .before .before .before .before .before .before .pre .1 .0 }, (c .before .before .before .before .before .before .before .pre .1 .1 .0, (c .before .before .before .before .before .before .before .pre .1 .1 .1, c .before .before .before .hull-of .ensures))))
     (λ c. search needs)
-    (λ c κs. (all-lent-kept {c = c .before .before .before .before .before .before .before .before .before .before .before .before .before .before .before .before .before .before .args .c .now} {v = c .before .before .before .before .before .before .before .before .before .before .before .before .before .before .before .before .before .before .args .v .now} {l = c .before .before .before .before .before .before .before .before .before .before .before .before .before .before .before .before .before .before .args .l .now} (record { collected = record { numbers = c .before .before .before .before .before .before .before .before .before .before .before .before .before .before .before .before .before .before .pre .0 .0; values = c .before .before .before .before .before .before .before .before .before .before .before .before .before .before .before .before .before .before .pre .0 .1 }; plain = c .before .before .before .before .before .before .before .before .before .before .before .before .before .before .before .before .before .before .pre .1 .0 }) (c .before .before .before .before .before .before .before .before .before .before .collect-phases .kept .0) (c .before .before .before .before .before .before .before .before .before .before .collect-phases .kept .1 .0) (c .before .before .before .before .before .before .before .before .before .before .collect-phases .kept .1 .1 .0), (c .before .before .before .before .before .before .before .before .before .before .before .before .before .before .before .before .before .before .pre .1 .1 .0, (c .before .before .before .before .before .before .before .before .before .before .before .before .before .before .before .before .before .before .pre .1 .1 .1, c .before .before .before .before .before .before .before .before .before .before .before .before .before .before .hull-of .ensures))))
+    (λ c κs. (all-lent-kept {c = c .before .before .before .before .before .before .before .before .before .before .before .before .before .before .before .before .before .before .args .collected .now} {v = c .before .before .before .before .before .before .before .before .before .before .before .before .before .before .before .before .before .before .args .collected-values .now} {l = c .before .before .before .before .before .before .before .before .before .before .before .before .before .before .before .before .before .before .args .plain .now} (record { collected = record { numbers = c .before .before .before .before .before .before .before .before .before .before .before .before .before .before .before .before .before .before .pre .0 .0; values = c .before .before .before .before .before .before .before .before .before .before .before .before .before .before .before .before .before .before .pre .0 .1 }; plain = c .before .before .before .before .before .before .before .before .before .before .before .before .before .before .before .before .before .before .pre .1 .0 }) (c .before .before .before .before .before .before .before .before .before .before .collect-phases .kept .0) (c .before .before .before .before .before .before .before .before .before .before .collect-phases .kept .1 .0) (c .before .before .before .before .before .before .before .before .before .before .collect-phases .kept .1 .1 .0), (c .before .before .before .before .before .before .before .before .before .before .before .before .before .before .before .before .before .before .pre .1 .1 .0, (c .before .before .before .before .before .before .before .before .before .before .before .before .before .before .before .before .before .before .pre .1 .1 .1, c .before .before .before .before .before .before .before .before .before .before .before .before .before .before .hull-of .ensures))))
     (λ c. search needs)
     (λ c. search needs)
     (λ c. search needs)

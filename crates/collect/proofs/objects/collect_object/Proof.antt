@@ -26,7 +26,7 @@ collect-object-spec =
     (λ c κs. (c .before .before .before .before .before .before .before .before .before .before .before .before .before .pre .0 .collected, (c .before .before .before .before .before .before .before .before .before .before .before .before .before .pre .1 .0, (c .before .before .before .before .before .before .before .before .before .before .before .before .before .pre .1 .1 .0, (rw (c .before .before .before .before .owner-of .ensures .1) (c .before .before .before .before .before .before .before .before .before .before .before .before .before .pre .1 .1 .1 .1), c .before .before .before .before .owner-of .ensures .0 (bookOf (c .before .before .before .before .before .before .before .before .before .before .before .before .before .args .book .now) (c .before .before .before .before .before .before .before .before .before .before .before .before .before .args .pairs .now)) (c .before .before .before .before .before .before .before .before .before .before .before .before .before .pre .1 .1 .1 .0))))))
     (λ c. search needs)
     (λ c. search needs)
-    (λ c. c .before .before .before .collect-projected .ensures (c .before .before .before .before .before .before .before .before .before .before .before .before .before .before .before .before .before .args .l .now) ∙ ran-same _ _ (ap (projectedMoves (bookOf (c .before .before .before .before .before .before .before .before .before .before .before .before .before .before .before .before .before .args .book .now) (c .before .before .before .before .before .before .before .before .before .before .before .before .before .before .before .before .before .args .pairs .now)) (fitOf (c .before .before .before .before .before .before .before .before .before .before .before .before .before .before .before .before .before .args .fit .now) (c .before .before .before .before .before .before .before .before .before .before .before .before .before .before .before .before .before .args .pairs .now))) (c .before .before .before .before .before .before .before .before .owner-of .ensures .1) ∙ projected (bookOf (c .before .before .before .before .before .before .before .before .before .before .before .before .before .before .before .before .before .args .book .now) (c .before .before .before .before .before .before .before .before .before .before .before .before .before .before .before .before .before .args .pairs .now)) (fitOf (c .before .before .before .before .before .before .before .before .before .before .before .before .before .before .before .before .before .args .fit .now) (c .before .before .before .before .before .before .before .before .before .before .before .before .before .before .before .before .before .args .pairs .now)) (c .before .before .before .before .before .before .before .before .before .before .before .before .before .before .before .before .before .args .o) (c .before .before .before .before .before .before .before .before .before .before .before .before .before .before .before .before .before .args .phase) (sym (not-not _) ∙ ap not (sym (ap not (c .before .before .before .before .before .before .before .before .before .before .before .before .before .in-phase .ensures)) ∙ c .before .before .before .before .before .before .before .before .before .before .before .before .if1 .left)) (sym (c .before .before .before .before .before .before .before .is-projected .ensures) ∙ c .before .before .before .before .before .before .if3 .taken)))
+    (λ c. c .before .before .before .collect-projected .ensures (c .before .before .before .before .before .before .before .before .before .before .before .before .before .before .before .before .before .args .plain .now) ∙ ran-same _ _ (ap (projectedMoves (bookOf (c .before .before .before .before .before .before .before .before .before .before .before .before .before .before .before .before .before .args .book .now) (c .before .before .before .before .before .before .before .before .before .before .before .before .before .before .before .before .before .args .pairs .now)) (fitOf (c .before .before .before .before .before .before .before .before .before .before .before .before .before .before .before .before .before .args .fit .now) (c .before .before .before .before .before .before .before .before .before .before .before .before .before .before .before .before .before .args .pairs .now))) (c .before .before .before .before .before .before .before .before .owner-of .ensures .1) ∙ projected (bookOf (c .before .before .before .before .before .before .before .before .before .before .before .before .before .before .before .before .before .args .book .now) (c .before .before .before .before .before .before .before .before .before .before .before .before .before .before .before .before .before .args .pairs .now)) (fitOf (c .before .before .before .before .before .before .before .before .before .before .before .before .before .before .before .before .before .args .fit .now) (c .before .before .before .before .before .before .before .before .before .before .before .before .before .before .before .before .before .args .pairs .now)) (c .before .before .before .before .before .before .before .before .before .before .before .before .before .before .before .before .before .args .o) (c .before .before .before .before .before .before .before .before .before .before .before .before .before .before .before .before .before .args .phase) (sym (not-not _) ∙ ap not (sym (ap not (c .before .before .before .before .before .before .before .before .before .before .before .before .before .in-phase .ensures)) ∙ c .before .before .before .before .before .before .before .before .before .before .before .before .if1 .left)) (sym (c .before .before .before .before .before .before .before .is-projected .ensures) ∙ c .before .before .before .before .before .before .if3 .taken)))
     (λ c κs. (c .before .before .before .before .before .before .before .before .before .before .before .before .before .before .pre .0, (c .before .before .before .before .before .before .before .before .before .before .before .before .before .before .pre .1 .0, (c .before .before .before .before .before .before .before .before .before .before .before .before .before .before .pre .1 .1 .0, (rw (c .before .before .before .before .before .owner-of .ensures .1) (c .before .before .before .before .before .before .before .before .before .before .before .before .before .before .pre .1 .1 .1 .1), c .before .before .before .before .before .owner-of .ensures .0 (bookOf (c .before .before .before .before .before .before .before .before .before .before .before .before .before .before .args .book .now) (c .before .before .before .before .before .before .before .before .before .before .before .before .before .before .args .pairs .now)) (c .before .before .before .before .before .before .before .before .before .before .before .before .before .before .pre .1 .1 .1 .0))))))
     (λ c. search needs)
     (λ c. search needs)

@@ -18,10 +18,10 @@ use Rattle.collect.proofs.Neighbours.{stands-at}
 use Rattle.collect.proofs.Phases.{phase-objects}
 
 abbrev Inv-loop : tie.InvT-loop
-Inv-loop c₀ v₀ l₀ book fit pairs rooms n p hull phase a₀ b₀ i₀ end c v l a b i = Left rooms (λ (x : Unit {0}). objectMoves (bookOf book pairs) (fitOf fit pairs) phase) (fitOf fit pairs .objects) 0 end (λ x. at a₀ b₀ c₀ v₀ l₀) (λ x. at a b c v l) i × ((length c ≡ length c₀) × ((length v ≡ length v₀) × (length l ≡ length l₀)))
+Inv-loop collected₀ collected-values₀ plain₀ book fit pairs rooms used used-plain hull phase a₀ b₀ i₀ end collected collected-values plain a b i = Left rooms (λ (x : Unit {0}). objectMoves (bookOf book pairs) (fitOf fit pairs) phase) (fitOf fit pairs .objects) 0 end (λ x. at a₀ b₀ collected₀ collected-values₀ plain₀) (λ x. at a b collected collected-values plain) i × ((length collected ≡ length collected₀) × ((length collected-values ≡ length collected-values₀) × (length plain ≡ length plain₀)))
 
 abbrev μ-loop : tie.MeasureT-loop
-μ-loop c₀ v₀ l₀ book fit pairs rooms n p hull phase a₀ b₀ i₀ end c v l a b i = end - i
+μ-loop collected₀ collected-values₀ plain₀ book fit pairs rooms used used-plain hull phase a₀ b₀ i₀ end collected collected-values plain a b i = end - i
 
 pub collect-objects-spec : {M : Type 1} → statement M
 collect-objects-spec =
@@ -41,8 +41,8 @@ collect-objects-spec =
     (λ c. omega (arith, c .before .before .before .before .before .before .before .collect-object .kept, c .before .before .before .before .before .before .before .before .before .before .before .before .before .loop .inv .1))
     (λ c. omega (arith, c .before .before .before .before .before .before .before .collect-object .kept, c .before .before .before .before .before .before .before .before .before .before .before .before .before .loop .inv .1))
     (λ c. omega (arith, c .before .before .before .before .before .before .before .collect-object .kept, c .before .before .before .before .before .before .before .before .before .before .before .before .before .loop .inv .1))
-    (λ c. refused-on (next (c .before .before .before .before .before .before .before .before .before .before .before .before .before .loop .inv .0) (λ x. (objectMoves (bookOf (c .before .before .before .before .before .before .before .before .before .before .before .before .before .before .before .before .before .before .args .book .now) (c .before .before .before .before .before .before .before .before .before .before .before .before .before .before .before .before .before .before .args .pairs .now)) (fitOf (c .before .before .before .before .before .before .before .before .before .before .before .before .before .before .before .before .before .before .args .fit .now) (c .before .before .before .before .before .before .before .before .before .before .before .before .before .before .before .before .before .before .args .pairs .now)) (c .before .before .before .before .before .before .before .before .before .before .before .before .before .before .before .before .before .before .args .phase)) (c .before .before .before .before .before .before .before .before .before .before .before .object .result)) _ (c .before .before .before .before .before .before .before .before .before .before .before .before .loop-test .taken) (omega (arith, objects-length (c .before .before .before .before .before .before .before .before .before .before .before .before .before .before .before .before .before .before .args .fit .now) (c .before .before .before .before .before .before .before .before .before .before .before .before .before .before .before .before .before .before .args .pairs .now), c .before .before .before .before .before .before .before .before .before .before .before .before .before .before .count-of .ensures)) (c .before .before .before .before .before .before .before .before .before .before .before .object .ensures) (λ x. refl) (λ x. c .before .before .before .before .before .before .before .collect-object .ensures)) tt _ (was-refused (c .before .got2 .given .1) _ _ _) ∙ all-of _ (objectMoves (bookOf (c .before .before .before .before .before .before .before .before .before .before .before .before .before .before .before .before .before .before .args .book .now) (c .before .before .before .before .before .before .before .before .before .before .before .before .before .before .before .before .before .before .args .pairs .now)) (fitOf (c .before .before .before .before .before .before .before .before .before .before .before .before .before .before .before .before .before .before .args .fit .now) (c .before .before .before .before .before .before .before .before .before .before .before .before .before .before .before .before .before .before .args .pairs .now)) (c .before .before .before .before .before .before .before .before .before .before .before .before .before .before .before .before .before .before .args .phase)) ((fitOf (c .before .before .before .before .before .before .before .before .before .before .before .before .before .before .before .before .before .before .args .fit .now) (c .before .before .before .before .before .before .before .before .before .before .before .before .before .before .before .before .before .before .args .pairs .now)) .objects) (at (c .before .before .before .before .before .before .before .before .before .before .before .before .before .before .before .before .before .before .args .n) (c .before .before .before .before .before .before .before .before .before .before .before .before .before .before .before .before .before .before .args .p) (c .before .before .before .before .before .before .before .before .before .before .before .before .before .before .before .before .before .before .args .c .now) (c .before .before .before .before .before .before .before .before .before .before .before .before .before .before .before .before .before .before .args .v .now) (c .before .before .before .before .before .before .before .before .before .before .before .before .before .before .before .before .before .before .args .l .now)) (c .before .before .before .before .before .before .before .before .before .before .before .before .before .before .count-of .ensures ∙ sym (objects-length (c .before .before .before .before .before .before .before .before .before .before .before .before .before .before .before .before .before .before .args .fit .now) (c .before .before .before .before .before .before .before .before .before .before .before .before .before .before .before .before .before .before .args .pairs .now))) ∙ ran-same _ _ (phase-objects (bookOf (c .before .before .before .before .before .before .before .before .before .before .before .before .before .before .before .before .before .before .args .book .now) (c .before .before .before .before .before .before .before .before .before .before .before .before .before .before .before .before .before .before .args .pairs .now)) (fitOf (c .before .before .before .before .before .before .before .before .before .before .before .before .before .before .before .before .before .before .args .fit .now) (c .before .before .before .before .before .before .before .before .before .before .before .before .before .before .before .before .before .before .args .pairs .now)) (c .before .before .before .before .before .before .before .before .before .before .before .before .before .before .before .before .before .before .args .phase)))
+    (λ c. refused-on (next (c .before .before .before .before .before .before .before .before .before .before .before .before .before .loop .inv .0) (λ x. (objectMoves (bookOf (c .before .before .before .before .before .before .before .before .before .before .before .before .before .before .before .before .before .before .args .book .now) (c .before .before .before .before .before .before .before .before .before .before .before .before .before .before .before .before .before .before .args .pairs .now)) (fitOf (c .before .before .before .before .before .before .before .before .before .before .before .before .before .before .before .before .before .before .args .fit .now) (c .before .before .before .before .before .before .before .before .before .before .before .before .before .before .before .before .before .before .args .pairs .now)) (c .before .before .before .before .before .before .before .before .before .before .before .before .before .before .before .before .before .before .args .phase)) (c .before .before .before .before .before .before .before .before .before .before .before .object .result)) _ (c .before .before .before .before .before .before .before .before .before .before .before .before .loop-test .taken) (omega (arith, objects-length (c .before .before .before .before .before .before .before .before .before .before .before .before .before .before .before .before .before .before .args .fit .now) (c .before .before .before .before .before .before .before .before .before .before .before .before .before .before .before .before .before .before .args .pairs .now), c .before .before .before .before .before .before .before .before .before .before .before .before .before .before .count-of .ensures)) (c .before .before .before .before .before .before .before .before .before .before .before .object .ensures) (λ x. refl) (λ x. c .before .before .before .before .before .before .before .collect-object .ensures)) tt _ (was-refused (c .before .got2 .given .1) _ _ _) ∙ all-of _ (objectMoves (bookOf (c .before .before .before .before .before .before .before .before .before .before .before .before .before .before .before .before .before .before .args .book .now) (c .before .before .before .before .before .before .before .before .before .before .before .before .before .before .before .before .before .before .args .pairs .now)) (fitOf (c .before .before .before .before .before .before .before .before .before .before .before .before .before .before .before .before .before .before .args .fit .now) (c .before .before .before .before .before .before .before .before .before .before .before .before .before .before .before .before .before .before .args .pairs .now)) (c .before .before .before .before .before .before .before .before .before .before .before .before .before .before .before .before .before .before .args .phase)) ((fitOf (c .before .before .before .before .before .before .before .before .before .before .before .before .before .before .before .before .before .before .args .fit .now) (c .before .before .before .before .before .before .before .before .before .before .before .before .before .before .before .before .before .before .args .pairs .now)) .objects) (at (c .before .before .before .before .before .before .before .before .before .before .before .before .before .before .before .before .before .before .args .used) (c .before .before .before .before .before .before .before .before .before .before .before .before .before .before .before .before .before .before .args .used-plain) (c .before .before .before .before .before .before .before .before .before .before .before .before .before .before .before .before .before .before .args .collected .now) (c .before .before .before .before .before .before .before .before .before .before .before .before .before .before .before .before .before .before .args .collected-values .now) (c .before .before .before .before .before .before .before .before .before .before .before .before .before .before .before .before .before .before .args .plain .now)) (c .before .before .before .before .before .before .before .before .before .before .before .before .before .before .count-of .ensures ∙ sym (objects-length (c .before .before .before .before .before .before .before .before .before .before .before .before .before .before .before .before .before .before .args .fit .now) (c .before .before .before .before .before .before .before .before .before .before .before .before .before .before .before .before .before .before .args .pairs .now))) ∙ ran-same _ _ (phase-objects (bookOf (c .before .before .before .before .before .before .before .before .before .before .before .before .before .before .before .before .before .before .args .book .now) (c .before .before .before .before .before .before .before .before .before .before .before .before .before .before .before .before .before .before .args .pairs .now)) (fitOf (c .before .before .before .before .before .before .before .before .before .before .before .before .before .before .before .before .before .before .args .fit .now) (c .before .before .before .before .before .before .before .before .before .before .before .before .before .before .before .before .before .before .args .pairs .now)) (c .before .before .before .before .before .before .before .before .before .before .before .before .before .before .before .before .before .before .args .phase)))
     (λ c. c .before .loop .inv .1 .0)
     (λ c. c .before .loop .inv .1 .1 .0)
     (λ c. c .before .loop .inv .1 .1 .1)
-    (λ c. at-end (c .before .loop .inv .0) tt (c .loop-test .left) ∙ all-of _ (objectMoves (bookOf (c .before .before .before .before .before .before .args .book .now) (c .before .before .before .before .before .before .args .pairs .now)) (fitOf (c .before .before .before .before .before .before .args .fit .now) (c .before .before .before .before .before .before .args .pairs .now)) (c .before .before .before .before .before .before .args .phase)) ((fitOf (c .before .before .before .before .before .before .args .fit .now) (c .before .before .before .before .before .before .args .pairs .now)) .objects) (at (c .before .before .before .before .before .before .args .n) (c .before .before .before .before .before .before .args .p) (c .before .before .before .before .before .before .args .c .now) (c .before .before .before .before .before .before .args .v .now) (c .before .before .before .before .before .before .args .l .now)) (c .before .before .count-of .ensures ∙ sym (objects-length (c .before .before .before .before .before .before .args .fit .now) (c .before .before .before .before .before .before .args .pairs .now))) ∙ ran-same _ _ (phase-objects (bookOf (c .before .before .before .before .before .before .args .book .now) (c .before .before .before .before .before .before .args .pairs .now)) (fitOf (c .before .before .before .before .before .before .args .fit .now) (c .before .before .before .before .before .before .args .pairs .now)) (c .before .before .before .before .before .before .args .phase))))
+    (λ c. at-end (c .before .loop .inv .0) tt (c .loop-test .left) ∙ all-of _ (objectMoves (bookOf (c .before .before .before .before .before .before .args .book .now) (c .before .before .before .before .before .before .args .pairs .now)) (fitOf (c .before .before .before .before .before .before .args .fit .now) (c .before .before .before .before .before .before .args .pairs .now)) (c .before .before .before .before .before .before .args .phase)) ((fitOf (c .before .before .before .before .before .before .args .fit .now) (c .before .before .before .before .before .before .args .pairs .now)) .objects) (at (c .before .before .before .before .before .before .args .used) (c .before .before .before .before .before .before .args .used-plain) (c .before .before .before .before .before .before .args .collected .now) (c .before .before .before .before .before .before .args .collected-values .now) (c .before .before .before .before .before .before .args .plain .now)) (c .before .before .count-of .ensures ∙ sym (objects-length (c .before .before .before .before .before .before .args .fit .now) (c .before .before .before .before .before .before .args .pairs .now))) ∙ ran-same _ _ (phase-objects (bookOf (c .before .before .before .before .before .before .args .book .now) (c .before .before .before .before .before .before .args .pairs .now)) (fitOf (c .before .before .before .before .before .before .args .fit .now) (c .before .before .before .before .before .before .args .pairs .now)) (c .before .before .before .before .before .before .args .phase))))

@@ -25,5 +25,5 @@ collect-projected-spec =
     (λ c. search needs)
     (λ c. search needs)
     (λ c. search needs)
-    (λ c. λ l. c .before .before .before .collect-projected-effect .ensures (fitOf (c .before .before .before .before .before .before .before .before .before .before .before .before .before .before .before .before .args .fit .now) (c .before .before .before .before .before .before .before .before .before .before .before .before .before .before .before .before .args .pairs .now)) l (c .before .before .before .before .before .before .before .before .before .before .before .before .before .before .before .before .pre .1 .1 .1 .1) (c .before .before .before .before .before .before .get-resistance .ensures) (ap (getDogmaEffect (bookOf (c .before .before .before .before .before .before .before .before .before .before .before .before .before .before .before .before .args .book .now) (c .before .before .before .before .before .before .before .before .before .before .before .before .before .before .before .before .args .pairs .now))) (sym (toZ-ofZ w32 (c .before .before .before .before .before .before .before .before .before .before .before .before .before .before .before .before .args .w .item .«projected_effect») (sfits-of (c .before .before .before .before .before .before .before .before .before .before .before .struct-told .given .1 .1 .1 .1 .1 .1 .1 .1 .1 .1 .1 .0 .1)))) ∙ (sym (c .before .before .before .before .before .before .before .before .before .before .get-dogma-effect .ensures) ∙ ap effectFound (c .before .before .before .before .before .before .before .before .found .given .1))))
+    (λ c. λ l. c .before .before .before .collect-projected-effect .ensures (fitOf (c .before .before .before .before .before .before .before .before .before .before .before .before .before .before .before .before .args .fit .now) (c .before .before .before .before .before .before .before .before .before .before .before .before .before .before .before .before .args .pairs .now)) (c .before .before .before .before .before .before .before .before .before .before .before .before .before .before .before .before .pre .1 .1 .1 .1) (c .before .before .before .before .before .before .get-resistance .ensures) (ap (getDogmaEffect (bookOf (c .before .before .before .before .before .before .before .before .before .before .before .before .before .before .before .before .args .book .now) (c .before .before .before .before .before .before .before .before .before .before .before .before .before .before .before .before .args .pairs .now))) (sym (toZ-ofZ w32 (c .before .before .before .before .before .before .before .before .before .before .before .before .before .before .before .before .args .w .item .«projected_effect») (sfits-of (c .before .before .before .before .before .before .before .before .before .before .before .struct-told .given .1 .1 .1 .1 .1 .1 .1 .1 .1 .1 .1 .0 .1)))) ∙ (sym (c .before .before .before .before .before .before .before .before .before .before .get-dogma-effect .ensures) ∙ ap effectFound (c .before .before .before .before .before .before .before .before .found .given .1))) l)
     (λ c. λ l. sym (ran-none _ _) ∙ ran-same _ _ (projected-none (bookOf (c .before .before .before .before .before .before .before .before .args .book .now) (c .before .before .before .before .before .before .before .before .args .pairs .now)) (fitOf (c .before .before .before .before .before .before .before .before .args .fit .now) (c .before .before .before .before .before .before .before .before .args .pairs .now)) (c .before .before .before .before .before .before .before .before .args .w .item) (ap (getDogmaEffect (bookOf (c .before .before .before .before .before .before .before .before .args .book .now) (c .before .before .before .before .before .before .before .before .args .pairs .now))) (sym (toZ-ofZ w32 (c .before .before .before .before .before .before .before .before .args .w .item .«projected_effect») (sfits-of (c .before .before .before .struct-told .given .1 .1 .1 .1 .1 .1 .1 .1 .1 .1 .1 .0 .1)))) ∙ sym (c .before .before .get-dogma-effect .ensures) ∙ ap effectFound (c .enum-told .given .1)))))

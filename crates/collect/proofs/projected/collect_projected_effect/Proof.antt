@@ -19,5 +19,5 @@ collect-projected-effect-spec =
     (λ c. search needs)
     (λ c. search needs)
     (λ c. search needs)
-    (λ c. λ f l h r g. c .before .before .before .collect-modifiers .ensures f l (h, r) ∙ ran-same _ _ (projected-modifiers (bookOf (c .before .before .before .before .before .before .before .before .before .before .before .before .args .book .now) (c .before .before .before .before .before .before .before .before .before .before .before .before .args .pairs .now)) f (c .before .before .before .before .before .before .before .before .before .before .before .before .args .w .item) (c .before .before .before .before .before .before .before .before .before .before .before .before .args .e) _ g (sym (c .before .before .before .before .before .before .before .before .before .category-at .ensures) ∙ ap categoryOf (c .before .before .before .before .before .before .before .found .given .1))))
-    (λ c. λ f l h r g. refused-one _ _ _ _ _ l _ ∙ ran-same _ _ (projected-bad (bookOf (c .before .before .before .before .before .args .book .now) (c .before .before .before .before .before .args .pairs .now)) f (c .before .before .before .before .before .args .w .item) (c .before .before .before .before .before .args .e) g (sym (c .before .before .category-at .ensures) ∙ ap categoryOf (c .enum-told .given .1)))))
+    (λ c. λ f h r g l. c .before .before .before .collect-modifiers .ensures f (h, r) l ∙ ran-same _ _ (projected-modifiers (bookOf (c .before .before .before .before .before .before .before .before .before .before .before .before .args .book .now) (c .before .before .before .before .before .before .before .before .before .before .before .before .args .pairs .now)) f (c .before .before .before .before .before .before .before .before .before .before .before .before .args .w .item) (c .before .before .before .before .before .before .before .before .before .before .before .before .args .e) _ g (sym (c .before .before .before .before .before .before .before .before .before .category-at .ensures) ∙ ap categoryOf (c .before .before .before .before .before .before .before .found .given .1))))
+    (λ c. λ f h r g l. refused-one _ _ _ _ _ l _ ∙ ran-same _ _ (projected-bad (bookOf (c .before .before .before .before .before .args .book .now) (c .before .before .before .before .before .args .pairs .now)) f (c .before .before .before .before .before .args .w .item) (c .before .before .before .before .before .args .e) g (sym (c .before .before .category-at .ensures) ∙ ap categoryOf (c .enum-told .given .1)))))

@@ -24,11 +24,11 @@ mul-row c = search needs
 slice-set-from-row : tie.Need-slice-set-from-row
 slice-set-from-row c = search needs
 
-mul-v : tie.Need-mul-v
-mul-v c = search needs
+mul-collected-values : tie.Need-mul-collected-values
+mul-collected-values c = search needs
 
-slice-write-v : tie.Need-slice-write-v
-slice-write-v c = search needs
+slice-write-collected-values : tie.Need-slice-write-collected-values
+slice-write-collected-values c = search needs
 
 add-t13 : tie.Need-add-t13
 add-t13 c = search needs
@@ -51,8 +51,8 @@ push-spec =
     origin-value-requires
     mul-row
     slice-set-from-row
-    mul-v
-    slice-write-v
+    mul-collected-values
+    slice-write-collected-values
     add-t13
     same-length
     same-length-2
