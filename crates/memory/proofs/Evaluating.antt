@@ -28,8 +28,9 @@ use Rattle.memory.specs.Answers.{Returns, heldBy}
 use Rattle.memory.specs.declared.apply.Got.{Got}
 use Rattle.memory.specs.declared.apply.Got.the-variants as got
 use Rattle.memory.proofs.Falling.{operate-falls, limit-falls}
-use Rattle.memory.proofs.Holdings.{met, goes-on-from, number-of}
+use Rattle.memory.proofs.Holdings.{met, meets-same, goes-on-from, number-of}
 use Rattle.memory.proofs.Gathering.{no-length}
+use Rattle.memory.proofs.Readings.{evaluation-free}
 use Rattle.memory.proofs.Limiting.{raise-refused, lowers, plain-row}
 
 module _ {t : Tables} {run : Recording} {v : List Float} {s : List (List ℕ)} {f : List (List Float)} {used i : ℕ} (h : Busy t run v s f used i 0 operators) where
@@ -74,6 +75,18 @@ module _ {t : Tables} {run : Recording} {v : List Float} {s : List (List ℕ)} {
       plain-row w s₀ f₀ v s f (valueOf w left) i row m (no-length (row .entries) (omega (arith, told .count, none-there)))
       (ap (λ (a : ℤ). getDogmaAttribute (w .book) a .«min_attribute_id») (sym id-is) ∙ both .0) (ap (λ (a : ℤ). getDogmaAttribute (w .book) a .«max_attribute_id») (sym id-is) ∙ both .1)
       (told .base) (subst (λ (x : Float). T (finite x)) (sym (told .base)) (told .number)) (h .ready .holds)
+
+  -- no limit: what the operators give
+  pub free-meets : (left : ℕ)
+      → ((k : Book) → Limits k (t .limits) → (getDogmaAttribute k (toZ w32 (getD (getD (t .rows) i []) 1 0)) .«min_attribute_id» ≡ pos 0) × (getDogmaAttribute k (toZ w32 (getD (getD (t .rows) i []) 1 0)) .«max_attribute_id» ≡ pos 0))
+      → (r : Got) (v′ : List Float) (s′ : List (List ℕ)) (f′ : List (List Float))
+      → Returns w s₀ f₀ (operate w i row (valueOf w left) operators (record { value = row .base; mem = m })) r v′ s′ f′
+      → Returns w s₀ f₀ (evaluation w (valueOf w left) i row m) r v′ s′ f′
+  free-meets left free r v′ s′ f′ k =
+      let both = free (w .book) (h .ready .told .limited) in
+      meets-same w s₀ f₀ v′ s′ f′ _ _ r
+      (evaluation-free w (valueOf w left) i row
+      (ap (λ (a : ℤ). getDogmaAttribute (w .book) a .«min_attribute_id») (sym id-is) ∙ both .0) (ap (λ (a : ℤ). getDogmaAttribute (w .book) a .«max_attribute_id») (sym id-is) ∙ both .1) m) k
 
   module _ (left : ℕ) (x : Float) (more : ℕ) (v′ : List Float) (s′ : List (List ℕ)) (f′ : List (List Float))
       (k : Returns w s₀ f₀ (operate w i row (valueOf w left) operators (record { value = row .base; mem = m })) (got.Value x more) v′ s′ f′) where

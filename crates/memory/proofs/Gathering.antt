@@ -21,7 +21,7 @@ use Rattle.rules.specs.Answer.{Res, ok, refused, _>>=_}
 use Rattle.rules.specs.Dispatch.{Row}
 use Rattle.rules.specs.Info.{getDogmaAttribute, highIsGood}
 use Rattle.rules.specs.Number.{numberAt}
-use Rattle.rules.specs.Operate.{hasPenalty, applied}
+use Rattle.rules.specs.Operate.{Values, hasPenalty, applied}
 use Rattle.rules.specs.Sheet.{Book, bookOf}
 use Rattle.rules.specs.Value.{World, Mem, Read, Reader, Gathered, ownSources, nothing, gather, markedBy, operate, valueOf}
 use Rattle.rules.specs.declared.Effect.{Effect}
@@ -210,11 +210,11 @@ module _ {t : Tables} {run : Recording} {v₀ : List Float} {s₁ : List (List �
       abbrev asked : Res Read
       asked = operate w i row read (op ∷ []) (record { value = found; mem = m })
 
-      asked-is : high ≡ highIsGood (getDogmaAttribute (w .book) (row .id)) → asked ≡ applying row high op found i (G .sofar)
+      asked-is : ((x : Float) (g : Values) → applied high op x g ≡ applied (highIsGood (getDogmaAttribute (w .book) (row .id))) op x g) → asked ≡ applying row high op found i (G .sofar)
       unfolding operate applying
       asked-is z =
           ap (λ (x : Res Gathered). x >>= λ g. numberAt (row .object) (applied (highIsGood (getDogmaAttribute (w .book) (row .id))) op found (g .values)) >>= λ n. ok (record { value = n; mem = markedBy i g })) gathered-all
-          ∙ ap (λ (b : Bool). numberAt (row .object) (applied b op found (G .sofar .values)) >>= λ n. ok (record { value = n; mem = markedBy i (G .sofar) })) (sym z)
+          ∙ ap (λ (x : Step). numberAt (row .object) x >>= λ n. ok (record { value = n; mem = markedBy i (G .sofar) })) (sym (z found (G .sofar .values)))
 
       -- what is applied keeps the values
       marked-holds : {s′ : List (List ℕ)} {f′ : List (List Float)} {a b : ℕ} → Keeping (countsOf w) (w .room) s₀ f₀ i (markedBy i (G .sofar)) s′ f′ a b → Holds w s₀ f₀ (markedBy i (G .sofar)) v s′ f′ b
@@ -222,7 +222,7 @@ module _ {t : Tables} {run : Recording} {v₀ : List Float} {s₁ : List (List �
           let same = marked-values i (G .sofar) in
           noted-holds (G .holds) i grown (markedBy i (G .sofar)) (same .0) (same .2) kept
 
-      pub gathering-applied : high ≡ highIsGood (getDogmaAttribute (w .book) (row .id)) → (r : Part) (s′ : List (List ℕ)) (f′ : List (List Float)) → Applied (applying row high op found i (G .sofar)) r s′ f′ → PartReturns w s₀ f₀ i asked r v s′ f′
+      pub gathering-applied : ((x : Float) (g : Values) → applied high op x g ≡ applied (highIsGood (getDogmaAttribute (w .book) (row .id))) op x g) → (r : Part) (s′ : List (List ℕ)) (f′ : List (List Float)) → Applied (applying row high op found i (G .sofar)) r s′ f′ → PartReturns w s₀ f₀ i asked r v s′ f′
       unfolding applying numberAt
       gathering-applied z r s′ f′ a = rw (asked-is z) (by (applied high op found (G .sofar .values)) r a)
         where

@@ -160,6 +160,20 @@ module _ (w : World) (read : Reader) (i : ℕ) (row : Row) where
       pub evaluation-raised : {b : Read} → raised a ≡ ok b → evaluation w read i row m ≡ lowered b
       evaluation-raised h = evaluation-operated ∙ ap (λ (x : Res Read). x >>= lowered) h
 
+  -- without limits the operators are all
+  pub evaluation-free : getDogmaAttribute (w .book) (row .id) .«min_attribute_id» ≡ pos 0 → getDogmaAttribute (w .book) (row .id) .«max_attribute_id» ≡ pos 0
+      → (m : Mem) → evaluation w read i row m ≡ operated m
+  evaluation-free low high m =
+      evaluation-is m
+      ∙ bind-same (operated m) (λ a. raised a >>= lowered) ok
+      (λ a. ap (λ (x : Res Read). x >>= lowered) (clamp-none (row .object) read atLeast (getDogmaAttribute (w .book) (row .id) .«min_attribute_id») a low)
+      ∙ clamp-none (row .object) read atMost (getDogmaAttribute (w .book) (row .id) .«max_attribute_id») a high)
+      ∙ bind-ok (operated m)
+    where
+      bind-ok : (x : Res Read) → (x >>= ok) ≡ x
+      bind-ok (ok a) = refl
+      bind-ok (refused y) = refl
+
   -- the row is started at its base, and ends with the value
   pub calculate-evaluation : (m : Mem) → calculate w read i row m ≡ (evaluation w read i row (setValue i (row .base) m) >>= λ c. ok (record { value = c .value; mem = setValue i (c .value) (c .mem) }))
   unfolding calculate

@@ -17,7 +17,7 @@ use Rattle.rules.specs.declared.EffectOperator.{EffectOperator}
 use Rattle.rules.specs.declared.EffectOperator.the-variants.{PreAssign, PreMul, PreDiv, ModAdd, ModSub, PostMul, PostDiv, PostPercent, PostAssign}
 use Rattle.numbers.proofs.Steps.{assoc}
 use Rattle.operate.specs.declared.Running.{Running}
-use Rattle.operate.specs.SoFar.{plainly, any?, stepOf, RunningOf, better, chosenOf, addedOne, multipliedOne, plainlyOne}
+use Rattle.operate.specs.SoFar.{plainly, any?, set?, stepOf, RunningOf, better, chosenOf, addedOne, multipliedOne, plainlyOne}
 
 -- ---- steps that have a value have a finite one
 
@@ -120,6 +120,11 @@ multiplied-good g x n =
     (λ v. bind-good (plus oneF x) (λ y. power y n >>= λ z. times v z)
     (λ y. bind-good (power y n) (λ z. times v z) (λ z w e. step-good (mul binary64 v z) e)))
 
+-- a flag that is not 0
+pub set-if : (n : ℕ) → (n ≡ 0 → ⊥) → true ≡ set? n
+set-if zero z = absurd (z refl)
+set-if (suc n) z = refl
+
 -- ---- any operator
 
 pub unchanged : (high : Bool) (op : EffectOperator) (v : Float) → Finite v ≡ plainly high op v []
@@ -134,7 +139,7 @@ unchanged high PostDiv v = refl
 unchanged high PostPercent v = refl
 unchanged high PostAssign v = refl
 
-pub begun : {v : Float} (high : Bool) (op : EffectOperator) → T (finite v) → RunningOf high op v [] (record { value = v; finite = true; any = false })
+pub begun : {v : Float} (high : Bool) (op : EffectOperator) → T (finite v) → RunningOf high op v [] (record { value = v; finite = 1; any = 0 })
 begun {v} high op f = record { step = unchanged high op v; any = refl; good = λ w e. kept f e }
 
 abbrev stack : Float → ℕ → Stack
@@ -148,7 +153,7 @@ module _ {high : Bool} {v : Float} {l : List Stack} {r : Running} (x : Float) (n
     product-more : plainly high op v l ≡ multiplied v l → (stepOf r >>= λ w. multipliedOne w x n) ≡ multiplied v (l ++ (stack x n ∷ []))
     product-more e = ap (λ g. g >>= λ w. multipliedOne w x n) (R .step ∙ e) ∙ sym (multiplied-snoc v l (stack x n))
 
-    choice-more : plainly high op v l ≡ Finite (assigned high v l) → chosenOf high (r .any) (stepOf r) x ≡ Finite (assigned high v (l ++ (stack x n ∷ [])))
+    choice-more : plainly high op v l ≡ Finite (assigned high v l) → chosenOf high (set? (r .any)) (stepOf r) x ≡ Finite (assigned high v (l ++ (stack x n ∷ [])))
     choice-more e =
         ap₂ (λ t g. chosenOf high t g x) (R .any) (R .step ∙ e) ∙ chosen-is high (any? l) (assigned high v l) x ∙ ap Finite (sym (assigned-snoc high v l (stack x n)))
 
@@ -164,7 +169,7 @@ module _ {high : Bool} {v : Float} {l : List Stack} {r : Running} (x : Float) (n
   one-more PostAssign R = choice-more R refl
 
   one-good : (op : EffectOperator) → RunningOf high op v l r → T (finite x) → (w : Float) → plainlyOne high op r x n ≡ Finite w → T (finite w)
-  one-good PreAssign R f = chosen-good high (r .any) (stepOf r) x (R .good) f
+  one-good PreAssign R f = chosen-good high (set? (r .any)) (stepOf r) x (R .good) f
   one-good PreMul R f = multiplied-good (stepOf r) x n
   one-good PreDiv R f = multiplied-good (stepOf r) x n
   one-good ModAdd R f = added-good (stepOf r) x n
@@ -172,7 +177,7 @@ module _ {high : Bool} {v : Float} {l : List Stack} {r : Running} (x : Float) (n
   one-good PostMul R f = multiplied-good (stepOf r) x n
   one-good PostDiv R f = multiplied-good (stepOf r) x n
   one-good PostPercent R f = multiplied-good (stepOf r) x n
-  one-good PostAssign R f = chosen-good high (r .any) (stepOf r) x (R .good) f
+  one-good PostAssign R f = chosen-good high (set? (r .any)) (stepOf r) x (R .good) f
 
 any-snoc : (l : List Stack) (s : Stack) → true ≡ any? (l ++ (s ∷ []))
 any-snoc [] s = refl
@@ -184,7 +189,7 @@ module _ (high : Bool) (op : EffectOperator) {r : Running} (x : Float) where
   none-more zero e v g f R = R
   none-more (suc n) e v g f R = absurd (omega arith)
 
-  pub some-more : (n : ℕ) → (n ≡ 0 → ⊥) → {s : Running} → stepOf s ≡ plainlyOne high op r x n → s .any ≡ true → (v : Float) (g : Values) → T (finite x)
+  pub some-more : (n : ℕ) → (n ≡ 0 → ⊥) → {s : Running} → stepOf s ≡ plainlyOne high op r x n → set? (s .any) ≡ true → (v : Float) (g : Values) → T (finite x)
       → RunningOf high op v (g .unpenalized) r → RunningOf high op v (withStack x n g .unpenalized) s
   some-more zero z e a v g f R = absurd (z refl)
   some-more (suc n) z e a v g f R = record {

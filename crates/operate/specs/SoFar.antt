@@ -36,14 +36,19 @@ abbrev pub stepFrom : Bool → Float → Step
 stepFrom true v = Finite v
 stepFrom false v = NotFinite
 
+-- a flag that is not 0 says yes
+abbrev pub set? : ℕ → Bool
+set? zero = false
+set? (suc n) = true
+
 -- the value so far, as a step
 abbrev pub stepOf : Running → Step
-stepOf r = stepFrom (r .finite) (r .value)
+stepOf r = stepFrom (set? (r .finite)) (r .value)
 
 -- r is what the values l, in their order, have made of v; a value that it has is finite
 pub record RunningOf (high : Bool) (op : EffectOperator) (v : Float) (l : List Stack) (r : Running) : Type 0 where
   pub step : stepOf r ≡ plainly high op v l
-  pub any : r .any ≡ any? l
+  pub any : set? (r .any) ≡ any? l
   pub good : (x : Float) → stepOf r ≡ Finite x → T (finite x)
 
 -- ---- one value more
@@ -65,7 +70,7 @@ abbrev pub multipliedOne : Float → Float → ℕ → Step
 multipliedOne v x n = plus oneF x >>= λ y. power y n >>= λ z. times v z
 
 abbrev pub plainlyOne : Bool → EffectOperator → Running → Float → ℕ → Step
-plainlyOne high PreAssign r x n = chosenOf high (r .any) (stepOf r) x
+plainlyOne high PreAssign r x n = chosenOf high (set? (r .any)) (stepOf r) x
 plainlyOne high PreMul r x n = stepOf r >>= λ v. multipliedOne v x n
 plainlyOne high PreDiv r x n = stepOf r >>= λ v. multipliedOne v x n
 plainlyOne high ModAdd r x n = stepOf r >>= λ v. addedOne v x n
@@ -73,7 +78,7 @@ plainlyOne high ModSub r x n = stepOf r >>= λ v. addedOne v x n
 plainlyOne high PostMul r x n = stepOf r >>= λ v. multipliedOne v x n
 plainlyOne high PostDiv r x n = stepOf r >>= λ v. multipliedOne v x n
 plainlyOne high PostPercent r x n = stepOf r >>= λ v. multipliedOne v x n
-plainlyOne high PostAssign r x n = chosenOf high (r .any) (stepOf r) x
+plainlyOne high PostAssign r x n = chosenOf high (set? (r .any)) (stepOf r) x
 
 -- ---- copies
 

@@ -22,13 +22,23 @@ ghost use Rattle.rules.specs.Operate.{Copy, Values, hasPenalty, applied};
 ghost use Rattle.rules.specs.Value.{withStack};
 ghost use Rattle.operate.specs.Held.{Gathered, bucketBefore, bucketAfter};
 ghost use lib.ListN.{length};
-ghost use Rattle.operate.specs.SoFar.{better, chosenOf, addedOne, multipliedOne, plainlyOne, stepOf, RunningOf, copiesFrom};
+ghost use Rattle.operate.specs.SoFar.{set?, better, chosenOf, addedOne, multipliedOne, plainlyOne, stepOf, RunningOf, copiesFrom};
 
 // What an operator has made of its unpenalised values so far, whether that is finite, and whether there was one.
+// Yes is 1: flags of four bytes leave no gap that would be copied with each entry.
 pub struct Running {
     pub value: f64,
-    pub finite: bool,
-    pub any: bool,
+    pub finite: u32,
+    pub any: u32,
+}
+
+fn is_set(flag: u32) -> bool
+    ensures { λ r. ⌜ r ≡ set? flag ⌝ }
+{
+    if flag == 0 {
+        return false;
+    }
+    true
 }
 
 // No value is there yet.
@@ -37,8 +47,8 @@ pub fn start(v: f64) -> Running
 {
     Running {
         value: v,
-        finite: true,
-        any: false,
+        finite: 1,
+        any: 0,
     }
 }
 
@@ -46,7 +56,7 @@ pub fn start(v: f64) -> Running
 fn step_so_far(running: Running) -> Step
     ensures { λ r. ⌜ r ≡ stepOf running ⌝ }
 {
-    if running.finite {
+    if is_set(running.finite) {
         return Step::Finite(running.value);
     }
     Step::NotFinite
@@ -113,8 +123,9 @@ fn stepped(running: Running, high: bool, operator: EffectOperator, x: f64, quant
     ensures { λ r. ⌜ r ≡ plainlyOne high operator running x quantity ⌝ }
 {
     let step = step_so_far(running);
+    let any = is_set(running.any);
     match operator {
-        EffectOperator::PreAssign => chosen(high, running.any, step, x),
+        EffectOperator::PreAssign => chosen(high, any, step, x),
         EffectOperator::PreMul => multiplied(step, x, quantity),
         EffectOperator::PreDiv => multiplied(step, x, quantity),
         EffectOperator::ModAdd => added(step, x, quantity),
@@ -122,7 +133,7 @@ fn stepped(running: Running, high: bool, operator: EffectOperator, x: f64, quant
         EffectOperator::PostMul => multiplied(step, x, quantity),
         EffectOperator::PostDiv => multiplied(step, x, quantity),
         EffectOperator::PostPercent => multiplied(step, x, quantity),
-        EffectOperator::PostAssign => chosen(high, running.any, step, x),
+        EffectOperator::PostAssign => chosen(high, any, step, x),
     }
 }
 
@@ -145,13 +156,13 @@ pub fn more(
     match step {
         Step::Finite(value) => Running {
             value,
-            finite: true,
-            any: true,
+            finite: 1,
+            any: 1,
         },
         Step::NotFinite => Running {
             value: 0.0,
-            finite: false,
-            any: true,
+            finite: 0,
+            any: 1,
         },
     }
 }

@@ -1,7 +1,7 @@
 -- What a function of the cycle is lent, and what it answers. Definitions only.
 use Prim.Native.Nat.{ℕ}
 use mathlib.Core.Path.{_≡_}
-use mathlib.Core.Bool.{Bool}
+use mathlib.Core.Bool.{Bool, true, false}
 use mathlib.Core.List.{List, [], _∷_}
 use lib.Ieee.{Float}
 use denote.Ref.{RefT, now}
@@ -12,6 +12,7 @@ use Rattle.rules.specs.Dispatch.{Row}
 use Rattle.rules.specs.Operate.{Values}
 use Rattle.rules.specs.Value.{World, Mem, Read, Gathered}
 use Rattle.rules.specs.declared.EffectOperator.{EffectOperator}
+use Rattle.rules.specs.declared.EffectOperator.the-variants.{PreAssign, PreMul, PreDiv, ModAdd, ModSub, PostMul, PostDiv, PostPercent, PostAssign}
 use Rattle.sources.specs.declared.Recording.{Recording}
 use Rattle.gather.specs.declared.Growing.{Growing}
 use Rattle.gather.specs.declared.Pile.{Pile}
@@ -21,6 +22,18 @@ use Rattle.memory.specs.Holding as holding
 use Rattle.memory.specs.Answers.{Returns, PartReturns}
 use Rattle.memory.specs.declared.apply.Got.{Got}
 use Rattle.memory.specs.declared.apply.Part.{Part}
+
+-- "Assign takes the last of equal greatest, or the first of equal least"
+abbrev pub isAssign : EffectOperator → Bool
+isAssign PreAssign = true
+isAssign PreMul = false
+isAssign PreDiv = false
+isAssign ModAdd = false
+isAssign ModSub = false
+isAssign PostMul = false
+isAssign PostDiv = false
+isAssign PostPercent = false
+isAssign PostAssign = true
 
 -- the values of references: to numbers, rows of numbers, floats, pairs of floats
 abbrev pub Numbers : Type 0

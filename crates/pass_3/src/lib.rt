@@ -53,13 +53,17 @@ ghost use lib.ListN.{length};
 ghost use Rattle.laws.specs.Floats.{finite};
 ghost use Rattle.rules.specs.Codes.{operators};
 ghost use Rattle.rules.specs.Dispatch.{Row};
+ghost use Rattle.rules.specs.Info.{getDogmaAttribute, highIsGood};
+ghost use Rattle.rules.specs.Operate.{Values, applied};
+ghost use Rattle.rules.specs.Sheet.{bookOf};
+ghost use Rattle.info.specs.Sound.{SoundBook};
 ghost use Rattle.rules.specs.Value.{valueOf, operate, gather, clamped};
 ghost use Rattle.rules.specs.Value as defined;
 ghost use Rattle.memory.specs.Steps.{rowAt, entryAt, strengthOf, evaluation};
-ghost use Rattle.memory.specs.Holding.{highAt, Good};
+ghost use Rattle.memory.specs.Holding.{Good};
 ghost use Rattle.memory.specs.Answers.{heldBy};
 ghost use Rattle.gather.specs.Piles.{Eights};
-ghost use Rattle.pass_3.specs.Calls.{lent, read, ReadyNow, BusyNow, Gives, BusyGives, PartGives, GivesOn, Piling, PileGives, pileOf, piled, EightsAt};
+ghost use Rattle.pass_3.specs.Calls.{isAssign, lent, read, ReadyNow, BusyNow, Gives, BusyGives, PartGives, GivesOn, Piling, PileGives, pileOf, piled, EightsAt};
 
 // The value of an attribute of an object: its row's, or the default where it has none.
 pub fn calculated_value(
@@ -178,7 +182,7 @@ pub fn calculate_value(
     }
 }
 
-// The value of a row under calculation: its operators, then min, then max.
+// The value of a row under calculation: its operators, then min, then max. Its record is looked up where it may have a limit.
 fn evaluated(
     values: &mut [f64],
     sources: &mut [SourceRow],
@@ -205,18 +209,13 @@ fn evaluated(
 {
     let id = signed(rows[row][ROW_ATTRIBUTE]);
     let count = rows[row][ROW_ENTRY_COUNT];
+    let has_limits = is_limited(limits, id);
     if count == 0 {
-        let limited = is_limited(limits, id);
-        if !limited {
+        if !has_limits {
             let base = bases[row];
             return Got::Value(base, used);
         }
     }
-    let record = get_dogma_attribute(book, pairs, id);
-    let high = record.flags / 2 == 1;
-    let min = record.min_attribute_id;
-    let max = record.max_attribute_id;
-    let object = rows[row][ROW_OBJECT];
     let got = operated(
         values,
         sources,
@@ -232,13 +231,19 @@ fn evaluated(
         entry_values,
         run,
         row,
-        high,
         left,
         used,
     );
+    if !has_limits {
+        return got;
+    }
     let Got::Value(v, u) = got else {
         return got;
     };
+    let record = get_dogma_attribute(book, pairs, id);
+    let min = record.min_attribute_id;
+    let max = record.max_attribute_id;
+    let object = rows[row][ROW_OBJECT];
     let low = limited(
         values,
         sources,
@@ -360,12 +365,11 @@ fn operated(
     entry_values: &[f64],
     run: Recording,
     row: usize,
-    high: bool,
     left: u32,
     used: u32,
 ) -> Got
     requires begun { let t = lent book pairs states stretches limits rows bases entries «entry_values» in
-        ⌜ (BusyNow t values sources floats run used row 0 operators) × (high ≡ highAt t row) ⌝ }
+        ⌜ BusyNow t values sources floats run used row 0 operators ⌝ }
     ensures defined { λ r.
         let t = read book pairs states stretches limits rows bases entries «entry_values» in
         ⌜ BusyGives t values sources floats run used row r
@@ -399,7 +403,6 @@ fn operated(
                 run,
                 row,
                 operator,
-                high,
                 left,
                 value,
                 own,
@@ -416,6 +419,38 @@ fn operated(
         }
     }
     Got::Value(value, u)
+}
+
+// Whether an operator assigns.
+fn is_assign(operator: EffectOperator) -> bool
+    ensures { λ r. ⌜ r ≡ isAssign operator ⌝ }
+{
+    match operator {
+        EffectOperator::PreAssign => true,
+        EffectOperator::PreMul => false,
+        EffectOperator::PreDiv => false,
+        EffectOperator::ModAdd => false,
+        EffectOperator::ModSub => false,
+        EffectOperator::PostMul => false,
+        EffectOperator::PostDiv => false,
+        EffectOperator::PostPercent => false,
+        EffectOperator::PostAssign => true,
+    }
+}
+
+// Whether high is good of an attribute; only an operator that assigns asks its record.
+fn is_high(book: &[u8], pairs: &TablePairs, operator: EffectOperator, id: i32) -> bool
+    requires sound { ⌜ SoundBook (now book) (now pairs) ⌝ }
+    ensures asked { λ r.
+        let high = highIsGood (getDogmaAttribute (bookOf (now (book .entry)) (now (pairs .entry))) id) in
+        ⌜ ((v : Float) (g : Values) → applied r operator v g ≡ applied high operator v g) ⌝ }
+{
+    let assigns = is_assign(operator);
+    if !assigns {
+        return false;
+    }
+    let record = get_dogma_attribute(book, pairs, id);
+    record.flags / 2 == 1
 }
 
 // One operator: all its entries are gathered, then they are applied.
@@ -435,20 +470,21 @@ fn gathered(
     run: Recording,
     row: usize,
     operator: EffectOperator,
-    high: bool,
     left: u32,
     found: f64,
     own: u32,
     used: u32,
 ) -> Part
     requires begun { let t = lent book pairs states stretches limits rows bases entries «entry_values» in
-        ⌜ (BusyNow t values sources floats run used row own (operator ∷ [])) × (T (finite found) × (high ≡ highAt t row)) ⌝ }
+        ⌜ (BusyNow t values sources floats run used row own (operator ∷ [])) × T (finite found) ⌝ }
     ensures defined { λ r.
         let t = read book pairs states stretches limits rows bases entries «entry_values» in
         ⌜ PartGives t values sources floats run used row own operator r
         (λ w m. operate w row (rowAt w row) (valueOf w left) (operator ∷ []) (record { value = found; mem = m })) ⌝ }
 {
     let count = rows[row][ROW_ENTRY_COUNT] as usize;
+    let id = signed(rows[row][ROW_ATTRIBUTE]);
+    let high = is_high(book, pairs, operator, id);
     let mut positives = [0.0; 8];
     let mut positive_sources = [0u32; 8];
     let mut negatives = [0.0; 8];
@@ -623,75 +659,48 @@ fn strength(
             source_category: _,
             attribute_id,
         } => {
-            let found = find(rows, stretches, source, attribute_id);
-            match found {
-                Found::At(row) => {
-                    let got = calculate_value(
-                        values,
-                        sources,
-                        floats,
-                        book,
-                        pairs,
-                        states,
-                        stretches,
-                        limits,
-                        rows,
-                        bases,
-                        entries,
-                        entry_values,
-                        run,
-                        row,
-                        left,
-                        used,
-                    );
-                    let Got::Value(v, u) = got else {
-                        return got;
-                    };
-                    resisted(
-                        values,
-                        sources,
-                        floats,
-                        book,
-                        pairs,
-                        states,
-                        stretches,
-                        limits,
-                        rows,
-                        bases,
-                        entries,
-                        entry_values,
-                        run,
-                        object,
-                        resistance,
-                        v,
-                        left,
-                        u,
-                    )
-                }
-                Found::Nothing => {
-                    let record = get_dogma_attribute(book, pairs, attribute_id);
-                    resisted(
-                        values,
-                        sources,
-                        floats,
-                        book,
-                        pairs,
-                        states,
-                        stretches,
-                        limits,
-                        rows,
-                        bases,
-                        entries,
-                        entry_values,
-                        run,
-                        object,
-                        resistance,
-                        record.default_value,
-                        left,
-                        used,
-                    )
-                }
-            }
+            let got = calculated_value(
+                values,
+                sources,
+                floats,
+                book,
+                pairs,
+                states,
+                stretches,
+                limits,
+                rows,
+                bases,
+                entries,
+                entry_values,
+                run,
+                source,
+                attribute_id,
+                left,
+                used,
+            );
+            let Got::Value(v, u) = got else {
+                return got;
+            };
+            resisted(
+                values,
+                sources,
+                floats,
+                book,
+                pairs,
+                states,
+                stretches,
+                limits,
+                rows,
+                bases,
+                entries,
+                entry_values,
+                run,
+                object,
+                resistance,
+                v,
+                left,
+                u,
+            )
         }
     }
 }

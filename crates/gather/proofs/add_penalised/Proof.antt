@@ -40,10 +40,10 @@ stopped-requires : tie.Need-stopped-requires
 stopped-requires c κs = search needs
 
 same-length : tie.Need-same-length
-same-length c = search needs
+same-length c = c .before .before .before .before .before .before .before .before .before .before .before .before .note-penalised .kept .0
 
 same-length-2 : tie.Need-same-length-2
-same-length-2 c = search needs
+same-length-2 c = c .before .before .before .before .before .before .before .before .before .before .before .before .note-penalised .kept .1 .0
 
 returns : tie.Need-returns
 returns c = (λ w counts s₀ f₀ i row high op found g t b x z k fit. penalised-goes w counts s₀ f₀ i row high op found g (whole (c .before .before .before .before .before .before .before .before .before .before .before .before .before .before .before .args .positives .now) (c .before .before .before .before .before .before .before .before .before .before .before .before .before .before .before .args .positive-sources .now) (c .before .before .before .before .before .before .before .before .before .before .before .before .before .before .before .args .negatives .now) (c .before .before .before .before .before .before .before .before .before .before .before .before .before .before .before .args .negative-sources .now) (c .before .before .before .before .before .before .before .before .before .before .before .before .before .before .before .args .p)) _ _ _ _ k (b .row) (c .before .before .before .before .before .before .before .before .before .before .before .before .before .before .before .args .e) (c .before .before .before .before .before .before .before .before .before .before .before .before .before .before .before .args .strength) (c .before .before .before .before .before .before .before .before .before .before .before .before .before .before .before .args .x) _ _ (whole (c .before .with-copies .last .0) (c .before .with-copies .last .1 .0) (c .before .with-copies .last .1 .1 .0) (c .before .with-copies .last .1 .1 .1 .0) (c .counted .result)) (whole (c .before .with-copies .last .0) (c .before .with-copies .last .1 .0) (c .before .with-copies .last .1 .1 .0) (c .before .with-copies .last .1 .1 .1 .0) (c .before .with-copies .result)) (rw (c .before .before .before .before .before .before .before .before .noted .given .1) at (c .before .before .before .before .before .before .before .before .before .before .before .before .note-penalised .ensures .0 w counts s₀ f₀ i row (g .mem) t b (k .keeping) fit)) z (c .before .with-copies .ensures .1 .0 .2) (c .before .with-copies .ensures .1 .0 .3) ((rw (sym (t .recording), c .before .before .copies-of .ensures) at (c .before .with-copies .ensures .0 (g .values) x (k .positive) (k .negative))) .0) ((rw (sym (t .recording), c .before .before .copies-of .ensures) at (c .before .with-copies .ensures .0 (g .values) x (k .positive) (k .negative))) .1) (c .counted .ensures .0) (c .counted .ensures .1) (c .counted .ensures .2) (c .counted .ensures .3) (rw (c .counted .ensures .4) refl) (rw (c .counted .ensures .5) refl), (omega (arith, c .counted .ensures .0, c .counted .ensures .1, (rw (c .before .before .before .before .before .before .before .before .noted .given .1) at (c .before .before .before .before .before .before .before .before .before .before .before .before .note-penalised .ensures .1)), c .before .before .before .before .before .before .before .before .before .before .before .before .before .before .before .pre .0), c .before .with-copies .ensures .1 .1))

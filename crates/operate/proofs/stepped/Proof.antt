@@ -7,12 +7,16 @@ use Rattle.operate.proofs.stepped.Reads as reads
 use Rattle.operate.proofs.stepped.Lts as lts
 use Rattle.operate.proofs.added.Reads as added-reads
 use Rattle.operate.proofs.chosen.Reads as chosen-reads
+use Rattle.operate.proofs.is_set.Reads as is-set-reads
 use Rattle.operate.proofs.multiplied.Reads as multiplied-reads
 use Rattle.operate.proofs.step_so_far.Reads as step-so-far-reads
 use mathlib.Core.Path.{sym}
 
 step-so-far-requires : tie.Need-step-so-far-requires
 step-so-far-requires c κs = search needs
+
+is-set-requires : tie.Need-is-set-requires
+is-set-requires c κs = search needs
 
 enum-told : tie.Need-enum-told
 enum-told c = search needs
@@ -69,37 +73,38 @@ chosen-requires-2 : tie.Need-chosen-requires-2
 chosen-requires-2 c κs = search needs
 
 returns : tie.Need-returns
-returns c = rw (c .before .enum-told .given .1, sym (c .before .before .before .step-so-far .ensures)) (c .chosen .ensures)
+returns c = rw (c .before .enum-told .given .1, sym (c .before .before .before .before .step-so-far .ensures), sym (c .before .before .before .is-set .ensures)) (c .chosen .ensures)
 
 returns-2 : tie.Need-returns-2
-returns-2 c = rw (c .before .enum-told2 .given .1, sym (c .before .before .before .step-so-far .ensures)) (c .multiplied .ensures)
+returns-2 c = rw (c .before .enum-told2 .given .1, sym (c .before .before .before .before .step-so-far .ensures)) (c .multiplied .ensures)
 
 returns-3 : tie.Need-returns-3
-returns-3 c = rw (c .before .enum-told3 .given .1, sym (c .before .before .before .step-so-far .ensures)) (c .multiplied2 .ensures)
+returns-3 c = rw (c .before .enum-told3 .given .1, sym (c .before .before .before .before .step-so-far .ensures)) (c .multiplied2 .ensures)
 
 returns-4 : tie.Need-returns-4
-returns-4 c = rw (c .before .enum-told4 .given .1, sym (c .before .before .before .step-so-far .ensures)) (c .added .ensures)
+returns-4 c = rw (c .before .enum-told4 .given .1, sym (c .before .before .before .before .step-so-far .ensures)) (c .added .ensures)
 
 returns-5 : tie.Need-returns-5
-returns-5 c = rw (c .before .enum-told5 .given .1, sym (c .before .before .before .step-so-far .ensures)) (c .added2 .ensures)
+returns-5 c = rw (c .before .enum-told5 .given .1, sym (c .before .before .before .before .step-so-far .ensures)) (c .added2 .ensures)
 
 returns-6 : tie.Need-returns-6
-returns-6 c = rw (c .before .enum-told6 .given .1, sym (c .before .before .before .step-so-far .ensures)) (c .multiplied3 .ensures)
+returns-6 c = rw (c .before .enum-told6 .given .1, sym (c .before .before .before .before .step-so-far .ensures)) (c .multiplied3 .ensures)
 
 returns-7 : tie.Need-returns-7
-returns-7 c = rw (c .before .enum-told7 .given .1, sym (c .before .before .before .step-so-far .ensures)) (c .multiplied4 .ensures)
+returns-7 c = rw (c .before .enum-told7 .given .1, sym (c .before .before .before .before .step-so-far .ensures)) (c .multiplied4 .ensures)
 
 returns-8 : tie.Need-returns-8
-returns-8 c = rw (c .before .enum-told8 .given .1, sym (c .before .before .before .step-so-far .ensures)) (c .multiplied5 .ensures)
+returns-8 c = rw (c .before .enum-told8 .given .1, sym (c .before .before .before .before .step-so-far .ensures)) (c .multiplied5 .ensures)
 
 returns-9 : tie.Need-returns-9
-returns-9 c = rw (c .before .enum-told9 .given .1, sym (c .before .before .before .step-so-far .ensures)) (c .chosen2 .ensures)
+returns-9 c = rw (c .before .enum-told9 .given .1, sym (c .before .before .before .before .step-so-far .ensures), sym (c .before .before .before .is-set .ensures)) (c .chosen2 .ensures)
 
 pub stepped-spec : {M : Type 1} → statement M
 stepped-spec =
     tie.close
     (tie.spec
     step-so-far-requires
+    is-set-requires
     enum-told
     chosen-requires
     enum-told-2

@@ -30,17 +30,18 @@ use Rattle.pass_3.proofs.+calculate_value+calculated_value+evaluated+ga
 use Rattle.pass_3.proofs.with_entry.Reads as with-entry
 use Rattle.pass_3.proofs.with_entry.Kinds as with-entry-kinds
 use Rattle.pass_3.proofs.+calculate_value+calculated_value+evaluated+gathered+limited+operated+resisted+strength+with_entry.Lts-with_entry as with-entry-lts
-use Rattle.memory.proofs.apply.apply.Reads as apply-reads
-use Rattle.memory.proofs.apply.held_to.Reads as held-to-reads
 use Rattle.gather.proofs.add_entry.Reads as add-entry-reads
 use Rattle.gather.proofs.counted.Reads as counted-reads
 use Rattle.gather.proofs.empty.Reads as empty-reads
 use Rattle.gather.proofs.grown.Reads as grown-reads
 use Rattle.gather.proofs.stopped.Reads as stopped-reads
-use Rattle.numbers.proofs.integers.signed.Reads as signed-reads
-use Rattle.item.proofs.codes.operator_code.Reads as operator-code-reads
 use Rattle.info.proofs.look_ups.get_dogma_attribute.Reads as get-dogma-attribute-reads
+use Rattle.item.proofs.codes.operator_code.Reads as operator-code-reads
+use Rattle.memory.proofs.apply.apply.Reads as apply-reads
+use Rattle.memory.proofs.apply.held_to.Reads as held-to-reads
+use Rattle.numbers.proofs.integers.signed.Reads as signed-reads
 use Rattle.numbers.proofs.product.Reads as product-reads
+use Rattle.pass_3.proofs.is_high.Reads as is-high-reads
 use Rattle.reading.proofs.entries.entry_at.Reads as entry-at-reads
 use Rattle.reading.proofs.entries.is_running.Reads as is-running-reads
 use Rattle.reading.proofs.entries.operator_of.Reads as operator-of-reads
@@ -58,6 +59,7 @@ use lib.ListN.{length, getD, length-set}
 use Rattle.laws.specs.Floats.{nans}
 use Rattle.laws.proofs.Signs.{same-bits, tested-apart}
 use Rattle.rules.specs.Codes.{operators}
+use Rattle.rules.specs.Operate.{applied}
 use Rattle.rules.specs.Info.{getDogmaAttribute, highIsGood}
 use Rattle.rules.specs.Sheet.{bookOf}
 use Rattle.rules.specs.Value.{valueOf}
@@ -451,10 +453,10 @@ evaluated-mul-signed : (t : ℕ) → evaluated-lts.Need-mul-signed (
   signed-reads.Learnt,
   is-limited-reads.Asked,
   is-limited-reads.Learnt,
-  get-dogma-attribute-reads.Asked,
-  get-dogma-attribute-reads.Learnt,
   operated-below t,
   operated.Post,
+  get-dogma-attribute-reads.Asked,
+  get-dogma-attribute-reads.Learnt,
   limited-below t,
   limited.Post,
 ) (evaluated-at t) evaluated.Post
@@ -465,10 +467,10 @@ evaluated-index-1-signed : (t : ℕ) → evaluated-lts.Need-index-1-signed (
   signed-reads.Learnt,
   is-limited-reads.Asked,
   is-limited-reads.Learnt,
-  get-dogma-attribute-reads.Asked,
-  get-dogma-attribute-reads.Learnt,
   operated-below t,
   operated.Post,
+  get-dogma-attribute-reads.Asked,
+  get-dogma-attribute-reads.Learnt,
   limited-below t,
   limited.Post,
 ) (evaluated-at t) evaluated.Post
@@ -479,10 +481,10 @@ evaluated-index-2-signed : (t : ℕ) → evaluated-lts.Need-index-2-signed (
   signed-reads.Learnt,
   is-limited-reads.Asked,
   is-limited-reads.Learnt,
-  get-dogma-attribute-reads.Asked,
-  get-dogma-attribute-reads.Learnt,
   operated-below t,
   operated.Post,
+  get-dogma-attribute-reads.Asked,
+  get-dogma-attribute-reads.Learnt,
   limited-below t,
   limited.Post,
 ) (evaluated-at t) evaluated.Post
@@ -493,10 +495,10 @@ evaluated-signed-requires : (t : ℕ) → evaluated-lts.Need-signed-requires (
   signed-reads.Learnt,
   is-limited-reads.Asked,
   is-limited-reads.Learnt,
-  get-dogma-attribute-reads.Asked,
-  get-dogma-attribute-reads.Learnt,
   operated-below t,
   operated.Post,
+  get-dogma-attribute-reads.Asked,
+  get-dogma-attribute-reads.Learnt,
   limited-below t,
   limited.Post,
 ) (evaluated-at t) evaluated.Post
@@ -507,10 +509,10 @@ evaluated-mul-count : (t : ℕ) → evaluated-lts.Need-mul-count (
   signed-reads.Learnt,
   is-limited-reads.Asked,
   is-limited-reads.Learnt,
-  get-dogma-attribute-reads.Asked,
-  get-dogma-attribute-reads.Learnt,
   operated-below t,
   operated.Post,
+  get-dogma-attribute-reads.Asked,
+  get-dogma-attribute-reads.Learnt,
   limited-below t,
   limited.Post,
 ) (evaluated-at t) evaluated.Post
@@ -521,10 +523,10 @@ evaluated-index-1-count : (t : ℕ) → evaluated-lts.Need-index-1-count (
   signed-reads.Learnt,
   is-limited-reads.Asked,
   is-limited-reads.Learnt,
-  get-dogma-attribute-reads.Asked,
-  get-dogma-attribute-reads.Learnt,
   operated-below t,
   operated.Post,
+  get-dogma-attribute-reads.Asked,
+  get-dogma-attribute-reads.Learnt,
   limited-below t,
   limited.Post,
 ) (evaluated-at t) evaluated.Post
@@ -535,10 +537,10 @@ evaluated-index-2-count : (t : ℕ) → evaluated-lts.Need-index-2-count (
   signed-reads.Learnt,
   is-limited-reads.Asked,
   is-limited-reads.Learnt,
-  get-dogma-attribute-reads.Asked,
-  get-dogma-attribute-reads.Learnt,
   operated-below t,
   operated.Post,
+  get-dogma-attribute-reads.Asked,
+  get-dogma-attribute-reads.Learnt,
   limited-below t,
   limited.Post,
 ) (evaluated-at t) evaluated.Post
@@ -549,10 +551,10 @@ evaluated-is-limited-requires : (t : ℕ) → evaluated-lts.Need-is-limited-requ
   signed-reads.Learnt,
   is-limited-reads.Asked,
   is-limited-reads.Learnt,
-  get-dogma-attribute-reads.Asked,
-  get-dogma-attribute-reads.Learnt,
   operated-below t,
   operated.Post,
+  get-dogma-attribute-reads.Asked,
+  get-dogma-attribute-reads.Learnt,
   limited-below t,
   limited.Post,
 ) (evaluated-at t) evaluated.Post
@@ -563,10 +565,10 @@ evaluated-mul-base : (t : ℕ) → evaluated-lts.Need-mul-base (
   signed-reads.Learnt,
   is-limited-reads.Asked,
   is-limited-reads.Learnt,
-  get-dogma-attribute-reads.Asked,
-  get-dogma-attribute-reads.Learnt,
   operated-below t,
   operated.Post,
+  get-dogma-attribute-reads.Asked,
+  get-dogma-attribute-reads.Learnt,
   limited-below t,
   limited.Post,
 ) (evaluated-at t) evaluated.Post
@@ -577,10 +579,10 @@ evaluated-shared-slice-read-base : (t : ℕ) → evaluated-lts.Need-shared-slice
   signed-reads.Learnt,
   is-limited-reads.Asked,
   is-limited-reads.Learnt,
-  get-dogma-attribute-reads.Asked,
-  get-dogma-attribute-reads.Learnt,
   operated-below t,
   operated.Post,
+  get-dogma-attribute-reads.Asked,
+  get-dogma-attribute-reads.Learnt,
   limited-below t,
   limited.Post,
 ) (evaluated-at t) evaluated.Post
@@ -591,126 +593,40 @@ evaluated-returns : (t : ℕ) → evaluated-lts.Need-returns (
   signed-reads.Learnt,
   is-limited-reads.Asked,
   is-limited-reads.Learnt,
-  get-dogma-attribute-reads.Asked,
-  get-dogma-attribute-reads.Learnt,
   operated-below t,
   operated.Post,
+  get-dogma-attribute-reads.Asked,
+  get-dogma-attribute-reads.Learnt,
   limited-below t,
   limited.Post,
 ) (evaluated-at t) evaluated.Post
 evaluated-returns t c =
     let id : (c .before .before .before .before .before .signed .result) ≡ toZ w32 (getD (getD (c .before .before .before .before .before .before .before .before .before .before .before .args .rows .now) (c .before .before .before .before .before .before .before .before .before .before .before .args .row) []) 1 0) = c .before .before .before .before .before .signed .ensures .0 in
-    λ h. evaluating.plain-meets h (c .before .before .before .before .before .before .before .before .before .before .before .args .left) (c .before .before .before .if1 .taken) (λ k l. subst (λ (a : ℤ). (getDogmaAttribute k a .«min_attribute_id» ≡ pos 0) × (getDogmaAttribute k a .«max_attribute_id» ≡ pos 0)) (toZ-ofZ (sfits-of (c .before .before .before .before .before .signed .ok)) ∙ id) (c .before .before .is-limited .ensures k l (sym (not-not (c .before .before .is-limited .result)) ∙ ap not (c .before .if2 .taken))))
-
-evaluated-get-dogma-attribute-requires : (t : ℕ) → evaluated-lts.Need-get-dogma-attribute-requires (
-  signed-reads.Asked,
-  signed-reads.Learnt,
-  is-limited-reads.Asked,
-  is-limited-reads.Learnt,
-  get-dogma-attribute-reads.Asked,
-  get-dogma-attribute-reads.Learnt,
-  operated-below t,
-  operated.Post,
-  limited-below t,
-  limited.Post,
-) (evaluated-at t) evaluated.Post
-evaluated-get-dogma-attribute-requires t c κs = search needs
-
-evaluated-mul-object : (t : ℕ) → evaluated-lts.Need-mul-object (
-  signed-reads.Asked,
-  signed-reads.Learnt,
-  is-limited-reads.Asked,
-  is-limited-reads.Learnt,
-  get-dogma-attribute-reads.Asked,
-  get-dogma-attribute-reads.Learnt,
-  operated-below t,
-  operated.Post,
-  limited-below t,
-  limited.Post,
-) (evaluated-at t) evaluated.Post
-evaluated-mul-object t c = scaled-fits _ _ _ (row-inside (c .before .before .before .before .before .before .before .before .before .before .before .before .pre .1 .ready) (c .before .before .before .before .before .before .before .before .before .before .before .before .args .row) (c .before .before .before .before .before .before .before .before .before .before .before .before .pre .1 .within)) (c .before .before .before .before .before .before .before .before .before .before .before .before .good .1 .1 .1 .1 .1 .1 .1 .1 .0 .1)
-
-evaluated-index-1-object : (t : ℕ) → evaluated-lts.Need-index-1-object (
-  signed-reads.Asked,
-  signed-reads.Learnt,
-  is-limited-reads.Asked,
-  is-limited-reads.Learnt,
-  get-dogma-attribute-reads.Asked,
-  get-dogma-attribute-reads.Learnt,
-  operated-below t,
-  operated.Post,
-  limited-below t,
-  limited.Post,
-) (evaluated-at t) evaluated.Post
-evaluated-index-1-object t c = row-inside (c .before .before .before .before .before .before .before .before .before .before .before .before .pre .1 .ready) (c .before .before .before .before .before .before .before .before .before .before .before .before .args .row) (c .before .before .before .before .before .before .before .before .before .before .before .before .pre .1 .within)
-
-evaluated-index-2-object : (t : ℕ) → evaluated-lts.Need-index-2-object (
-  signed-reads.Asked,
-  signed-reads.Learnt,
-  is-limited-reads.Asked,
-  is-limited-reads.Learnt,
-  get-dogma-attribute-reads.Asked,
-  get-dogma-attribute-reads.Learnt,
-  operated-below t,
-  operated.Post,
-  limited-below t,
-  limited.Post,
-) (evaluated-at t) evaluated.Post
-evaluated-index-2-object t c = search needs
+    λ h. evaluating.plain-meets h (c .before .before .before .before .before .before .before .before .before .before .before .args .left) (c .before .before .if1 .taken) (λ k l. subst (λ (a : ℤ). (getDogmaAttribute k a .«min_attribute_id» ≡ pos 0) × (getDogmaAttribute k a .«max_attribute_id» ≡ pos 0)) (toZ-ofZ (sfits-of (c .before .before .before .before .before .signed .ok)) ∙ id) (c .before .before .before .is-limited .ensures k l (sym (not-not (c .before .before .before .is-limited .result)) ∙ ap not (c .before .if2 .taken))))
 
 evaluated-operated-requires : (t : ℕ) → evaluated-lts.Need-operated-requires (
   signed-reads.Asked,
   signed-reads.Learnt,
   is-limited-reads.Asked,
   is-limited-reads.Learnt,
-  get-dogma-attribute-reads.Asked,
-  get-dogma-attribute-reads.Learnt,
   operated-below t,
   operated.Post,
+  get-dogma-attribute-reads.Asked,
+  get-dogma-attribute-reads.Learnt,
   limited-below t,
   limited.Post,
 ) (evaluated-at t) evaluated.Post
-evaluated-operated-requires t c κs =
-    let id : (c .before .before .before .before .before .before .before .before .before .before .signed .result) ≡ toZ w32 (getD (getD (c .before .before .before .before .before .before .before .before .before .before .before .before .before .before .before .before .args .rows .now) (c .before .before .before .before .before .before .before .before .before .before .before .before .before .before .before .before .args .row) []) 1 0) = c .before .before .before .before .before .before .before .before .before .before .signed .ensures .0 in
-    (omega (arith, c .before .before .before .before .before .before .before .before .before .before .before .before .before .before .before .before .pre .0), (c .before .before .before .before .before .before .before .before .before .before .before .before .before .before .before .before .pre .1, ap highIsGood (c .before .before .before .before .before .before .before .get-dogma-attribute .ensures ∙ ap (λ (a : ℤ). getDogmaAttribute (bookOf (c .before .before .before .before .before .before .before .before .before .before .before .before .before .before .before .before .args .book .now) (c .before .before .before .before .before .before .before .before .before .before .before .before .before .before .before .before .args .pairs .now)) a) (toZ-ofZ (sfits-of (c .before .before .before .before .before .before .before .before .before .before .signed .ok)) ∙ id))))
-
-evaluated-enum-known-got : (t : ℕ) → evaluated-lts.Need-enum-known-got (
-  signed-reads.Asked,
-  signed-reads.Learnt,
-  is-limited-reads.Asked,
-  is-limited-reads.Learnt,
-  get-dogma-attribute-reads.Asked,
-  get-dogma-attribute-reads.Learnt,
-  operated-below t,
-  operated.Post,
-  limited-below t,
-  limited.Post,
-) (evaluated-at t) evaluated.Post
-evaluated-enum-known-got t c = search needs
-
-evaluated-enum-told : (t : ℕ) → evaluated-lts.Need-enum-told (
-  signed-reads.Asked,
-  signed-reads.Learnt,
-  is-limited-reads.Asked,
-  is-limited-reads.Learnt,
-  get-dogma-attribute-reads.Asked,
-  get-dogma-attribute-reads.Learnt,
-  operated-below t,
-  operated.Post,
-  limited-below t,
-  limited.Post,
-) (evaluated-at t) evaluated.Post
-evaluated-enum-told t c = search needs
+evaluated-operated-requires t c κs = (omega (arith, c .before .before .before .before .before .before .before .before .before .before .before .before .pre .0), c .before .before .before .before .before .before .before .before .before .before .before .before .pre .1)
 
 evaluated-same-length : (t : ℕ) → evaluated-lts.Need-same-length (
   signed-reads.Asked,
   signed-reads.Learnt,
   is-limited-reads.Asked,
   is-limited-reads.Learnt,
-  get-dogma-attribute-reads.Asked,
-  get-dogma-attribute-reads.Learnt,
   operated-below t,
   operated.Post,
+  get-dogma-attribute-reads.Asked,
+  get-dogma-attribute-reads.Learnt,
   limited-below t,
   limited.Post,
 ) (evaluated-at t) evaluated.Post
@@ -721,10 +637,10 @@ evaluated-same-length-2 : (t : ℕ) → evaluated-lts.Need-same-length-2 (
   signed-reads.Learnt,
   is-limited-reads.Asked,
   is-limited-reads.Learnt,
-  get-dogma-attribute-reads.Asked,
-  get-dogma-attribute-reads.Learnt,
   operated-below t,
   operated.Post,
+  get-dogma-attribute-reads.Asked,
+  get-dogma-attribute-reads.Learnt,
   limited-below t,
   limited.Post,
 ) (evaluated-at t) evaluated.Post
@@ -735,10 +651,10 @@ evaluated-same-length-3 : (t : ℕ) → evaluated-lts.Need-same-length-3 (
   signed-reads.Learnt,
   is-limited-reads.Asked,
   is-limited-reads.Learnt,
-  get-dogma-attribute-reads.Asked,
-  get-dogma-attribute-reads.Learnt,
   operated-below t,
   operated.Post,
+  get-dogma-attribute-reads.Asked,
+  get-dogma-attribute-reads.Learnt,
   limited-below t,
   limited.Post,
 ) (evaluated-at t) evaluated.Post
@@ -749,68 +665,54 @@ evaluated-returns-2 : (t : ℕ) → evaluated-lts.Need-returns-2 (
   signed-reads.Learnt,
   is-limited-reads.Asked,
   is-limited-reads.Learnt,
-  get-dogma-attribute-reads.Asked,
-  get-dogma-attribute-reads.Learnt,
   operated-below t,
   operated.Post,
+  get-dogma-attribute-reads.Asked,
+  get-dogma-attribute-reads.Learnt,
   limited-below t,
   limited.Post,
 ) (evaluated-at t) evaluated.Post
-evaluated-returns-2 t c = λ h. limiting.evaluate-refused _ _ _ _ _ _ _ (c .before .before .before .before .before .before .before .before .before .before .before .before .before .before .before .before .before .before .before .before .before .before .before .args .row) _ _ _ _ (c .enum-told .given .1) (c .before .before .before .before .before .before .operated .ensures h)
+evaluated-returns-2 t c =
+    let id : (c .before .before .before .before .before .before .before .before .before .before .before .before .signed .result) ≡ toZ w32 (getD (getD (c .before .before .before .before .before .before .before .before .before .before .before .before .before .before .before .before .before .before .args .rows .now) (c .before .before .before .before .before .before .before .before .before .before .before .before .before .before .before .before .before .before .args .row) []) 1 0) = c .before .before .before .before .before .before .before .before .before .before .before .before .signed .ensures .0 in
+    λ h. evaluating.free-meets h (c .before .before .before .before .before .before .before .before .before .before .before .before .before .before .before .before .before .before .args .left) (λ k l. subst (λ (a : ℤ). (getDogmaAttribute k a .«min_attribute_id» ≡ pos 0) × (getDogmaAttribute k a .«max_attribute_id» ≡ pos 0)) (toZ-ofZ (sfits-of (c .before .before .before .before .before .before .before .before .before .before .before .before .signed .ok)) ∙ id) (c .before .before .before .before .before .before .before .before .before .before .is-limited .ensures k l (sym (not-not (c .before .before .before .before .before .before .before .before .before .before .is-limited .result)) ∙ ap not (c .if3 .taken)))) _ _ _ _ (c .before .before .before .before .before .operated .ensures h)
 
-evaluated-limited-requires : (t : ℕ) → evaluated-lts.Need-limited-requires (
+evaluated-enum-known-got : (t : ℕ) → evaluated-lts.Need-enum-known-got (
   signed-reads.Asked,
   signed-reads.Learnt,
   is-limited-reads.Asked,
   is-limited-reads.Learnt,
-  get-dogma-attribute-reads.Asked,
-  get-dogma-attribute-reads.Learnt,
   operated-below t,
   operated.Post,
+  get-dogma-attribute-reads.Asked,
+  get-dogma-attribute-reads.Learnt,
   limited-below t,
   limited.Post,
 ) (evaluated-at t) evaluated.Post
-evaluated-limited-requires t c κs =
-    let k = rw (c .before .before .before .before .got .given .1) at (c .before .before .before .before .before .before .before .before .before .before .operated .ensures (c .before .before .before .before .before .before .before .before .before .before .before .before .before .before .before .before .before .before .before .before .before .before .before .before .before .before .before .pre .1)) in
-    (omega (arith, c .before .before .before .before .before .before .before .before .before .before .before .before .before .before .before .before .before .before .before .before .before .before .before .before .before .before .before .pre .0, evaluating.operated-falls (c .before .before .before .before .before .before .before .before .before .before .before .before .before .before .before .before .before .before .before .before .before .before .before .before .before .before .before .pre .1) (c .before .before .before .before .before .before .before .before .before .before .before .before .before .before .before .before .before .before .before .before .before .before .before .before .before .before .before .args .left) (c .before .before .before .before .got .given .0 .0) (c .before .before .before .before .got .given .0 .1 .0) (c .before .before .before .before .before .before .before .before .before .before .operated .last .0) (c .before .before .before .before .before .before .before .before .before .before .operated .last .1 .0) (c .before .before .before .before .before .before .before .before .before .before .operated .last .1 .1 .0) k), (evaluating.operated-on (c .before .before .before .before .before .before .before .before .before .before .before .before .before .before .before .before .before .before .before .before .before .before .before .before .before .before .before .pre .1) (c .before .before .before .before .before .before .before .before .before .before .before .before .before .before .before .before .before .before .before .before .before .before .before .before .before .before .before .args .left) (c .before .before .before .before .got .given .0 .0) (c .before .before .before .before .got .given .0 .1 .0) (c .before .before .before .before .before .before .before .before .before .before .operated .last .0) (c .before .before .before .before .before .before .before .before .before .before .operated .last .1 .0) (c .before .before .before .before .before .before .before .before .before .before .operated .last .1 .1 .0) k, (evaluating.object-few (c .before .before .before .before .before .before .before .before .before .before .before .before .before .before .before .before .before .before .before .before .before .before .before .before .before .before .before .pre .1), evaluating.operated-good (c .before .before .before .before .before .before .before .before .before .before .before .before .before .before .before .before .before .before .before .before .before .before .before .before .before .before .before .pre .1) (c .before .before .before .before .before .before .before .before .before .before .before .before .before .before .before .before .before .before .before .before .before .before .before .before .before .before .before .args .left) (c .before .before .before .before .got .given .0 .0) (c .before .before .before .before .got .given .0 .1 .0) (c .before .before .before .before .before .before .before .before .before .before .operated .last .0) (c .before .before .before .before .before .before .before .before .before .before .operated .last .1 .0) (c .before .before .before .before .before .before .before .before .before .before .operated .last .1 .1 .0) k)))
+evaluated-enum-known-got t c = search needs
 
-evaluated-enum-known-low : (t : ℕ) → evaluated-lts.Need-enum-known-low (
+evaluated-enum-told : (t : ℕ) → evaluated-lts.Need-enum-told (
   signed-reads.Asked,
   signed-reads.Learnt,
   is-limited-reads.Asked,
   is-limited-reads.Learnt,
-  get-dogma-attribute-reads.Asked,
-  get-dogma-attribute-reads.Learnt,
   operated-below t,
   operated.Post,
+  get-dogma-attribute-reads.Asked,
+  get-dogma-attribute-reads.Learnt,
   limited-below t,
   limited.Post,
 ) (evaluated-at t) evaluated.Post
-evaluated-enum-known-low t c = search needs
-
-evaluated-enum-told-2 : (t : ℕ) → evaluated-lts.Need-enum-told-2 (
-  signed-reads.Asked,
-  signed-reads.Learnt,
-  is-limited-reads.Asked,
-  is-limited-reads.Learnt,
-  get-dogma-attribute-reads.Asked,
-  get-dogma-attribute-reads.Learnt,
-  operated-below t,
-  operated.Post,
-  limited-below t,
-  limited.Post,
-) (evaluated-at t) evaluated.Post
-evaluated-enum-told-2 t c = search needs
+evaluated-enum-told t c = search needs
 
 evaluated-same-length-4 : (t : ℕ) → evaluated-lts.Need-same-length-4 (
   signed-reads.Asked,
   signed-reads.Learnt,
   is-limited-reads.Asked,
   is-limited-reads.Learnt,
-  get-dogma-attribute-reads.Asked,
-  get-dogma-attribute-reads.Learnt,
   operated-below t,
   operated.Post,
+  get-dogma-attribute-reads.Asked,
+  get-dogma-attribute-reads.Learnt,
   limited-below t,
   limited.Post,
 ) (evaluated-at t) evaluated.Post
@@ -821,10 +723,10 @@ evaluated-same-length-5 : (t : ℕ) → evaluated-lts.Need-same-length-5 (
   signed-reads.Learnt,
   is-limited-reads.Asked,
   is-limited-reads.Learnt,
-  get-dogma-attribute-reads.Asked,
-  get-dogma-attribute-reads.Learnt,
   operated-below t,
   operated.Post,
+  get-dogma-attribute-reads.Asked,
+  get-dogma-attribute-reads.Learnt,
   limited-below t,
   limited.Post,
 ) (evaluated-at t) evaluated.Post
@@ -835,10 +737,10 @@ evaluated-same-length-6 : (t : ℕ) → evaluated-lts.Need-same-length-6 (
   signed-reads.Learnt,
   is-limited-reads.Asked,
   is-limited-reads.Learnt,
-  get-dogma-attribute-reads.Asked,
-  get-dogma-attribute-reads.Learnt,
   operated-below t,
   operated.Post,
+  get-dogma-attribute-reads.Asked,
+  get-dogma-attribute-reads.Learnt,
   limited-below t,
   limited.Post,
 ) (evaluated-at t) evaluated.Post
@@ -849,99 +751,259 @@ evaluated-returns-3 : (t : ℕ) → evaluated-lts.Need-returns-3 (
   signed-reads.Learnt,
   is-limited-reads.Asked,
   is-limited-reads.Learnt,
-  get-dogma-attribute-reads.Asked,
-  get-dogma-attribute-reads.Learnt,
   operated-below t,
   operated.Post,
+  get-dogma-attribute-reads.Asked,
+  get-dogma-attribute-reads.Learnt,
   limited-below t,
   limited.Post,
 ) (evaluated-at t) evaluated.Post
-evaluated-returns-3 t c =
-    let id : (c .before .before .before .before .before .before .before .before .before .before .before .before .before .before .before .before .before .before .before .before .before .before .before .before .before .before .before .before .signed .result) ≡ toZ w32 (getD (getD (c .before .before .before .before .before .before .before .before .before .before .before .before .before .before .before .before .before .before .before .before .before .before .before .before .before .before .before .before .before .before .before .before .before .before .args .rows .now) (c .before .before .before .before .before .before .before .before .before .before .before .before .before .before .before .before .before .before .before .before .before .before .before .before .before .before .before .before .before .before .before .before .before .before .args .row) []) 1 0) = c .before .before .before .before .before .before .before .before .before .before .before .before .before .before .before .before .before .before .before .before .before .before .before .before .before .before .before .before .signed .ensures .0 in
-    λ h. let k = rw (c .before .before .before .before .before .before .before .before .before .before .before .got .given .1) at (c .before .before .before .before .before .before .before .before .before .before .before .before .before .before .before .before .before .operated .ensures h) in evaluating.low-refused h (c .before .before .before .before .before .before .before .before .before .before .before .before .before .before .before .before .before .before .before .before .before .before .before .before .before .before .before .before .before .before .before .before .before .before .args .left) (c .before .before .before .before .before .before .before .before .before .before .before .got .given .0 .0) (c .before .before .before .before .before .before .before .before .before .before .before .got .given .0 .1 .0) (c .before .before .before .before .before .before .before .before .before .before .before .before .before .before .before .before .before .operated .last .0) (c .before .before .before .before .before .before .before .before .before .before .before .before .before .before .before .before .before .operated .last .1 .0) (c .before .before .before .before .before .before .before .before .before .before .before .before .before .before .before .before .before .operated .last .1 .1 .0) k (getD (getD (c .before .before .before .before .before .before .before .before .before .before .before .before .before .before .before .before .before .before .before .before .before .before .before .before .before .before .before .before .before .before .before .before .before .before .args .rows .now) (c .before .before .before .before .before .before .before .before .before .before .before .before .before .before .before .before .before .before .before .before .before .before .before .before .before .before .before .before .before .before .before .before .before .before .args .row) []) 0 0) (c .before .before .before .before .before .before .before .before .before .before .before .before .before .before .before .before .before .before .before .before .before .before .before .before .before .get-dogma-attribute .result .«min_attribute_id») refl (ap (λ (r : DogmaAttribute). r .«min_attribute_id») (c .before .before .before .before .before .before .before .before .before .before .before .before .before .before .before .before .before .before .before .before .before .before .before .before .before .get-dogma-attribute .ensures ∙ ap (λ (a : ℤ). getDogmaAttribute (bookOf (c .before .before .before .before .before .before .before .before .before .before .before .before .before .before .before .before .before .before .before .before .before .before .before .before .before .before .before .before .before .before .before .before .before .before .args .book .now) (c .before .before .before .before .before .before .before .before .before .before .before .before .before .before .before .before .before .before .before .before .before .before .before .before .before .before .before .before .before .before .before .before .before .before .args .pairs .now)) a) (toZ-ofZ (sfits-of (c .before .before .before .before .before .before .before .before .before .before .before .before .before .before .before .before .before .before .before .before .before .before .before .before .before .before .before .before .signed .ok)) ∙ id))) _ _ (c .enum-told2 .given .1) _ _ _ (rw (toZ-ofZ (sfits-of (c .before .before .before .before .before .before .before .before .before .before .before .before .before .before .before .before .before .before .before .before .before .before .before .struct-told .given .1 .1 .1 .0 .1))) at (c .before .before .before .before .before .before .limited .ensures (evaluating.operated-on h (c .before .before .before .before .before .before .before .before .before .before .before .before .before .before .before .before .before .before .before .before .before .before .before .before .before .before .before .before .before .before .before .before .before .before .args .left) (c .before .before .before .before .before .before .before .before .before .before .before .got .given .0 .0) (c .before .before .before .before .before .before .before .before .before .before .before .got .given .0 .1 .0) (c .before .before .before .before .before .before .before .before .before .before .before .before .before .before .before .before .before .operated .last .0) (c .before .before .before .before .before .before .before .before .before .before .before .before .before .before .before .before .before .operated .last .1 .0) (c .before .before .before .before .before .before .before .before .before .before .before .before .before .before .before .before .before .operated .last .1 .1 .0) k)))
+evaluated-returns-3 t c = λ h. limiting.evaluate-refused _ _ _ _ _ _ _ (c .before .before .before .before .before .before .before .before .before .before .before .before .before .before .before .before .before .before .before .before .args .row) _ _ _ _ (c .enum-told .given .1) (c .before .before .before .before .before .before .before .operated .ensures h)
 
-evaluated-limited-requires-2 : (t : ℕ) → evaluated-lts.Need-limited-requires-2 (
+evaluated-get-dogma-attribute-requires : (t : ℕ) → evaluated-lts.Need-get-dogma-attribute-requires (
   signed-reads.Asked,
   signed-reads.Learnt,
   is-limited-reads.Asked,
   is-limited-reads.Learnt,
-  get-dogma-attribute-reads.Asked,
-  get-dogma-attribute-reads.Learnt,
   operated-below t,
   operated.Post,
+  get-dogma-attribute-reads.Asked,
+  get-dogma-attribute-reads.Learnt,
   limited-below t,
   limited.Post,
 ) (evaluated-at t) evaluated.Post
-evaluated-limited-requires-2 t c κs =
-    let id : (c .before .before .before .before .before .before .before .before .before .before .before .before .before .before .before .before .before .before .before .before .before .before .before .before .before .before .before .before .before .before .before .before .signed .result) ≡ toZ w32 (getD (getD (c .before .before .before .before .before .before .before .before .before .before .before .before .before .before .before .before .before .before .before .before .before .before .before .before .before .before .before .before .before .before .before .before .before .before .before .before .before .before .args .rows .now) (c .before .before .before .before .before .before .before .before .before .before .before .before .before .before .before .before .before .before .before .before .before .before .before .before .before .before .before .before .before .before .before .before .before .before .before .before .before .before .args .row) []) 1 0) = c .before .before .before .before .before .before .before .before .before .before .before .before .before .before .before .before .before .before .before .before .before .before .before .before .before .before .before .before .before .before .before .before .signed .ensures .0 in
-    let k = rw (c .before .before .before .before .before .before .before .before .before .before .before .before .before .before .before .got .given .1) at (c .before .before .before .before .before .before .before .before .before .before .before .before .before .before .before .before .before .before .before .before .before .operated .ensures (c .before .before .before .before .before .before .before .before .before .before .before .before .before .before .before .before .before .before .before .before .before .before .before .before .before .before .before .before .before .before .before .before .before .before .before .before .before .before .pre .1)) in let l = rw (toZ-ofZ (sfits-of (c .before .before .before .before .before .before .before .before .before .before .before .before .before .before .before .before .before .before .before .before .before .before .before .before .before .before .before .struct-told .given .1 .1 .1 .0 .1)), c .before .before .before .before .low .given .1) at (c .before .before .before .before .before .before .before .before .before .before .limited .ensures (evaluating.operated-on (c .before .before .before .before .before .before .before .before .before .before .before .before .before .before .before .before .before .before .before .before .before .before .before .before .before .before .before .before .before .before .before .before .before .before .before .before .before .before .pre .1) (c .before .before .before .before .before .before .before .before .before .before .before .before .before .before .before .before .before .before .before .before .before .before .before .before .before .before .before .before .before .before .before .before .before .before .before .before .before .before .args .left) (c .before .before .before .before .before .before .before .before .before .before .before .before .before .before .before .got .given .0 .0) (c .before .before .before .before .before .before .before .before .before .before .before .before .before .before .before .got .given .0 .1 .0) (c .before .before .before .before .before .before .before .before .before .before .before .before .before .before .before .before .before .before .before .before .before .operated .last .0) (c .before .before .before .before .before .before .before .before .before .before .before .before .before .before .before .before .before .before .before .before .before .operated .last .1 .0) (c .before .before .before .before .before .before .before .before .before .before .before .before .before .before .before .before .before .before .before .before .before .operated .last .1 .1 .0) k)) in
-    (omega (arith, c .before .before .before .before .before .before .before .before .before .before .before .before .before .before .before .before .before .before .before .before .before .before .before .before .before .before .before .before .before .before .before .before .before .before .before .before .before .before .pre .0, evaluating.operated-falls (c .before .before .before .before .before .before .before .before .before .before .before .before .before .before .before .before .before .before .before .before .before .before .before .before .before .before .before .before .before .before .before .before .before .before .before .before .before .before .pre .1) (c .before .before .before .before .before .before .before .before .before .before .before .before .before .before .before .before .before .before .before .before .before .before .before .before .before .before .before .before .before .before .before .before .before .before .before .before .before .before .args .left) (c .before .before .before .before .before .before .before .before .before .before .before .before .before .before .before .got .given .0 .0) (c .before .before .before .before .before .before .before .before .before .before .before .before .before .before .before .got .given .0 .1 .0) (c .before .before .before .before .before .before .before .before .before .before .before .before .before .before .before .before .before .before .before .before .before .operated .last .0) (c .before .before .before .before .before .before .before .before .before .before .before .before .before .before .before .before .before .before .before .before .before .operated .last .1 .0) (c .before .before .before .before .before .before .before .before .before .before .before .before .before .before .before .before .before .before .before .before .before .operated .last .1 .1 .0) k, evaluating.raised-falls (c .before .before .before .before .before .before .before .before .before .before .before .before .before .before .before .before .before .before .before .before .before .before .before .before .before .before .before .before .before .before .before .before .before .before .before .before .before .before .pre .1) (c .before .before .before .before .before .before .before .before .before .before .before .before .before .before .before .before .before .before .before .before .before .before .before .before .before .before .before .before .before .before .before .before .before .before .before .before .before .before .args .left) (c .before .before .before .before .before .before .before .before .before .before .before .before .before .before .before .got .given .0 .0) (c .before .before .before .before .before .before .before .before .before .before .before .before .before .before .before .got .given .0 .1 .0) (c .before .before .before .before .before .before .before .before .before .before .before .before .before .before .before .before .before .before .before .before .before .operated .last .0) (c .before .before .before .before .before .before .before .before .before .before .before .before .before .before .before .before .before .before .before .before .before .operated .last .1 .0) (c .before .before .before .before .before .before .before .before .before .before .before .before .before .before .before .before .before .before .before .before .before .operated .last .1 .1 .0) k (getD (getD (c .before .before .before .before .before .before .before .before .before .before .before .before .before .before .before .before .before .before .before .before .before .before .before .before .before .before .before .before .before .before .before .before .before .before .before .before .before .before .args .rows .now) (c .before .before .before .before .before .before .before .before .before .before .before .before .before .before .before .before .before .before .before .before .before .before .before .before .before .before .before .before .before .before .before .before .before .before .before .before .before .before .args .row) []) 0 0) (c .before .before .before .before .before .before .before .before .before .before .before .before .before .before .before .before .before .before .before .before .before .before .before .before .before .before .before .before .before .get-dogma-attribute .result .«min_attribute_id») refl (ap (λ (r : DogmaAttribute). r .«min_attribute_id») (c .before .before .before .before .before .before .before .before .before .before .before .before .before .before .before .before .before .before .before .before .before .before .before .before .before .before .before .before .before .get-dogma-attribute .ensures ∙ ap (λ (a : ℤ). getDogmaAttribute (bookOf (c .before .before .before .before .before .before .before .before .before .before .before .before .before .before .before .before .before .before .before .before .before .before .before .before .before .before .before .before .before .before .before .before .before .before .before .before .before .before .args .book .now) (c .before .before .before .before .before .before .before .before .before .before .before .before .before .before .before .before .before .before .before .before .before .before .before .before .before .before .before .before .before .before .before .before .before .before .before .before .before .before .args .pairs .now)) a) (toZ-ofZ (sfits-of (c .before .before .before .before .before .before .before .before .before .before .before .before .before .before .before .before .before .before .before .before .before .before .before .before .before .before .before .before .before .before .before .before .signed .ok)) ∙ id))) (c .before .before .before .before .before .before .before .before .before .before .before .before .before .before .before .before .before .before .before .before .before .before .before .before .before .before .before .before .before .get-dogma-attribute .result .«max_attribute_id») (ap (λ (r : DogmaAttribute). r .«max_attribute_id») (c .before .before .before .before .before .before .before .before .before .before .before .before .before .before .before .before .before .before .before .before .before .before .before .before .before .before .before .before .before .get-dogma-attribute .ensures ∙ ap (λ (a : ℤ). getDogmaAttribute (bookOf (c .before .before .before .before .before .before .before .before .before .before .before .before .before .before .before .before .before .before .before .before .before .before .before .before .before .before .before .before .before .before .before .before .before .before .before .before .before .before .args .book .now) (c .before .before .before .before .before .before .before .before .before .before .before .before .before .before .before .before .before .before .before .before .before .before .before .before .before .before .before .before .before .before .before .before .before .before .before .before .before .before .args .pairs .now)) a) (toZ-ofZ (sfits-of (c .before .before .before .before .before .before .before .before .before .before .before .before .before .before .before .before .before .before .before .before .before .before .before .before .before .before .before .before .before .before .before .before .signed .ok)) ∙ id))) (c .before .before .before .before .low .given .0 .0) (c .before .before .before .before .low .given .0 .1 .0) (c .before .before .before .before .before .before .before .before .before .before .limited .last .0) (c .before .before .before .before .before .before .before .before .before .before .limited .last .1 .0) (c .before .before .before .before .before .before .before .before .before .before .limited .last .1 .1 .0) l), (evaluating.raised-on (c .before .before .before .before .before .before .before .before .before .before .before .before .before .before .before .before .before .before .before .before .before .before .before .before .before .before .before .before .before .before .before .before .before .before .before .before .before .before .pre .1) (c .before .before .before .before .before .before .before .before .before .before .before .before .before .before .before .before .before .before .before .before .before .before .before .before .before .before .before .before .before .before .before .before .before .before .before .before .before .before .args .left) (c .before .before .before .before .before .before .before .before .before .before .before .before .before .before .before .got .given .0 .0) (c .before .before .before .before .before .before .before .before .before .before .before .before .before .before .before .got .given .0 .1 .0) (c .before .before .before .before .before .before .before .before .before .before .before .before .before .before .before .before .before .before .before .before .before .operated .last .0) (c .before .before .before .before .before .before .before .before .before .before .before .before .before .before .before .before .before .before .before .before .before .operated .last .1 .0) (c .before .before .before .before .before .before .before .before .before .before .before .before .before .before .before .before .before .before .before .before .before .operated .last .1 .1 .0) k (getD (getD (c .before .before .before .before .before .before .before .before .before .before .before .before .before .before .before .before .before .before .before .before .before .before .before .before .before .before .before .before .before .before .before .before .before .before .before .before .before .before .args .rows .now) (c .before .before .before .before .before .before .before .before .before .before .before .before .before .before .before .before .before .before .before .before .before .before .before .before .before .before .before .before .before .before .before .before .before .before .before .before .before .before .args .row) []) 0 0) (c .before .before .before .before .before .before .before .before .before .before .before .before .before .before .before .before .before .before .before .before .before .before .before .before .before .before .before .before .before .get-dogma-attribute .result .«min_attribute_id») refl (ap (λ (r : DogmaAttribute). r .«min_attribute_id») (c .before .before .before .before .before .before .before .before .before .before .before .before .before .before .before .before .before .before .before .before .before .before .before .before .before .before .before .before .before .get-dogma-attribute .ensures ∙ ap (λ (a : ℤ). getDogmaAttribute (bookOf (c .before .before .before .before .before .before .before .before .before .before .before .before .before .before .before .before .before .before .before .before .before .before .before .before .before .before .before .before .before .before .before .before .before .before .before .before .before .before .args .book .now) (c .before .before .before .before .before .before .before .before .before .before .before .before .before .before .before .before .before .before .before .before .before .before .before .before .before .before .before .before .before .before .before .before .before .before .before .before .before .before .args .pairs .now)) a) (toZ-ofZ (sfits-of (c .before .before .before .before .before .before .before .before .before .before .before .before .before .before .before .before .before .before .before .before .before .before .before .before .before .before .before .before .before .before .before .before .signed .ok)) ∙ id))) (c .before .before .before .before .before .before .before .before .before .before .before .before .before .before .before .before .before .before .before .before .before .before .before .before .before .before .before .before .before .get-dogma-attribute .result .«max_attribute_id») (ap (λ (r : DogmaAttribute). r .«max_attribute_id») (c .before .before .before .before .before .before .before .before .before .before .before .before .before .before .before .before .before .before .before .before .before .before .before .before .before .before .before .before .before .get-dogma-attribute .ensures ∙ ap (λ (a : ℤ). getDogmaAttribute (bookOf (c .before .before .before .before .before .before .before .before .before .before .before .before .before .before .before .before .before .before .before .before .before .before .before .before .before .before .before .before .before .before .before .before .before .before .before .before .before .before .args .book .now) (c .before .before .before .before .before .before .before .before .before .before .before .before .before .before .before .before .before .before .before .before .before .before .before .before .before .before .before .before .before .before .before .before .before .before .before .before .before .before .args .pairs .now)) a) (toZ-ofZ (sfits-of (c .before .before .before .before .before .before .before .before .before .before .before .before .before .before .before .before .before .before .before .before .before .before .before .before .before .before .before .before .before .before .before .before .signed .ok)) ∙ id))) (c .before .before .before .before .low .given .0 .0) (c .before .before .before .before .low .given .0 .1 .0) (c .before .before .before .before .before .before .before .before .before .before .limited .last .0) (c .before .before .before .before .before .before .before .before .before .before .limited .last .1 .0) (c .before .before .before .before .before .before .before .before .before .before .limited .last .1 .1 .0) l, (evaluating.object-few (c .before .before .before .before .before .before .before .before .before .before .before .before .before .before .before .before .before .before .before .before .before .before .before .before .before .before .before .before .before .before .before .before .before .before .before .before .before .before .pre .1), evaluating.raised-good (c .before .before .before .before .before .before .before .before .before .before .before .before .before .before .before .before .before .before .before .before .before .before .before .before .before .before .before .before .before .before .before .before .before .before .before .before .before .before .pre .1) (c .before .before .before .before .before .before .before .before .before .before .before .before .before .before .before .before .before .before .before .before .before .before .before .before .before .before .before .before .before .before .before .before .before .before .before .before .before .before .args .left) (c .before .before .before .before .before .before .before .before .before .before .before .before .before .before .before .got .given .0 .0) (c .before .before .before .before .before .before .before .before .before .before .before .before .before .before .before .got .given .0 .1 .0) (c .before .before .before .before .before .before .before .before .before .before .before .before .before .before .before .before .before .before .before .before .before .operated .last .0) (c .before .before .before .before .before .before .before .before .before .before .before .before .before .before .before .before .before .before .before .before .before .operated .last .1 .0) (c .before .before .before .before .before .before .before .before .before .before .before .before .before .before .before .before .before .before .before .before .before .operated .last .1 .1 .0) k (getD (getD (c .before .before .before .before .before .before .before .before .before .before .before .before .before .before .before .before .before .before .before .before .before .before .before .before .before .before .before .before .before .before .before .before .before .before .before .before .before .before .args .rows .now) (c .before .before .before .before .before .before .before .before .before .before .before .before .before .before .before .before .before .before .before .before .before .before .before .before .before .before .before .before .before .before .before .before .before .before .before .before .before .before .args .row) []) 0 0) (c .before .before .before .before .before .before .before .before .before .before .before .before .before .before .before .before .before .before .before .before .before .before .before .before .before .before .before .before .before .get-dogma-attribute .result .«min_attribute_id») refl (ap (λ (r : DogmaAttribute). r .«min_attribute_id») (c .before .before .before .before .before .before .before .before .before .before .before .before .before .before .before .before .before .before .before .before .before .before .before .before .before .before .before .before .before .get-dogma-attribute .ensures ∙ ap (λ (a : ℤ). getDogmaAttribute (bookOf (c .before .before .before .before .before .before .before .before .before .before .before .before .before .before .before .before .before .before .before .before .before .before .before .before .before .before .before .before .before .before .before .before .before .before .before .before .before .before .args .book .now) (c .before .before .before .before .before .before .before .before .before .before .before .before .before .before .before .before .before .before .before .before .before .before .before .before .before .before .before .before .before .before .before .before .before .before .before .before .before .before .args .pairs .now)) a) (toZ-ofZ (sfits-of (c .before .before .before .before .before .before .before .before .before .before .before .before .before .before .before .before .before .before .before .before .before .before .before .before .before .before .before .before .before .before .before .before .signed .ok)) ∙ id))) (c .before .before .before .before .before .before .before .before .before .before .before .before .before .before .before .before .before .before .before .before .before .before .before .before .before .before .before .before .before .get-dogma-attribute .result .«max_attribute_id») (ap (λ (r : DogmaAttribute). r .«max_attribute_id») (c .before .before .before .before .before .before .before .before .before .before .before .before .before .before .before .before .before .before .before .before .before .before .before .before .before .before .before .before .before .get-dogma-attribute .ensures ∙ ap (λ (a : ℤ). getDogmaAttribute (bookOf (c .before .before .before .before .before .before .before .before .before .before .before .before .before .before .before .before .before .before .before .before .before .before .before .before .before .before .before .before .before .before .before .before .before .before .before .before .before .before .args .book .now) (c .before .before .before .before .before .before .before .before .before .before .before .before .before .before .before .before .before .before .before .before .before .before .before .before .before .before .before .before .before .before .before .before .before .before .before .before .before .before .args .pairs .now)) a) (toZ-ofZ (sfits-of (c .before .before .before .before .before .before .before .before .before .before .before .before .before .before .before .before .before .before .before .before .before .before .before .before .before .before .before .before .before .before .before .before .signed .ok)) ∙ id))) (c .before .before .before .before .low .given .0 .0) (c .before .before .before .before .low .given .0 .1 .0) (c .before .before .before .before .before .before .before .before .before .before .limited .last .0) (c .before .before .before .before .before .before .before .before .before .before .limited .last .1 .0) (c .before .before .before .before .before .before .before .before .before .before .limited .last .1 .1 .0) l)))
+evaluated-get-dogma-attribute-requires t c κs = c .before .before .before .before .before .before .before .before .before .before .before .before .before .before .before .before .before .before .before .before .before .pre .1 .ready .told .sound
+
+evaluated-mul-object : (t : ℕ) → evaluated-lts.Need-mul-object (
+  signed-reads.Asked,
+  signed-reads.Learnt,
+  is-limited-reads.Asked,
+  is-limited-reads.Learnt,
+  operated-below t,
+  operated.Post,
+  get-dogma-attribute-reads.Asked,
+  get-dogma-attribute-reads.Learnt,
+  limited-below t,
+  limited.Post,
+) (evaluated-at t) evaluated.Post
+evaluated-mul-object t c = scaled-fits _ _ _ (row-inside (c .before .before .before .before .before .before .before .before .before .before .before .before .before .before .before .before .before .before .before .before .before .before .before .before .pre .1 .ready) (c .before .before .before .before .before .before .before .before .before .before .before .before .before .before .before .before .before .before .before .before .before .before .before .before .args .row) (c .before .before .before .before .before .before .before .before .before .before .before .before .before .before .before .before .before .before .before .before .before .before .before .before .pre .1 .within)) (c .before .before .before .before .before .before .before .before .before .before .before .before .before .before .before .before .before .before .before .before .before .before .before .before .good .1 .1 .1 .1 .1 .1 .1 .1 .0 .1)
+
+evaluated-index-1-object : (t : ℕ) → evaluated-lts.Need-index-1-object (
+  signed-reads.Asked,
+  signed-reads.Learnt,
+  is-limited-reads.Asked,
+  is-limited-reads.Learnt,
+  operated-below t,
+  operated.Post,
+  get-dogma-attribute-reads.Asked,
+  get-dogma-attribute-reads.Learnt,
+  limited-below t,
+  limited.Post,
+) (evaluated-at t) evaluated.Post
+evaluated-index-1-object t c = row-inside (c .before .before .before .before .before .before .before .before .before .before .before .before .before .before .before .before .before .before .before .before .before .before .before .before .pre .1 .ready) (c .before .before .before .before .before .before .before .before .before .before .before .before .before .before .before .before .before .before .before .before .before .before .before .before .args .row) (c .before .before .before .before .before .before .before .before .before .before .before .before .before .before .before .before .before .before .before .before .before .before .before .before .pre .1 .within)
+
+evaluated-index-2-object : (t : ℕ) → evaluated-lts.Need-index-2-object (
+  signed-reads.Asked,
+  signed-reads.Learnt,
+  is-limited-reads.Asked,
+  is-limited-reads.Learnt,
+  operated-below t,
+  operated.Post,
+  get-dogma-attribute-reads.Asked,
+  get-dogma-attribute-reads.Learnt,
+  limited-below t,
+  limited.Post,
+) (evaluated-at t) evaluated.Post
+evaluated-index-2-object t c = search needs
+
+evaluated-limited-requires : (t : ℕ) → evaluated-lts.Need-limited-requires (
+  signed-reads.Asked,
+  signed-reads.Learnt,
+  is-limited-reads.Asked,
+  is-limited-reads.Learnt,
+  operated-below t,
+  operated.Post,
+  get-dogma-attribute-reads.Asked,
+  get-dogma-attribute-reads.Learnt,
+  limited-below t,
+  limited.Post,
+) (evaluated-at t) evaluated.Post
+evaluated-limited-requires t c κs =
+    let k = rw (c .before .before .before .before .before .before .before .before .got .given .1) at (c .before .before .before .before .before .before .before .before .before .before .before .before .before .before .before .operated .ensures (c .before .before .before .before .before .before .before .before .before .before .before .before .before .before .before .before .before .before .before .before .before .before .before .before .before .before .before .before .pre .1)) in
+    (omega (arith, c .before .before .before .before .before .before .before .before .before .before .before .before .before .before .before .before .before .before .before .before .before .before .before .before .before .before .before .before .pre .0, evaluating.operated-falls (c .before .before .before .before .before .before .before .before .before .before .before .before .before .before .before .before .before .before .before .before .before .before .before .before .before .before .before .before .pre .1) (c .before .before .before .before .before .before .before .before .before .before .before .before .before .before .before .before .before .before .before .before .before .before .before .before .before .before .before .before .args .left) (c .before .before .before .before .before .before .before .before .got .given .0 .0) (c .before .before .before .before .before .before .before .before .got .given .0 .1 .0) (c .before .before .before .before .before .before .before .before .before .before .before .before .before .before .before .operated .last .0) (c .before .before .before .before .before .before .before .before .before .before .before .before .before .before .before .operated .last .1 .0) (c .before .before .before .before .before .before .before .before .before .before .before .before .before .before .before .operated .last .1 .1 .0) k), (evaluating.operated-on (c .before .before .before .before .before .before .before .before .before .before .before .before .before .before .before .before .before .before .before .before .before .before .before .before .before .before .before .before .pre .1) (c .before .before .before .before .before .before .before .before .before .before .before .before .before .before .before .before .before .before .before .before .before .before .before .before .before .before .before .before .args .left) (c .before .before .before .before .before .before .before .before .got .given .0 .0) (c .before .before .before .before .before .before .before .before .got .given .0 .1 .0) (c .before .before .before .before .before .before .before .before .before .before .before .before .before .before .before .operated .last .0) (c .before .before .before .before .before .before .before .before .before .before .before .before .before .before .before .operated .last .1 .0) (c .before .before .before .before .before .before .before .before .before .before .before .before .before .before .before .operated .last .1 .1 .0) k, (evaluating.object-few (c .before .before .before .before .before .before .before .before .before .before .before .before .before .before .before .before .before .before .before .before .before .before .before .before .before .before .before .before .pre .1), evaluating.operated-good (c .before .before .before .before .before .before .before .before .before .before .before .before .before .before .before .before .before .before .before .before .before .before .before .before .before .before .before .before .pre .1) (c .before .before .before .before .before .before .before .before .before .before .before .before .before .before .before .before .before .before .before .before .before .before .before .before .before .before .before .before .args .left) (c .before .before .before .before .before .before .before .before .got .given .0 .0) (c .before .before .before .before .before .before .before .before .got .given .0 .1 .0) (c .before .before .before .before .before .before .before .before .before .before .before .before .before .before .before .operated .last .0) (c .before .before .before .before .before .before .before .before .before .before .before .before .before .before .before .operated .last .1 .0) (c .before .before .before .before .before .before .before .before .before .before .before .before .before .before .before .operated .last .1 .1 .0) k)))
+
+evaluated-enum-known-low : (t : ℕ) → evaluated-lts.Need-enum-known-low (
+  signed-reads.Asked,
+  signed-reads.Learnt,
+  is-limited-reads.Asked,
+  is-limited-reads.Learnt,
+  operated-below t,
+  operated.Post,
+  get-dogma-attribute-reads.Asked,
+  get-dogma-attribute-reads.Learnt,
+  limited-below t,
+  limited.Post,
+) (evaluated-at t) evaluated.Post
+evaluated-enum-known-low t c = search needs
+
+evaluated-enum-told-2 : (t : ℕ) → evaluated-lts.Need-enum-told-2 (
+  signed-reads.Asked,
+  signed-reads.Learnt,
+  is-limited-reads.Asked,
+  is-limited-reads.Learnt,
+  operated-below t,
+  operated.Post,
+  get-dogma-attribute-reads.Asked,
+  get-dogma-attribute-reads.Learnt,
+  limited-below t,
+  limited.Post,
+) (evaluated-at t) evaluated.Post
+evaluated-enum-told-2 t c = search needs
 
 evaluated-same-length-7 : (t : ℕ) → evaluated-lts.Need-same-length-7 (
   signed-reads.Asked,
   signed-reads.Learnt,
   is-limited-reads.Asked,
   is-limited-reads.Learnt,
-  get-dogma-attribute-reads.Asked,
-  get-dogma-attribute-reads.Learnt,
   operated-below t,
   operated.Post,
+  get-dogma-attribute-reads.Asked,
+  get-dogma-attribute-reads.Learnt,
   limited-below t,
   limited.Post,
 ) (evaluated-at t) evaluated.Post
-evaluated-same-length-7 t c = c .before .before .before .before .limited2 .kept .0 ∙ c .before .before .before .before .before .before .before .before .before .before .before .before .before .before .before .limited .kept .0 ∙ c .before .before .before .before .before .before .before .before .before .before .before .before .before .before .before .before .before .before .before .before .before .before .before .before .before .before .operated .kept .0
+evaluated-same-length-7 t c = c .before .before .before .before .before .before .limited .kept .0 ∙ c .before .before .before .before .before .before .before .before .before .before .before .before .before .before .before .before .before .before .before .before .before .before .operated .kept .0
 
 evaluated-same-length-8 : (t : ℕ) → evaluated-lts.Need-same-length-8 (
   signed-reads.Asked,
   signed-reads.Learnt,
   is-limited-reads.Asked,
   is-limited-reads.Learnt,
-  get-dogma-attribute-reads.Asked,
-  get-dogma-attribute-reads.Learnt,
   operated-below t,
   operated.Post,
+  get-dogma-attribute-reads.Asked,
+  get-dogma-attribute-reads.Learnt,
   limited-below t,
   limited.Post,
 ) (evaluated-at t) evaluated.Post
-evaluated-same-length-8 t c = c .before .before .before .before .limited2 .kept .1 .0 ∙ c .before .before .before .before .before .before .before .before .before .before .before .before .before .before .before .limited .kept .1 .0 ∙ c .before .before .before .before .before .before .before .before .before .before .before .before .before .before .before .before .before .before .before .before .before .before .before .before .before .before .operated .kept .1 .0
+evaluated-same-length-8 t c = c .before .before .before .before .before .before .limited .kept .1 .0 ∙ c .before .before .before .before .before .before .before .before .before .before .before .before .before .before .before .before .before .before .before .before .before .before .operated .kept .1 .0
 
 evaluated-same-length-9 : (t : ℕ) → evaluated-lts.Need-same-length-9 (
   signed-reads.Asked,
   signed-reads.Learnt,
   is-limited-reads.Asked,
   is-limited-reads.Learnt,
-  get-dogma-attribute-reads.Asked,
-  get-dogma-attribute-reads.Learnt,
   operated-below t,
   operated.Post,
+  get-dogma-attribute-reads.Asked,
+  get-dogma-attribute-reads.Learnt,
   limited-below t,
   limited.Post,
 ) (evaluated-at t) evaluated.Post
-evaluated-same-length-9 t c = search needs
+evaluated-same-length-9 t c = c .before .before .before .before .before .before .limited .kept .1 .1 .0 ∙ c .before .before .before .before .before .before .before .before .before .before .before .before .before .before .before .before .before .before .before .before .before .before .operated .kept .1 .1 .0
 
 evaluated-returns-4 : (t : ℕ) → evaluated-lts.Need-returns-4 (
   signed-reads.Asked,
   signed-reads.Learnt,
   is-limited-reads.Asked,
   is-limited-reads.Learnt,
-  get-dogma-attribute-reads.Asked,
-  get-dogma-attribute-reads.Learnt,
   operated-below t,
   operated.Post,
+  get-dogma-attribute-reads.Asked,
+  get-dogma-attribute-reads.Learnt,
   limited-below t,
   limited.Post,
 ) (evaluated-at t) evaluated.Post
 evaluated-returns-4 t c =
-    let id : (c .before .before .before .before .before .before .before .before .before .before .before .before .before .before .before .before .before .before .before .before .before .before .before .before .before .before .before .before .before .before .before .before .before .before .before .before .before .signed .result) ≡ toZ w32 (getD (getD (c .before .before .before .before .before .before .before .before .before .before .before .before .before .before .before .before .before .before .before .before .before .before .before .before .before .before .before .before .before .before .before .before .before .before .before .before .before .before .before .before .before .before .before .args .rows .now) (c .before .before .before .before .before .before .before .before .before .before .before .before .before .before .before .before .before .before .before .before .before .before .before .before .before .before .before .before .before .before .before .before .before .before .before .before .before .before .before .before .before .before .before .args .row) []) 1 0) = c .before .before .before .before .before .before .before .before .before .before .before .before .before .before .before .before .before .before .before .before .before .before .before .before .before .before .before .before .before .before .before .before .before .before .before .before .before .signed .ensures .0 in
-    λ h. let k = rw (c .before .before .before .before .before .before .before .before .before .before .before .before .before .before .before .before .before .before .before .before .got .given .1) at (c .before .before .before .before .before .before .before .before .before .before .before .before .before .before .before .before .before .before .before .before .before .before .before .before .before .before .operated .ensures h) in let l = rw (toZ-ofZ (sfits-of (c .before .before .before .before .before .before .before .before .before .before .before .before .before .before .before .before .before .before .before .before .before .before .before .before .before .before .before .before .before .before .before .before .struct-told .given .1 .1 .1 .0 .1)), c .before .before .before .before .before .before .before .before .before .low .given .1) at (c .before .before .before .before .before .before .before .before .before .before .before .before .before .before .before .limited .ensures (evaluating.operated-on h (c .before .before .before .before .before .before .before .before .before .before .before .before .before .before .before .before .before .before .before .before .before .before .before .before .before .before .before .before .before .before .before .before .before .before .before .before .before .before .before .before .before .before .before .args .left) (c .before .before .before .before .before .before .before .before .before .before .before .before .before .before .before .before .before .before .before .before .got .given .0 .0) (c .before .before .before .before .before .before .before .before .before .before .before .before .before .before .before .before .before .before .before .before .got .given .0 .1 .0) (c .before .before .before .before .before .before .before .before .before .before .before .before .before .before .before .before .before .before .before .before .before .before .before .before .before .before .operated .last .0) (c .before .before .before .before .before .before .before .before .before .before .before .before .before .before .before .before .before .before .before .before .before .before .before .before .before .before .operated .last .1 .0) (c .before .before .before .before .before .before .before .before .before .before .before .before .before .before .before .before .before .before .before .before .before .before .before .before .before .before .operated .last .1 .1 .0) k)) in evaluating.evaluated-meets h (c .before .before .before .before .before .before .before .before .before .before .before .before .before .before .before .before .before .before .before .before .before .before .before .before .before .before .before .before .before .before .before .before .before .before .before .before .before .before .before .before .before .before .before .args .left) (c .before .before .before .before .before .before .before .before .before .before .before .before .before .before .before .before .before .before .before .before .got .given .0 .0) (c .before .before .before .before .before .before .before .before .before .before .before .before .before .before .before .before .before .before .before .before .got .given .0 .1 .0) (c .before .before .before .before .before .before .before .before .before .before .before .before .before .before .before .before .before .before .before .before .before .before .before .before .before .before .operated .last .0) (c .before .before .before .before .before .before .before .before .before .before .before .before .before .before .before .before .before .before .before .before .before .before .before .before .before .before .operated .last .1 .0) (c .before .before .before .before .before .before .before .before .before .before .before .before .before .before .before .before .before .before .before .before .before .before .before .before .before .before .operated .last .1 .1 .0) k (getD (getD (c .before .before .before .before .before .before .before .before .before .before .before .before .before .before .before .before .before .before .before .before .before .before .before .before .before .before .before .before .before .before .before .before .before .before .before .before .before .before .before .before .before .before .before .args .rows .now) (c .before .before .before .before .before .before .before .before .before .before .before .before .before .before .before .before .before .before .before .before .before .before .before .before .before .before .before .before .before .before .before .before .before .before .before .before .before .before .before .before .before .before .before .args .row) []) 0 0) (c .before .before .before .before .before .before .before .before .before .before .before .before .before .before .before .before .before .before .before .before .before .before .before .before .before .before .before .before .before .before .before .before .before .before .get-dogma-attribute .result .«min_attribute_id») refl (ap (λ (r : DogmaAttribute). r .«min_attribute_id») (c .before .before .before .before .before .before .before .before .before .before .before .before .before .before .before .before .before .before .before .before .before .before .before .before .before .before .before .before .before .before .before .before .before .before .get-dogma-attribute .ensures ∙ ap (λ (a : ℤ). getDogmaAttribute (bookOf (c .before .before .before .before .before .before .before .before .before .before .before .before .before .before .before .before .before .before .before .before .before .before .before .before .before .before .before .before .before .before .before .before .before .before .before .before .before .before .before .before .before .before .before .args .book .now) (c .before .before .before .before .before .before .before .before .before .before .before .before .before .before .before .before .before .before .before .before .before .before .before .before .before .before .before .before .before .before .before .before .before .before .before .before .before .before .before .before .before .before .before .args .pairs .now)) a) (toZ-ofZ (sfits-of (c .before .before .before .before .before .before .before .before .before .before .before .before .before .before .before .before .before .before .before .before .before .before .before .before .before .before .before .before .before .before .before .before .before .before .before .before .before .signed .ok)) ∙ id))) (toZ w32 (ofZ w32 (c .before .before .before .before .before .before .before .before .before .before .before .before .before .before .before .before .before .before .before .before .before .before .before .before .before .before .before .before .before .before .before .before .before .before .get-dogma-attribute .result .«max_attribute_id»))) (toZ-ofZ (sfits-of (c .before .before .before .before .before .before .before .before .before .before .before .before .before .before .before .before .before .before .before .before .before .before .before .before .before .before .before .before .before .before .before .struct-told2 .given .1 .1 .1 .1 .0 .1)) ∙ ap (λ (r : DogmaAttribute). r .«max_attribute_id») (c .before .before .before .before .before .before .before .before .before .before .before .before .before .before .before .before .before .before .before .before .before .before .before .before .before .before .before .before .before .before .before .before .before .before .get-dogma-attribute .ensures ∙ ap (λ (a : ℤ). getDogmaAttribute (bookOf (c .before .before .before .before .before .before .before .before .before .before .before .before .before .before .before .before .before .before .before .before .before .before .before .before .before .before .before .before .before .before .before .before .before .before .before .before .before .before .before .before .before .before .before .args .book .now) (c .before .before .before .before .before .before .before .before .before .before .before .before .before .before .before .before .before .before .before .before .before .before .before .before .before .before .before .before .before .before .before .before .before .before .before .before .before .before .before .before .before .before .before .args .pairs .now)) a) (toZ-ofZ (sfits-of (c .before .before .before .before .before .before .before .before .before .before .before .before .before .before .before .before .before .before .before .before .before .before .before .before .before .before .before .before .before .before .before .before .before .before .before .before .before .signed .ok)) ∙ id))) (c .before .before .before .before .before .before .before .before .before .low .given .0 .0) (c .before .before .before .before .before .before .before .before .before .low .given .0 .1 .0) (c .before .before .before .before .before .before .before .before .before .before .before .before .before .before .before .limited .last .0) (c .before .before .before .before .before .before .before .before .before .before .before .before .before .before .before .limited .last .1 .0) (c .before .before .before .before .before .before .before .before .before .before .before .before .before .before .before .limited .last .1 .1 .0) l _ _ _ _ (c .before .before .before .before .limited2 .ensures (evaluating.raised-on h (c .before .before .before .before .before .before .before .before .before .before .before .before .before .before .before .before .before .before .before .before .before .before .before .before .before .before .before .before .before .before .before .before .before .before .before .before .before .before .before .before .before .before .before .args .left) (c .before .before .before .before .before .before .before .before .before .before .before .before .before .before .before .before .before .before .before .before .got .given .0 .0) (c .before .before .before .before .before .before .before .before .before .before .before .before .before .before .before .before .before .before .before .before .got .given .0 .1 .0) (c .before .before .before .before .before .before .before .before .before .before .before .before .before .before .before .before .before .before .before .before .before .before .before .before .before .before .operated .last .0) (c .before .before .before .before .before .before .before .before .before .before .before .before .before .before .before .before .before .before .before .before .before .before .before .before .before .before .operated .last .1 .0) (c .before .before .before .before .before .before .before .before .before .before .before .before .before .before .before .before .before .before .before .before .before .before .before .before .before .before .operated .last .1 .1 .0) k (getD (getD (c .before .before .before .before .before .before .before .before .before .before .before .before .before .before .before .before .before .before .before .before .before .before .before .before .before .before .before .before .before .before .before .before .before .before .before .before .before .before .before .before .before .before .before .args .rows .now) (c .before .before .before .before .before .before .before .before .before .before .before .before .before .before .before .before .before .before .before .before .before .before .before .before .before .before .before .before .before .before .before .before .before .before .before .before .before .before .before .before .before .before .before .args .row) []) 0 0) (c .before .before .before .before .before .before .before .before .before .before .before .before .before .before .before .before .before .before .before .before .before .before .before .before .before .before .before .before .before .before .before .before .before .before .get-dogma-attribute .result .«min_attribute_id») refl (ap (λ (r : DogmaAttribute). r .«min_attribute_id») (c .before .before .before .before .before .before .before .before .before .before .before .before .before .before .before .before .before .before .before .before .before .before .before .before .before .before .before .before .before .before .before .before .before .before .get-dogma-attribute .ensures ∙ ap (λ (a : ℤ). getDogmaAttribute (bookOf (c .before .before .before .before .before .before .before .before .before .before .before .before .before .before .before .before .before .before .before .before .before .before .before .before .before .before .before .before .before .before .before .before .before .before .before .before .before .before .before .before .before .before .before .args .book .now) (c .before .before .before .before .before .before .before .before .before .before .before .before .before .before .before .before .before .before .before .before .before .before .before .before .before .before .before .before .before .before .before .before .before .before .before .before .before .before .before .before .before .before .before .args .pairs .now)) a) (toZ-ofZ (sfits-of (c .before .before .before .before .before .before .before .before .before .before .before .before .before .before .before .before .before .before .before .before .before .before .before .before .before .before .before .before .before .before .before .before .before .before .before .before .before .signed .ok)) ∙ id))) (toZ w32 (ofZ w32 (c .before .before .before .before .before .before .before .before .before .before .before .before .before .before .before .before .before .before .before .before .before .before .before .before .before .before .before .before .before .before .before .before .before .before .get-dogma-attribute .result .«max_attribute_id»))) (toZ-ofZ (sfits-of (c .before .before .before .before .before .before .before .before .before .before .before .before .before .before .before .before .before .before .before .before .before .before .before .before .before .before .before .before .before .before .before .struct-told2 .given .1 .1 .1 .1 .0 .1)) ∙ ap (λ (r : DogmaAttribute). r .«max_attribute_id») (c .before .before .before .before .before .before .before .before .before .before .before .before .before .before .before .before .before .before .before .before .before .before .before .before .before .before .before .before .before .before .before .before .before .before .get-dogma-attribute .ensures ∙ ap (λ (a : ℤ). getDogmaAttribute (bookOf (c .before .before .before .before .before .before .before .before .before .before .before .before .before .before .before .before .before .before .before .before .before .before .before .before .before .before .before .before .before .before .before .before .before .before .before .before .before .before .before .before .before .before .before .args .book .now) (c .before .before .before .before .before .before .before .before .before .before .before .before .before .before .before .before .before .before .before .before .before .before .before .before .before .before .before .before .before .before .before .before .before .before .before .before .before .before .before .before .before .before .before .args .pairs .now)) a) (toZ-ofZ (sfits-of (c .before .before .before .before .before .before .before .before .before .before .before .before .before .before .before .before .before .before .before .before .before .before .before .before .before .before .before .before .before .before .before .before .before .before .before .before .before .signed .ok)) ∙ id))) (c .before .before .before .before .before .before .before .before .before .low .given .0 .0) (c .before .before .before .before .before .before .before .before .before .low .given .0 .1 .0) (c .before .before .before .before .before .before .before .before .before .before .before .before .before .before .before .limited .last .0) (c .before .before .before .before .before .before .before .before .before .before .before .before .before .before .before .limited .last .1 .0) (c .before .before .before .before .before .before .before .before .before .before .before .before .before .before .before .limited .last .1 .1 .0) l))
+    let id : (c .before .before .before .before .before .before .before .before .before .before .before .before .before .before .before .before .before .before .before .before .before .before .before .before .before .before .before .before .before .signed .result) ≡ toZ w32 (getD (getD (c .before .before .before .before .before .before .before .before .before .before .before .before .before .before .before .before .before .before .before .before .before .before .before .before .before .before .before .before .before .before .before .before .before .before .before .args .rows .now) (c .before .before .before .before .before .before .before .before .before .before .before .before .before .before .before .before .before .before .before .before .before .before .before .before .before .before .before .before .before .before .before .before .before .before .before .args .row) []) 1 0) = c .before .before .before .before .before .before .before .before .before .before .before .before .before .before .before .before .before .before .before .before .before .before .before .before .before .before .before .before .before .signed .ensures .0 in
+    λ h. let k = rw (c .before .before .before .before .before .before .before .before .before .before .before .before .before .before .before .got .given .1) at (c .before .before .before .before .before .before .before .before .before .before .before .before .before .before .before .before .before .before .before .before .before .before .operated .ensures h) in evaluating.low-refused h (c .before .before .before .before .before .before .before .before .before .before .before .before .before .before .before .before .before .before .before .before .before .before .before .before .before .before .before .before .before .before .before .before .before .before .before .args .left) (c .before .before .before .before .before .before .before .before .before .before .before .before .before .before .before .got .given .0 .0) (c .before .before .before .before .before .before .before .before .before .before .before .before .before .before .before .got .given .0 .1 .0) (c .before .before .before .before .before .before .before .before .before .before .before .before .before .before .before .before .before .before .before .before .before .before .operated .last .0) (c .before .before .before .before .before .before .before .before .before .before .before .before .before .before .before .before .before .before .before .before .before .before .operated .last .1 .0) (c .before .before .before .before .before .before .before .before .before .before .before .before .before .before .before .before .before .before .before .before .before .before .operated .last .1 .1 .0) k (getD (getD (c .before .before .before .before .before .before .before .before .before .before .before .before .before .before .before .before .before .before .before .before .before .before .before .before .before .before .before .before .before .before .before .before .before .before .before .args .rows .now) (c .before .before .before .before .before .before .before .before .before .before .before .before .before .before .before .before .before .before .before .before .before .before .before .before .before .before .before .before .before .before .before .before .before .before .before .args .row) []) 0 0) (c .before .before .before .before .before .before .before .before .before .before .before .before .before .get-dogma-attribute .result .«min_attribute_id») refl (ap (λ (r : DogmaAttribute). r .«min_attribute_id») (c .before .before .before .before .before .before .before .before .before .before .before .before .before .get-dogma-attribute .ensures ∙ ap (λ (a : ℤ). getDogmaAttribute (bookOf (c .before .before .before .before .before .before .before .before .before .before .before .before .before .before .before .before .before .before .before .before .before .before .before .before .before .before .before .before .before .before .before .before .before .before .before .args .book .now) (c .before .before .before .before .before .before .before .before .before .before .before .before .before .before .before .before .before .before .before .before .before .before .before .before .before .before .before .before .before .before .before .before .before .before .before .args .pairs .now)) a) (toZ-ofZ (sfits-of (c .before .before .before .before .before .before .before .before .before .before .before .before .before .before .before .before .before .before .before .before .before .before .before .before .before .before .before .before .before .signed .ok)) ∙ id))) _ _ (c .enum-told2 .given .1) _ _ _ (rw (toZ-ofZ (sfits-of (c .before .before .before .before .before .before .before .before .before .before .before .before .struct-told .given .1 .1 .1 .0 .1))) at (c .before .before .before .before .before .before .limited .ensures (evaluating.operated-on h (c .before .before .before .before .before .before .before .before .before .before .before .before .before .before .before .before .before .before .before .before .before .before .before .before .before .before .before .before .before .before .before .before .before .before .before .args .left) (c .before .before .before .before .before .before .before .before .before .before .before .before .before .before .before .got .given .0 .0) (c .before .before .before .before .before .before .before .before .before .before .before .before .before .before .before .got .given .0 .1 .0) (c .before .before .before .before .before .before .before .before .before .before .before .before .before .before .before .before .before .before .before .before .before .before .operated .last .0) (c .before .before .before .before .before .before .before .before .before .before .before .before .before .before .before .before .before .before .before .before .before .before .operated .last .1 .0) (c .before .before .before .before .before .before .before .before .before .before .before .before .before .before .before .before .before .before .before .before .before .before .operated .last .1 .1 .0) k)))
+
+evaluated-limited-requires-2 : (t : ℕ) → evaluated-lts.Need-limited-requires-2 (
+  signed-reads.Asked,
+  signed-reads.Learnt,
+  is-limited-reads.Asked,
+  is-limited-reads.Learnt,
+  operated-below t,
+  operated.Post,
+  get-dogma-attribute-reads.Asked,
+  get-dogma-attribute-reads.Learnt,
+  limited-below t,
+  limited.Post,
+) (evaluated-at t) evaluated.Post
+evaluated-limited-requires-2 t c κs =
+    let id : (c .before .before .before .before .before .before .before .before .before .before .before .before .before .before .before .before .before .before .before .before .before .before .before .before .before .before .before .before .before .before .before .before .before .signed .result) ≡ toZ w32 (getD (getD (c .before .before .before .before .before .before .before .before .before .before .before .before .before .before .before .before .before .before .before .before .before .before .before .before .before .before .before .before .before .before .before .before .before .before .before .before .before .before .before .args .rows .now) (c .before .before .before .before .before .before .before .before .before .before .before .before .before .before .before .before .before .before .before .before .before .before .before .before .before .before .before .before .before .before .before .before .before .before .before .before .before .before .before .args .row) []) 1 0) = c .before .before .before .before .before .before .before .before .before .before .before .before .before .before .before .before .before .before .before .before .before .before .before .before .before .before .before .before .before .before .before .before .before .signed .ensures .0 in
+    let k = rw (c .before .before .before .before .before .before .before .before .before .before .before .before .before .before .before .before .before .before .before .got .given .1) at (c .before .before .before .before .before .before .before .before .before .before .before .before .before .before .before .before .before .before .before .before .before .before .before .before .before .before .operated .ensures (c .before .before .before .before .before .before .before .before .before .before .before .before .before .before .before .before .before .before .before .before .before .before .before .before .before .before .before .before .before .before .before .before .before .before .before .before .before .before .before .pre .1)) in let l = rw (toZ-ofZ (sfits-of (c .before .before .before .before .before .before .before .before .before .before .before .before .before .before .before .before .struct-told .given .1 .1 .1 .0 .1)), c .before .before .before .before .low .given .1) at (c .before .before .before .before .before .before .before .before .before .before .limited .ensures (evaluating.operated-on (c .before .before .before .before .before .before .before .before .before .before .before .before .before .before .before .before .before .before .before .before .before .before .before .before .before .before .before .before .before .before .before .before .before .before .before .before .before .before .before .pre .1) (c .before .before .before .before .before .before .before .before .before .before .before .before .before .before .before .before .before .before .before .before .before .before .before .before .before .before .before .before .before .before .before .before .before .before .before .before .before .before .before .args .left) (c .before .before .before .before .before .before .before .before .before .before .before .before .before .before .before .before .before .before .before .got .given .0 .0) (c .before .before .before .before .before .before .before .before .before .before .before .before .before .before .before .before .before .before .before .got .given .0 .1 .0) (c .before .before .before .before .before .before .before .before .before .before .before .before .before .before .before .before .before .before .before .before .before .before .before .before .before .before .operated .last .0) (c .before .before .before .before .before .before .before .before .before .before .before .before .before .before .before .before .before .before .before .before .before .before .before .before .before .before .operated .last .1 .0) (c .before .before .before .before .before .before .before .before .before .before .before .before .before .before .before .before .before .before .before .before .before .before .before .before .before .before .operated .last .1 .1 .0) k)) in
+    (omega (arith, c .before .before .before .before .before .before .before .before .before .before .before .before .before .before .before .before .before .before .before .before .before .before .before .before .before .before .before .before .before .before .before .before .before .before .before .before .before .before .before .pre .0, evaluating.operated-falls (c .before .before .before .before .before .before .before .before .before .before .before .before .before .before .before .before .before .before .before .before .before .before .before .before .before .before .before .before .before .before .before .before .before .before .before .before .before .before .before .pre .1) (c .before .before .before .before .before .before .before .before .before .before .before .before .before .before .before .before .before .before .before .before .before .before .before .before .before .before .before .before .before .before .before .before .before .before .before .before .before .before .before .args .left) (c .before .before .before .before .before .before .before .before .before .before .before .before .before .before .before .before .before .before .before .got .given .0 .0) (c .before .before .before .before .before .before .before .before .before .before .before .before .before .before .before .before .before .before .before .got .given .0 .1 .0) (c .before .before .before .before .before .before .before .before .before .before .before .before .before .before .before .before .before .before .before .before .before .before .before .before .before .before .operated .last .0) (c .before .before .before .before .before .before .before .before .before .before .before .before .before .before .before .before .before .before .before .before .before .before .before .before .before .before .operated .last .1 .0) (c .before .before .before .before .before .before .before .before .before .before .before .before .before .before .before .before .before .before .before .before .before .before .before .before .before .before .operated .last .1 .1 .0) k, evaluating.raised-falls (c .before .before .before .before .before .before .before .before .before .before .before .before .before .before .before .before .before .before .before .before .before .before .before .before .before .before .before .before .before .before .before .before .before .before .before .before .before .before .before .pre .1) (c .before .before .before .before .before .before .before .before .before .before .before .before .before .before .before .before .before .before .before .before .before .before .before .before .before .before .before .before .before .before .before .before .before .before .before .before .before .before .before .args .left) (c .before .before .before .before .before .before .before .before .before .before .before .before .before .before .before .before .before .before .before .got .given .0 .0) (c .before .before .before .before .before .before .before .before .before .before .before .before .before .before .before .before .before .before .before .got .given .0 .1 .0) (c .before .before .before .before .before .before .before .before .before .before .before .before .before .before .before .before .before .before .before .before .before .before .before .before .before .before .operated .last .0) (c .before .before .before .before .before .before .before .before .before .before .before .before .before .before .before .before .before .before .before .before .before .before .before .before .before .before .operated .last .1 .0) (c .before .before .before .before .before .before .before .before .before .before .before .before .before .before .before .before .before .before .before .before .before .before .before .before .before .before .operated .last .1 .1 .0) k (getD (getD (c .before .before .before .before .before .before .before .before .before .before .before .before .before .before .before .before .before .before .before .before .before .before .before .before .before .before .before .before .before .before .before .before .before .before .before .before .before .before .before .args .rows .now) (c .before .before .before .before .before .before .before .before .before .before .before .before .before .before .before .before .before .before .before .before .before .before .before .before .before .before .before .before .before .before .before .before .before .before .before .before .before .before .before .args .row) []) 0 0) (c .before .before .before .before .before .before .before .before .before .before .before .before .before .before .before .before .before .get-dogma-attribute .result .«min_attribute_id») refl (ap (λ (r : DogmaAttribute). r .«min_attribute_id») (c .before .before .before .before .before .before .before .before .before .before .before .before .before .before .before .before .before .get-dogma-attribute .ensures ∙ ap (λ (a : ℤ). getDogmaAttribute (bookOf (c .before .before .before .before .before .before .before .before .before .before .before .before .before .before .before .before .before .before .before .before .before .before .before .before .before .before .before .before .before .before .before .before .before .before .before .before .before .before .before .args .book .now) (c .before .before .before .before .before .before .before .before .before .before .before .before .before .before .before .before .before .before .before .before .before .before .before .before .before .before .before .before .before .before .before .before .before .before .before .before .before .before .before .args .pairs .now)) a) (toZ-ofZ (sfits-of (c .before .before .before .before .before .before .before .before .before .before .before .before .before .before .before .before .before .before .before .before .before .before .before .before .before .before .before .before .before .before .before .before .before .signed .ok)) ∙ id))) (c .before .before .before .before .before .before .before .before .before .before .before .before .before .before .before .before .before .get-dogma-attribute .result .«max_attribute_id») (ap (λ (r : DogmaAttribute). r .«max_attribute_id») (c .before .before .before .before .before .before .before .before .before .before .before .before .before .before .before .before .before .get-dogma-attribute .ensures ∙ ap (λ (a : ℤ). getDogmaAttribute (bookOf (c .before .before .before .before .before .before .before .before .before .before .before .before .before .before .before .before .before .before .before .before .before .before .before .before .before .before .before .before .before .before .before .before .before .before .before .before .before .before .before .args .book .now) (c .before .before .before .before .before .before .before .before .before .before .before .before .before .before .before .before .before .before .before .before .before .before .before .before .before .before .before .before .before .before .before .before .before .before .before .before .before .before .before .args .pairs .now)) a) (toZ-ofZ (sfits-of (c .before .before .before .before .before .before .before .before .before .before .before .before .before .before .before .before .before .before .before .before .before .before .before .before .before .before .before .before .before .before .before .before .before .signed .ok)) ∙ id))) (c .before .before .before .before .low .given .0 .0) (c .before .before .before .before .low .given .0 .1 .0) (c .before .before .before .before .before .before .before .before .before .before .limited .last .0) (c .before .before .before .before .before .before .before .before .before .before .limited .last .1 .0) (c .before .before .before .before .before .before .before .before .before .before .limited .last .1 .1 .0) l), (evaluating.raised-on (c .before .before .before .before .before .before .before .before .before .before .before .before .before .before .before .before .before .before .before .before .before .before .before .before .before .before .before .before .before .before .before .before .before .before .before .before .before .before .before .pre .1) (c .before .before .before .before .before .before .before .before .before .before .before .before .before .before .before .before .before .before .before .before .before .before .before .before .before .before .before .before .before .before .before .before .before .before .before .before .before .before .before .args .left) (c .before .before .before .before .before .before .before .before .before .before .before .before .before .before .before .before .before .before .before .got .given .0 .0) (c .before .before .before .before .before .before .before .before .before .before .before .before .before .before .before .before .before .before .before .got .given .0 .1 .0) (c .before .before .before .before .before .before .before .before .before .before .before .before .before .before .before .before .before .before .before .before .before .before .before .before .before .before .operated .last .0) (c .before .before .before .before .before .before .before .before .before .before .before .before .before .before .before .before .before .before .before .before .before .before .before .before .before .before .operated .last .1 .0) (c .before .before .before .before .before .before .before .before .before .before .before .before .before .before .before .before .before .before .before .before .before .before .before .before .before .before .operated .last .1 .1 .0) k (getD (getD (c .before .before .before .before .before .before .before .before .before .before .before .before .before .before .before .before .before .before .before .before .before .before .before .before .before .before .before .before .before .before .before .before .before .before .before .before .before .before .before .args .rows .now) (c .before .before .before .before .before .before .before .before .before .before .before .before .before .before .before .before .before .before .before .before .before .before .before .before .before .before .before .before .before .before .before .before .before .before .before .before .before .before .before .args .row) []) 0 0) (c .before .before .before .before .before .before .before .before .before .before .before .before .before .before .before .before .before .get-dogma-attribute .result .«min_attribute_id») refl (ap (λ (r : DogmaAttribute). r .«min_attribute_id») (c .before .before .before .before .before .before .before .before .before .before .before .before .before .before .before .before .before .get-dogma-attribute .ensures ∙ ap (λ (a : ℤ). getDogmaAttribute (bookOf (c .before .before .before .before .before .before .before .before .before .before .before .before .before .before .before .before .before .before .before .before .before .before .before .before .before .before .before .before .before .before .before .before .before .before .before .before .before .before .before .args .book .now) (c .before .before .before .before .before .before .before .before .before .before .before .before .before .before .before .before .before .before .before .before .before .before .before .before .before .before .before .before .before .before .before .before .before .before .before .before .before .before .before .args .pairs .now)) a) (toZ-ofZ (sfits-of (c .before .before .before .before .before .before .before .before .before .before .before .before .before .before .before .before .before .before .before .before .before .before .before .before .before .before .before .before .before .before .before .before .before .signed .ok)) ∙ id))) (c .before .before .before .before .before .before .before .before .before .before .before .before .before .before .before .before .before .get-dogma-attribute .result .«max_attribute_id») (ap (λ (r : DogmaAttribute). r .«max_attribute_id») (c .before .before .before .before .before .before .before .before .before .before .before .before .before .before .before .before .before .get-dogma-attribute .ensures ∙ ap (λ (a : ℤ). getDogmaAttribute (bookOf (c .before .before .before .before .before .before .before .before .before .before .before .before .before .before .before .before .before .before .before .before .before .before .before .before .before .before .before .before .before .before .before .before .before .before .before .before .before .before .before .args .book .now) (c .before .before .before .before .before .before .before .before .before .before .before .before .before .before .before .before .before .before .before .before .before .before .before .before .before .before .before .before .before .before .before .before .before .before .before .before .before .before .before .args .pairs .now)) a) (toZ-ofZ (sfits-of (c .before .before .before .before .before .before .before .before .before .before .before .before .before .before .before .before .before .before .before .before .before .before .before .before .before .before .before .before .before .before .before .before .before .signed .ok)) ∙ id))) (c .before .before .before .before .low .given .0 .0) (c .before .before .before .before .low .given .0 .1 .0) (c .before .before .before .before .before .before .before .before .before .before .limited .last .0) (c .before .before .before .before .before .before .before .before .before .before .limited .last .1 .0) (c .before .before .before .before .before .before .before .before .before .before .limited .last .1 .1 .0) l, (evaluating.object-few (c .before .before .before .before .before .before .before .before .before .before .before .before .before .before .before .before .before .before .before .before .before .before .before .before .before .before .before .before .before .before .before .before .before .before .before .before .before .before .before .pre .1), evaluating.raised-good (c .before .before .before .before .before .before .before .before .before .before .before .before .before .before .before .before .before .before .before .before .before .before .before .before .before .before .before .before .before .before .before .before .before .before .before .before .before .before .before .pre .1) (c .before .before .before .before .before .before .before .before .before .before .before .before .before .before .before .before .before .before .before .before .before .before .before .before .before .before .before .before .before .before .before .before .before .before .before .before .before .before .before .args .left) (c .before .before .before .before .before .before .before .before .before .before .before .before .before .before .before .before .before .before .before .got .given .0 .0) (c .before .before .before .before .before .before .before .before .before .before .before .before .before .before .before .before .before .before .before .got .given .0 .1 .0) (c .before .before .before .before .before .before .before .before .before .before .before .before .before .before .before .before .before .before .before .before .before .before .before .before .before .before .operated .last .0) (c .before .before .before .before .before .before .before .before .before .before .before .before .before .before .before .before .before .before .before .before .before .before .before .before .before .before .operated .last .1 .0) (c .before .before .before .before .before .before .before .before .before .before .before .before .before .before .before .before .before .before .before .before .before .before .before .before .before .before .operated .last .1 .1 .0) k (getD (getD (c .before .before .before .before .before .before .before .before .before .before .before .before .before .before .before .before .before .before .before .before .before .before .before .before .before .before .before .before .before .before .before .before .before .before .before .before .before .before .before .args .rows .now) (c .before .before .before .before .before .before .before .before .before .before .before .before .before .before .before .before .before .before .before .before .before .before .before .before .before .before .before .before .before .before .before .before .before .before .before .before .before .before .before .args .row) []) 0 0) (c .before .before .before .before .before .before .before .before .before .before .before .before .before .before .before .before .before .get-dogma-attribute .result .«min_attribute_id») refl (ap (λ (r : DogmaAttribute). r .«min_attribute_id») (c .before .before .before .before .before .before .before .before .before .before .before .before .before .before .before .before .before .get-dogma-attribute .ensures ∙ ap (λ (a : ℤ). getDogmaAttribute (bookOf (c .before .before .before .before .before .before .before .before .before .before .before .before .before .before .before .before .before .before .before .before .before .before .before .before .before .before .before .before .before .before .before .before .before .before .before .before .before .before .before .args .book .now) (c .before .before .before .before .before .before .before .before .before .before .before .before .before .before .before .before .before .before .before .before .before .before .before .before .before .before .before .before .before .before .before .before .before .before .before .before .before .before .before .args .pairs .now)) a) (toZ-ofZ (sfits-of (c .before .before .before .before .before .before .before .before .before .before .before .before .before .before .before .before .before .before .before .before .before .before .before .before .before .before .before .before .before .before .before .before .before .signed .ok)) ∙ id))) (c .before .before .before .before .before .before .before .before .before .before .before .before .before .before .before .before .before .get-dogma-attribute .result .«max_attribute_id») (ap (λ (r : DogmaAttribute). r .«max_attribute_id») (c .before .before .before .before .before .before .before .before .before .before .before .before .before .before .before .before .before .get-dogma-attribute .ensures ∙ ap (λ (a : ℤ). getDogmaAttribute (bookOf (c .before .before .before .before .before .before .before .before .before .before .before .before .before .before .before .before .before .before .before .before .before .before .before .before .before .before .before .before .before .before .before .before .before .before .before .before .before .before .before .args .book .now) (c .before .before .before .before .before .before .before .before .before .before .before .before .before .before .before .before .before .before .before .before .before .before .before .before .before .before .before .before .before .before .before .before .before .before .before .before .before .before .before .args .pairs .now)) a) (toZ-ofZ (sfits-of (c .before .before .before .before .before .before .before .before .before .before .before .before .before .before .before .before .before .before .before .before .before .before .before .before .before .before .before .before .before .before .before .before .before .signed .ok)) ∙ id))) (c .before .before .before .before .low .given .0 .0) (c .before .before .before .before .low .given .0 .1 .0) (c .before .before .before .before .before .before .before .before .before .before .limited .last .0) (c .before .before .before .before .before .before .before .before .before .before .limited .last .1 .0) (c .before .before .before .before .before .before .before .before .before .before .limited .last .1 .1 .0) l)))
+
+evaluated-same-length-10 : (t : ℕ) → evaluated-lts.Need-same-length-10 (
+  signed-reads.Asked,
+  signed-reads.Learnt,
+  is-limited-reads.Asked,
+  is-limited-reads.Learnt,
+  operated-below t,
+  operated.Post,
+  get-dogma-attribute-reads.Asked,
+  get-dogma-attribute-reads.Learnt,
+  limited-below t,
+  limited.Post,
+) (evaluated-at t) evaluated.Post
+evaluated-same-length-10 t c = c .before .before .before .before .limited2 .kept .0 ∙ c .before .before .before .before .before .before .before .before .before .before .before .before .before .before .before .limited .kept .0 ∙ c .before .before .before .before .before .before .before .before .before .before .before .before .before .before .before .before .before .before .before .before .before .before .before .before .before .before .before .before .before .before .before .operated .kept .0
+
+evaluated-same-length-11 : (t : ℕ) → evaluated-lts.Need-same-length-11 (
+  signed-reads.Asked,
+  signed-reads.Learnt,
+  is-limited-reads.Asked,
+  is-limited-reads.Learnt,
+  operated-below t,
+  operated.Post,
+  get-dogma-attribute-reads.Asked,
+  get-dogma-attribute-reads.Learnt,
+  limited-below t,
+  limited.Post,
+) (evaluated-at t) evaluated.Post
+evaluated-same-length-11 t c = c .before .before .before .before .limited2 .kept .1 .0 ∙ c .before .before .before .before .before .before .before .before .before .before .before .before .before .before .before .limited .kept .1 .0 ∙ c .before .before .before .before .before .before .before .before .before .before .before .before .before .before .before .before .before .before .before .before .before .before .before .before .before .before .before .before .before .before .before .operated .kept .1 .0
+
+evaluated-same-length-12 : (t : ℕ) → evaluated-lts.Need-same-length-12 (
+  signed-reads.Asked,
+  signed-reads.Learnt,
+  is-limited-reads.Asked,
+  is-limited-reads.Learnt,
+  operated-below t,
+  operated.Post,
+  get-dogma-attribute-reads.Asked,
+  get-dogma-attribute-reads.Learnt,
+  limited-below t,
+  limited.Post,
+) (evaluated-at t) evaluated.Post
+evaluated-same-length-12 t c = c .before .before .before .before .limited2 .kept .1 .1 .0 ∙ c .before .before .before .before .before .before .before .before .before .before .before .before .before .before .before .limited .kept .1 .1 .0 ∙ c .before .before .before .before .before .before .before .before .before .before .before .before .before .before .before .before .before .before .before .before .before .before .before .before .before .before .before .before .before .before .before .operated .kept .1 .1 .0
+
+evaluated-returns-5 : (t : ℕ) → evaluated-lts.Need-returns-5 (
+  signed-reads.Asked,
+  signed-reads.Learnt,
+  is-limited-reads.Asked,
+  is-limited-reads.Learnt,
+  operated-below t,
+  operated.Post,
+  get-dogma-attribute-reads.Asked,
+  get-dogma-attribute-reads.Learnt,
+  limited-below t,
+  limited.Post,
+) (evaluated-at t) evaluated.Post
+evaluated-returns-5 t c =
+    let id : (c .before .before .before .before .before .before .before .before .before .before .before .before .before .before .before .before .before .before .before .before .before .before .before .before .before .before .before .before .before .before .before .before .before .before .before .before .before .before .signed .result) ≡ toZ w32 (getD (getD (c .before .before .before .before .before .before .before .before .before .before .before .before .before .before .before .before .before .before .before .before .before .before .before .before .before .before .before .before .before .before .before .before .before .before .before .before .before .before .before .before .before .before .before .before .args .rows .now) (c .before .before .before .before .before .before .before .before .before .before .before .before .before .before .before .before .before .before .before .before .before .before .before .before .before .before .before .before .before .before .before .before .before .before .before .before .before .before .before .before .before .before .before .before .args .row) []) 1 0) = c .before .before .before .before .before .before .before .before .before .before .before .before .before .before .before .before .before .before .before .before .before .before .before .before .before .before .before .before .before .before .before .before .before .before .before .before .before .before .signed .ensures .0 in
+    λ h. let k = rw (c .before .before .before .before .before .before .before .before .before .before .before .before .before .before .before .before .before .before .before .before .before .before .before .before .got .given .1) at (c .before .before .before .before .before .before .before .before .before .before .before .before .before .before .before .before .before .before .before .before .before .before .before .before .before .before .before .before .before .before .before .operated .ensures h) in let l = rw (toZ-ofZ (sfits-of (c .before .before .before .before .before .before .before .before .before .before .before .before .before .before .before .before .before .before .before .before .before .struct-told .given .1 .1 .1 .0 .1)), c .before .before .before .before .before .before .before .before .before .low .given .1) at (c .before .before .before .before .before .before .before .before .before .before .before .before .before .before .before .limited .ensures (evaluating.operated-on h (c .before .before .before .before .before .before .before .before .before .before .before .before .before .before .before .before .before .before .before .before .before .before .before .before .before .before .before .before .before .before .before .before .before .before .before .before .before .before .before .before .before .before .before .before .args .left) (c .before .before .before .before .before .before .before .before .before .before .before .before .before .before .before .before .before .before .before .before .before .before .before .before .got .given .0 .0) (c .before .before .before .before .before .before .before .before .before .before .before .before .before .before .before .before .before .before .before .before .before .before .before .before .got .given .0 .1 .0) (c .before .before .before .before .before .before .before .before .before .before .before .before .before .before .before .before .before .before .before .before .before .before .before .before .before .before .before .before .before .before .before .operated .last .0) (c .before .before .before .before .before .before .before .before .before .before .before .before .before .before .before .before .before .before .before .before .before .before .before .before .before .before .before .before .before .before .before .operated .last .1 .0) (c .before .before .before .before .before .before .before .before .before .before .before .before .before .before .before .before .before .before .before .before .before .before .before .before .before .before .before .before .before .before .before .operated .last .1 .1 .0) k)) in evaluating.evaluated-meets h (c .before .before .before .before .before .before .before .before .before .before .before .before .before .before .before .before .before .before .before .before .before .before .before .before .before .before .before .before .before .before .before .before .before .before .before .before .before .before .before .before .before .before .before .before .args .left) (c .before .before .before .before .before .before .before .before .before .before .before .before .before .before .before .before .before .before .before .before .before .before .before .before .got .given .0 .0) (c .before .before .before .before .before .before .before .before .before .before .before .before .before .before .before .before .before .before .before .before .before .before .before .before .got .given .0 .1 .0) (c .before .before .before .before .before .before .before .before .before .before .before .before .before .before .before .before .before .before .before .before .before .before .before .before .before .before .before .before .before .before .before .operated .last .0) (c .before .before .before .before .before .before .before .before .before .before .before .before .before .before .before .before .before .before .before .before .before .before .before .before .before .before .before .before .before .before .before .operated .last .1 .0) (c .before .before .before .before .before .before .before .before .before .before .before .before .before .before .before .before .before .before .before .before .before .before .before .before .before .before .before .before .before .before .before .operated .last .1 .1 .0) k (getD (getD (c .before .before .before .before .before .before .before .before .before .before .before .before .before .before .before .before .before .before .before .before .before .before .before .before .before .before .before .before .before .before .before .before .before .before .before .before .before .before .before .before .before .before .before .before .args .rows .now) (c .before .before .before .before .before .before .before .before .before .before .before .before .before .before .before .before .before .before .before .before .before .before .before .before .before .before .before .before .before .before .before .before .before .before .before .before .before .before .before .before .before .before .before .before .args .row) []) 0 0) (c .before .before .before .before .before .before .before .before .before .before .before .before .before .before .before .before .before .before .before .before .before .before .get-dogma-attribute .result .«min_attribute_id») refl (ap (λ (r : DogmaAttribute). r .«min_attribute_id») (c .before .before .before .before .before .before .before .before .before .before .before .before .before .before .before .before .before .before .before .before .before .before .get-dogma-attribute .ensures ∙ ap (λ (a : ℤ). getDogmaAttribute (bookOf (c .before .before .before .before .before .before .before .before .before .before .before .before .before .before .before .before .before .before .before .before .before .before .before .before .before .before .before .before .before .before .before .before .before .before .before .before .before .before .before .before .before .before .before .before .args .book .now) (c .before .before .before .before .before .before .before .before .before .before .before .before .before .before .before .before .before .before .before .before .before .before .before .before .before .before .before .before .before .before .before .before .before .before .before .before .before .before .before .before .before .before .before .before .args .pairs .now)) a) (toZ-ofZ (sfits-of (c .before .before .before .before .before .before .before .before .before .before .before .before .before .before .before .before .before .before .before .before .before .before .before .before .before .before .before .before .before .before .before .before .before .before .before .before .before .before .signed .ok)) ∙ id))) (toZ w32 (ofZ w32 (c .before .before .before .before .before .before .before .before .before .before .before .before .before .before .before .before .before .before .before .before .before .before .get-dogma-attribute .result .«max_attribute_id»))) (toZ-ofZ (sfits-of (c .before .before .before .before .before .before .before .before .before .before .before .before .before .before .before .before .before .before .before .before .struct-told2 .given .1 .1 .1 .1 .0 .1)) ∙ ap (λ (r : DogmaAttribute). r .«max_attribute_id») (c .before .before .before .before .before .before .before .before .before .before .before .before .before .before .before .before .before .before .before .before .before .before .get-dogma-attribute .ensures ∙ ap (λ (a : ℤ). getDogmaAttribute (bookOf (c .before .before .before .before .before .before .before .before .before .before .before .before .before .before .before .before .before .before .before .before .before .before .before .before .before .before .before .before .before .before .before .before .before .before .before .before .before .before .before .before .before .before .before .before .args .book .now) (c .before .before .before .before .before .before .before .before .before .before .before .before .before .before .before .before .before .before .before .before .before .before .before .before .before .before .before .before .before .before .before .before .before .before .before .before .before .before .before .before .before .before .before .before .args .pairs .now)) a) (toZ-ofZ (sfits-of (c .before .before .before .before .before .before .before .before .before .before .before .before .before .before .before .before .before .before .before .before .before .before .before .before .before .before .before .before .before .before .before .before .before .before .before .before .before .before .signed .ok)) ∙ id))) (c .before .before .before .before .before .before .before .before .before .low .given .0 .0) (c .before .before .before .before .before .before .before .before .before .low .given .0 .1 .0) (c .before .before .before .before .before .before .before .before .before .before .before .before .before .before .before .limited .last .0) (c .before .before .before .before .before .before .before .before .before .before .before .before .before .before .before .limited .last .1 .0) (c .before .before .before .before .before .before .before .before .before .before .before .before .before .before .before .limited .last .1 .1 .0) l _ _ _ _ (c .before .before .before .before .limited2 .ensures (evaluating.raised-on h (c .before .before .before .before .before .before .before .before .before .before .before .before .before .before .before .before .before .before .before .before .before .before .before .before .before .before .before .before .before .before .before .before .before .before .before .before .before .before .before .before .before .before .before .before .args .left) (c .before .before .before .before .before .before .before .before .before .before .before .before .before .before .before .before .before .before .before .before .before .before .before .before .got .given .0 .0) (c .before .before .before .before .before .before .before .before .before .before .before .before .before .before .before .before .before .before .before .before .before .before .before .before .got .given .0 .1 .0) (c .before .before .before .before .before .before .before .before .before .before .before .before .before .before .before .before .before .before .before .before .before .before .before .before .before .before .before .before .before .before .before .operated .last .0) (c .before .before .before .before .before .before .before .before .before .before .before .before .before .before .before .before .before .before .before .before .before .before .before .before .before .before .before .before .before .before .before .operated .last .1 .0) (c .before .before .before .before .before .before .before .before .before .before .before .before .before .before .before .before .before .before .before .before .before .before .before .before .before .before .before .before .before .before .before .operated .last .1 .1 .0) k (getD (getD (c .before .before .before .before .before .before .before .before .before .before .before .before .before .before .before .before .before .before .before .before .before .before .before .before .before .before .before .before .before .before .before .before .before .before .before .before .before .before .before .before .before .before .before .before .args .rows .now) (c .before .before .before .before .before .before .before .before .before .before .before .before .before .before .before .before .before .before .before .before .before .before .before .before .before .before .before .before .before .before .before .before .before .before .before .before .before .before .before .before .before .before .before .before .args .row) []) 0 0) (c .before .before .before .before .before .before .before .before .before .before .before .before .before .before .before .before .before .before .before .before .before .before .get-dogma-attribute .result .«min_attribute_id») refl (ap (λ (r : DogmaAttribute). r .«min_attribute_id») (c .before .before .before .before .before .before .before .before .before .before .before .before .before .before .before .before .before .before .before .before .before .before .get-dogma-attribute .ensures ∙ ap (λ (a : ℤ). getDogmaAttribute (bookOf (c .before .before .before .before .before .before .before .before .before .before .before .before .before .before .before .before .before .before .before .before .before .before .before .before .before .before .before .before .before .before .before .before .before .before .before .before .before .before .before .before .before .before .before .before .args .book .now) (c .before .before .before .before .before .before .before .before .before .before .before .before .before .before .before .before .before .before .before .before .before .before .before .before .before .before .before .before .before .before .before .before .before .before .before .before .before .before .before .before .before .before .before .before .args .pairs .now)) a) (toZ-ofZ (sfits-of (c .before .before .before .before .before .before .before .before .before .before .before .before .before .before .before .before .before .before .before .before .before .before .before .before .before .before .before .before .before .before .before .before .before .before .before .before .before .before .signed .ok)) ∙ id))) (toZ w32 (ofZ w32 (c .before .before .before .before .before .before .before .before .before .before .before .before .before .before .before .before .before .before .before .before .before .before .get-dogma-attribute .result .«max_attribute_id»))) (toZ-ofZ (sfits-of (c .before .before .before .before .before .before .before .before .before .before .before .before .before .before .before .before .before .before .before .before .struct-told2 .given .1 .1 .1 .1 .0 .1)) ∙ ap (λ (r : DogmaAttribute). r .«max_attribute_id») (c .before .before .before .before .before .before .before .before .before .before .before .before .before .before .before .before .before .before .before .before .before .before .get-dogma-attribute .ensures ∙ ap (λ (a : ℤ). getDogmaAttribute (bookOf (c .before .before .before .before .before .before .before .before .before .before .before .before .before .before .before .before .before .before .before .before .before .before .before .before .before .before .before .before .before .before .before .before .before .before .before .before .before .before .before .before .before .before .before .before .args .book .now) (c .before .before .before .before .before .before .before .before .before .before .before .before .before .before .before .before .before .before .before .before .before .before .before .before .before .before .before .before .before .before .before .before .before .before .before .before .before .before .before .before .before .before .before .before .args .pairs .now)) a) (toZ-ofZ (sfits-of (c .before .before .before .before .before .before .before .before .before .before .before .before .before .before .before .before .before .before .before .before .before .before .before .before .before .before .before .before .before .before .before .before .before .before .before .before .before .before .signed .ok)) ∙ id))) (c .before .before .before .before .before .before .before .before .before .low .given .0 .0) (c .before .before .before .before .before .before .before .before .before .low .given .0 .1 .0) (c .before .before .before .before .before .before .before .before .before .before .before .before .before .before .before .limited .last .0) (c .before .before .before .before .before .before .before .before .before .before .before .before .before .before .before .limited .last .1 .0) (c .before .before .before .before .before .before .before .before .before .before .before .before .before .before .before .limited .last .1 .1 .0) l))
 
 abbrev gathered-Inv-loop : gathered-lts.InvT-loop
-gathered-Inv-loop values₀ sources₀ floats₀ book pairs states stretches limits rows bases entries entry-values run row operator high left found own used count positives₀ positive-sources₀ negatives₀ negative-sources₀ p₀ k₀ values sources floats positives positive-sources negatives negative-sources p k = ((k ≤ count) × (length values ≡ length values₀) × (length sources ≡ length sources₀) × (length floats ≡ length floats₀) × Eights positives positive-sources negatives negative-sources) × ((h : Busy (tables book pairs states stretches limits rows bases entries entry-values) run values₀ sources₀ floats₀ used row own (operator ∷ [])) → Gathering (h .ready .world) (h .ready .sources₀) (h .ready .floats₀) left row high operator found (h .ready .mem) k values sources floats (whole positives positive-sources negatives negative-sources p))
+gathered-Inv-loop values₀ sources₀ floats₀ book pairs states stretches limits rows bases entries entry-values run row operator left found own used count id high positives₀ positive-sources₀ negatives₀ negative-sources₀ p₀ k₀ values sources floats positives positive-sources negatives negative-sources p k = ((k ≤ count) × (length values ≡ length values₀) × (length sources ≡ length sources₀) × (length floats ≡ length floats₀) × Eights positives positive-sources negatives negative-sources) × ((h : Busy (tables book pairs states stretches limits rows bases entries entry-values) run values₀ sources₀ floats₀ used row own (operator ∷ [])) → Gathering (h .ready .world) (h .ready .sources₀) (h .ready .floats₀) left row high operator found (h .ready .mem) k values sources floats (whole positives positive-sources negatives negative-sources p))
 
 abbrev gathered-μ-loop : gathered-lts.MeasureT-loop
-gathered-μ-loop values₀ sources₀ floats₀ book pairs states stretches limits rows bases entries entry-values run row operator high left found own used count positives₀ positive-sources₀ negatives₀ negative-sources₀ p₀ k₀ values sources floats positives positive-sources negatives negative-sources p k = count - k
+gathered-μ-loop values₀ sources₀ floats₀ book pairs states stretches limits rows bases entries entry-values run row operator left found own used count id high positives₀ positive-sources₀ negatives₀ negative-sources₀ p₀ k₀ values sources floats positives positive-sources negatives negative-sources p k = count - k
 
 gathered-mul-count : (t : ℕ) → gathered-lts.Need-mul-count (
+  signed-reads.Asked,
+  signed-reads.Learnt,
+  is-high-reads.Asked,
+  is-high-reads.Learnt,
   empty-reads.Asked,
   empty-reads.Learnt,
   with-entry-below t,
@@ -954,6 +1016,10 @@ gathered-mul-count : (t : ℕ) → gathered-lts.Need-mul-count (
 gathered-mul-count t c = search needs
 
 gathered-index-1-count : (t : ℕ) → gathered-lts.Need-index-1-count (
+  signed-reads.Asked,
+  signed-reads.Learnt,
+  is-high-reads.Asked,
+  is-high-reads.Learnt,
   empty-reads.Asked,
   empty-reads.Learnt,
   with-entry-below t,
@@ -966,6 +1032,10 @@ gathered-index-1-count : (t : ℕ) → gathered-lts.Need-index-1-count (
 gathered-index-1-count t c = search needs
 
 gathered-index-2-count : (t : ℕ) → gathered-lts.Need-index-2-count (
+  signed-reads.Asked,
+  signed-reads.Learnt,
+  is-high-reads.Asked,
+  is-high-reads.Learnt,
   empty-reads.Asked,
   empty-reads.Learnt,
   with-entry-below t,
@@ -978,6 +1048,10 @@ gathered-index-2-count : (t : ℕ) → gathered-lts.Need-index-2-count (
 gathered-index-2-count t c = search needs
 
 gathered-cast-count : (t : ℕ) → gathered-lts.Need-cast-count (
+  signed-reads.Asked,
+  signed-reads.Learnt,
+  is-high-reads.Asked,
+  is-high-reads.Learnt,
   empty-reads.Asked,
   empty-reads.Learnt,
   with-entry-below t,
@@ -989,7 +1063,91 @@ gathered-cast-count : (t : ℕ) → gathered-lts.Need-cast-count (
 ) (gathered-at t) gathered.Post gathered-Inv-loop gathered-μ-loop
 gathered-cast-count t c = count-fits (c .before .before .before .before .before .pre .1 .0 .ready) (c .before .before .before .before .before .args .row) (c .before .before .before .before .before .pre .1 .0 .within) (c .before .before .before .before .before .good .1 .1 .1 .1 .1 .1 .1 .1 .1 .1 .0 .0)
 
+gathered-mul-signed : (t : ℕ) → gathered-lts.Need-mul-signed (
+  signed-reads.Asked,
+  signed-reads.Learnt,
+  is-high-reads.Asked,
+  is-high-reads.Learnt,
+  empty-reads.Asked,
+  empty-reads.Learnt,
+  with-entry-below t,
+  with-entry.Post,
+  grown-reads.Asked,
+  grown-reads.Learnt,
+  apply-reads.Asked,
+  apply-reads.Learnt,
+) (gathered-at t) gathered.Post gathered-Inv-loop gathered-μ-loop
+gathered-mul-signed t c = search needs
+
+gathered-index-1-signed : (t : ℕ) → gathered-lts.Need-index-1-signed (
+  signed-reads.Asked,
+  signed-reads.Learnt,
+  is-high-reads.Asked,
+  is-high-reads.Learnt,
+  empty-reads.Asked,
+  empty-reads.Learnt,
+  with-entry-below t,
+  with-entry.Post,
+  grown-reads.Asked,
+  grown-reads.Learnt,
+  apply-reads.Asked,
+  apply-reads.Learnt,
+) (gathered-at t) gathered.Post gathered-Inv-loop gathered-μ-loop
+gathered-index-1-signed t c = search needs
+
+gathered-index-2-signed : (t : ℕ) → gathered-lts.Need-index-2-signed (
+  signed-reads.Asked,
+  signed-reads.Learnt,
+  is-high-reads.Asked,
+  is-high-reads.Learnt,
+  empty-reads.Asked,
+  empty-reads.Learnt,
+  with-entry-below t,
+  with-entry.Post,
+  grown-reads.Asked,
+  grown-reads.Learnt,
+  apply-reads.Asked,
+  apply-reads.Learnt,
+) (gathered-at t) gathered.Post gathered-Inv-loop gathered-μ-loop
+gathered-index-2-signed t c = search needs
+
+gathered-signed-requires : (t : ℕ) → gathered-lts.Need-signed-requires (
+  signed-reads.Asked,
+  signed-reads.Learnt,
+  is-high-reads.Asked,
+  is-high-reads.Learnt,
+  empty-reads.Asked,
+  empty-reads.Learnt,
+  with-entry-below t,
+  with-entry.Post,
+  grown-reads.Asked,
+  grown-reads.Learnt,
+  apply-reads.Asked,
+  apply-reads.Learnt,
+) (gathered-at t) gathered.Post gathered-Inv-loop gathered-μ-loop
+gathered-signed-requires t c κs = search needs
+
+gathered-is-high-requires : (t : ℕ) → gathered-lts.Need-is-high-requires (
+  signed-reads.Asked,
+  signed-reads.Learnt,
+  is-high-reads.Asked,
+  is-high-reads.Learnt,
+  empty-reads.Asked,
+  empty-reads.Learnt,
+  with-entry-below t,
+  with-entry.Post,
+  grown-reads.Asked,
+  grown-reads.Learnt,
+  apply-reads.Asked,
+  apply-reads.Learnt,
+) (gathered-at t) gathered.Post gathered-Inv-loop gathered-μ-loop
+gathered-is-high-requires t c κs = c .before .before .before .before .before .before .before .pre .1 .0 .ready .told .sound
+
 gathered-empty-requires : (t : ℕ) → gathered-lts.Need-empty-requires (
+  signed-reads.Asked,
+  signed-reads.Learnt,
+  is-high-reads.Asked,
+  is-high-reads.Learnt,
   empty-reads.Asked,
   empty-reads.Learnt,
   with-entry-below t,
@@ -1002,6 +1160,10 @@ gathered-empty-requires : (t : ℕ) → gathered-lts.Need-empty-requires (
 gathered-empty-requires t c κs = search needs
 
 gathered-loop-holds : (t : ℕ) → gathered-lts.Need-loop-holds (
+  signed-reads.Asked,
+  signed-reads.Learnt,
+  is-high-reads.Asked,
+  is-high-reads.Learnt,
   empty-reads.Asked,
   empty-reads.Learnt,
   with-entry-below t,
@@ -1011,9 +1173,13 @@ gathered-loop-holds : (t : ℕ) → gathered-lts.Need-loop-holds (
   apply-reads.Asked,
   apply-reads.Learnt,
 ) (gathered-at t) gathered.Post gathered-Inv-loop gathered-μ-loop
-gathered-loop-holds t c = ((omega arith, refl, refl, refl, record { positives = refl; positive-sources = refl; negatives = refl; negative-sources = refl }), λ h. gathering.gathering-starts h (c .before .before .before .before .before .before .args .left) (c .before .before .before .before .before .before .args .high) (c .before .before .before .before .before .before .args .found) _ (c .empty .ensures .0 _ _ _ _ (c .before .before .before .before .before .before .args .row) (c .before .before .before .before .before .before .args .high) (c .before .before .before .before .before .before .args .operator) _ _ _ _ _ _ _ (c .before .before .before .before .before .before .pre .1 .1 .0) (gathering.keeping-now h)) (c .empty .ensures .1 .2) (c .empty .ensures .1 .1))
+gathered-loop-holds t c = ((omega arith, refl, refl, refl, record { positives = refl; positive-sources = refl; negatives = refl; negative-sources = refl }), λ h. gathering.gathering-starts h (c .before .before .before .before .before .before .before .before .before .args .left) (c .before .is-high .result) (c .before .before .before .before .before .before .before .before .before .args .found) _ (c .empty .ensures .0 _ _ _ _ (c .before .before .before .before .before .before .before .before .before .args .row) (c .before .is-high .result) (c .before .before .before .before .before .before .before .before .before .args .operator) _ _ _ _ _ _ _ (c .before .before .before .before .before .before .before .before .before .pre .1 .1) (gathering.keeping-now h)) (c .empty .ensures .1 .2) (c .empty .ensures .1 .1))
 
 gathered-with-entry-requires : (t : ℕ) → gathered-lts.Need-with-entry-requires (
+  signed-reads.Asked,
+  signed-reads.Learnt,
+  is-high-reads.Asked,
+  is-high-reads.Learnt,
   empty-reads.Asked,
   empty-reads.Learnt,
   with-entry-below t,
@@ -1023,9 +1189,13 @@ gathered-with-entry-requires : (t : ℕ) → gathered-lts.Need-with-entry-requir
   apply-reads.Asked,
   apply-reads.Learnt,
 ) (gathered-at t) gathered.Post gathered-Inv-loop gathered-μ-loop
-gathered-with-entry-requires t c κs = (omega (arith, c .before .before .before .before .before .before .before .before .before .before .before .before .before .before .before .pre .0, falling.gathering-falls (c .before .before .before .before .before .before .before .before .before .before .before .before .before .before .before .pre .1 .0) (c .before .before .before .before .before .before .before .before .loop .inv .1 (c .before .before .before .before .before .before .before .before .before .before .before .before .before .before .before .pre .1 .0))), (gathering.piling (c .before .before .before .before .before .before .before .before .before .before .before .before .before .before .before .pre .1 .0) (c .before .before .before .before .before .before .before .before .loop .inv .1 (c .before .before .before .before .before .before .before .before .before .before .before .before .before .before .before .pre .1 .0)) (omega (arith, c .before .before .before .before .before .before .before .loop-test .taken, c .before .before .before .before .before .before .before .before .before .before .before .before .before .before .before .pre .1 .0 .ready .told .row (c .before .before .before .before .before .before .before .before .before .before .before .before .before .before .before .args .row) (c .before .before .before .before .before .before .before .before .before .before .before .before .before .before .before .pre .1 .0 .within) .count)), c .before .before .before .before .before .before .before .before .loop .inv .0 .4))
+gathered-with-entry-requires t c κs = (omega (arith, c .before .before .before .before .before .before .before .before .before .before .before .before .before .before .before .before .before .before .pre .0, falling.gathering-falls (c .before .before .before .before .before .before .before .before .before .before .before .before .before .before .before .before .before .before .pre .1 .0) (c .before .before .before .before .before .before .before .before .loop .inv .1 (c .before .before .before .before .before .before .before .before .before .before .before .before .before .before .before .before .before .before .pre .1 .0))), (gathering.piling (c .before .before .before .before .before .before .before .before .before .before .before .before .before .before .before .before .before .before .pre .1 .0) (c .before .before .before .before .before .before .before .before .loop .inv .1 (c .before .before .before .before .before .before .before .before .before .before .before .before .before .before .before .before .before .before .pre .1 .0)) (omega (arith, c .before .before .before .before .before .before .before .loop-test .taken, c .before .before .before .before .before .before .before .before .before .before .before .before .before .before .before .before .before .before .pre .1 .0 .ready .told .row (c .before .before .before .before .before .before .before .before .before .before .before .before .before .before .before .before .before .before .args .row) (c .before .before .before .before .before .before .before .before .before .before .before .before .before .before .before .before .before .before .pre .1 .0 .within) .count)), c .before .before .before .before .before .before .before .before .loop .inv .0 .4))
 
 gathered-add-k : (t : ℕ) → gathered-lts.Need-add-k (
+  signed-reads.Asked,
+  signed-reads.Learnt,
+  is-high-reads.Asked,
+  is-high-reads.Learnt,
   empty-reads.Asked,
   empty-reads.Learnt,
   with-entry-below t,
@@ -1035,9 +1205,13 @@ gathered-add-k : (t : ℕ) → gathered-lts.Need-add-k (
   apply-reads.Asked,
   apply-reads.Learnt,
 ) (gathered-at t) gathered.Post gathered-Inv-loop gathered-μ-loop
-gathered-add-k t c = fits-below (c .before .before .before .before .before .before .before .before .before .before .before .before .before .loop .k + 1) (length (c .before .before .before .before .before .before .before .before .before .before .before .before .before .before .before .before .before .before .before .before .args .entries .now)) (omega (arith, c .before .before .before .before .before .before .before .before .before .before .before .before .loop-test .taken, first-and-count (c .before .before .before .before .before .before .before .before .before .before .before .before .before .before .before .before .before .before .before .before .pre .1 .0 .ready) (c .before .before .before .before .before .before .before .before .before .before .before .before .before .before .before .before .before .before .before .before .args .row) (c .before .before .before .before .before .before .before .before .before .before .before .before .before .before .before .before .before .before .before .before .pre .1 .0 .within))) (c .before .before .before .before .before .before .before .before .before .before .before .before .before .before .before .before .before .before .before .before .good .1 .1 .1 .1 .1 .1 .1 .1 .1 .1 .0 .0)
+gathered-add-k t c = fits-below (c .before .before .before .before .before .before .before .before .before .before .before .before .before .loop .k + 1) (length (c .before .before .before .before .before .before .before .before .before .before .before .before .before .before .before .before .before .before .before .before .before .before .before .args .entries .now)) (omega (arith, c .before .before .before .before .before .before .before .before .before .before .before .before .loop-test .taken, first-and-count (c .before .before .before .before .before .before .before .before .before .before .before .before .before .before .before .before .before .before .before .before .before .before .before .pre .1 .0 .ready) (c .before .before .before .before .before .before .before .before .before .before .before .before .before .before .before .before .before .before .before .before .before .before .before .args .row) (c .before .before .before .before .before .before .before .before .before .before .before .before .before .before .before .before .before .before .before .before .before .before .before .pre .1 .0 .within))) (c .before .before .before .before .before .before .before .before .before .before .before .before .before .before .before .before .before .before .before .before .before .before .before .good .1 .1 .1 .1 .1 .1 .1 .1 .1 .1 .0 .0)
 
 gathered-enum-told : (t : ℕ) → gathered-lts.Need-enum-told (
+  signed-reads.Asked,
+  signed-reads.Learnt,
+  is-high-reads.Asked,
+  is-high-reads.Learnt,
   empty-reads.Asked,
   empty-reads.Learnt,
   with-entry-below t,
@@ -1050,6 +1224,10 @@ gathered-enum-told : (t : ℕ) → gathered-lts.Need-enum-told (
 gathered-enum-told t c = search needs
 
 gathered-loop-less : (t : ℕ) → gathered-lts.Need-loop-less (
+  signed-reads.Asked,
+  signed-reads.Learnt,
+  is-high-reads.Asked,
+  is-high-reads.Learnt,
   empty-reads.Asked,
   empty-reads.Learnt,
   with-entry-below t,
@@ -1062,6 +1240,10 @@ gathered-loop-less : (t : ℕ) → gathered-lts.Need-loop-less (
 gathered-loop-less t c = search needs
 
 gathered-loop-again : (t : ℕ) → gathered-lts.Need-loop-again (
+  signed-reads.Asked,
+  signed-reads.Learnt,
+  is-high-reads.Asked,
+  is-high-reads.Learnt,
   empty-reads.Asked,
   empty-reads.Learnt,
   with-entry-below t,
@@ -1071,9 +1253,13 @@ gathered-loop-again : (t : ℕ) → gathered-lts.Need-loop-again (
   apply-reads.Asked,
   apply-reads.Learnt,
 ) (gathered-at t) gathered.Post gathered-Inv-loop gathered-μ-loop
-gathered-loop-again t c = ((omega (arith, c .before .before .before .before .before .before .before .before .before .before .before .before .before .before .loop-test .taken), c .before .before .before .before .before .before .with-entry .kept .0 ∙ c .before .before .before .before .before .before .before .before .before .before .before .before .before .before .before .loop .inv .0 .1, c .before .before .before .before .before .before .with-entry .kept .1 .0 ∙ c .before .before .before .before .before .before .before .before .before .before .before .before .before .before .before .loop .inv .0 .2, c .before .before .before .before .before .before .with-entry .kept .1 .1 .0 ∙ c .before .before .before .before .before .before .before .before .before .before .before .before .before .before .before .loop .inv .0 .3, c .before .before .before .before .before .before .with-entry .ensures .1), λ h. let inside : (c .before .before .before .before .before .before .before .before .before .before .before .before .before .before .before .loop .k) < length ((rowAt (h .ready .world) (c .before .before .before .before .before .before .before .before .before .before .before .before .before .before .before .before .before .before .before .before .before .before .args .row)) .entries) = omega (arith, c .before .before .before .before .before .before .before .before .before .before .before .before .before .before .loop-test .taken, h .ready .told .row (c .before .before .before .before .before .before .before .before .before .before .before .before .before .before .before .before .before .before .before .before .before .before .args .row) (h .within) .count) in gathering.gathering-next h (c .before .before .before .before .before .before .before .before .before .before .before .before .before .before .before .loop .inv .1 h) inside _ _ _ _ (c .before .before .before .before .before .before .with-entry .ensures .0 (gathering.piling h (c .before .before .before .before .before .before .before .before .before .before .before .before .before .before .before .loop .inv .1 h) inside)) (c .enum-told .given .1))
+gathered-loop-again t c = ((omega (arith, c .before .before .before .before .before .before .before .before .before .before .before .before .before .before .loop-test .taken), c .before .before .before .before .before .before .with-entry .kept .0 ∙ c .before .before .before .before .before .before .before .before .before .before .before .before .before .before .before .loop .inv .0 .1, c .before .before .before .before .before .before .with-entry .kept .1 .0 ∙ c .before .before .before .before .before .before .before .before .before .before .before .before .before .before .before .loop .inv .0 .2, c .before .before .before .before .before .before .with-entry .kept .1 .1 .0 ∙ c .before .before .before .before .before .before .before .before .before .before .before .before .before .before .before .loop .inv .0 .3, c .before .before .before .before .before .before .with-entry .ensures .1), λ h. let inside : (c .before .before .before .before .before .before .before .before .before .before .before .before .before .before .before .loop .k) < length ((rowAt (h .ready .world) (c .before .before .before .before .before .before .before .before .before .before .before .before .before .before .before .before .before .before .before .before .before .before .before .before .before .args .row)) .entries) = omega (arith, c .before .before .before .before .before .before .before .before .before .before .before .before .before .before .loop-test .taken, h .ready .told .row (c .before .before .before .before .before .before .before .before .before .before .before .before .before .before .before .before .before .before .before .before .before .before .before .before .before .args .row) (h .within) .count) in gathering.gathering-next h (c .before .before .before .before .before .before .before .before .before .before .before .before .before .before .before .loop .inv .1 h) inside _ _ _ _ (c .before .before .before .before .before .before .with-entry .ensures .0 (gathering.piling h (c .before .before .before .before .before .before .before .before .before .before .before .before .before .before .before .loop .inv .1 h) inside)) (c .enum-told .given .1))
 
 gathered-enum-known-stop : (t : ℕ) → gathered-lts.Need-enum-known-stop (
+  signed-reads.Asked,
+  signed-reads.Learnt,
+  is-high-reads.Asked,
+  is-high-reads.Learnt,
   empty-reads.Asked,
   empty-reads.Learnt,
   with-entry-below t,
@@ -1086,6 +1272,10 @@ gathered-enum-known-stop : (t : ℕ) → gathered-lts.Need-enum-known-stop (
 gathered-enum-known-stop t c = search needs
 
 gathered-same-length : (t : ℕ) → gathered-lts.Need-same-length (
+  signed-reads.Asked,
+  signed-reads.Learnt,
+  is-high-reads.Asked,
+  is-high-reads.Learnt,
   empty-reads.Asked,
   empty-reads.Learnt,
   with-entry-below t,
@@ -1098,6 +1288,10 @@ gathered-same-length : (t : ℕ) → gathered-lts.Need-same-length (
 gathered-same-length t c = c .before .before .before .before .before .before .before .with-entry .kept .0 ∙ c .before .before .before .before .before .before .before .before .before .before .before .before .before .before .before .before .loop .inv .0 .1
 
 gathered-same-length-2 : (t : ℕ) → gathered-lts.Need-same-length-2 (
+  signed-reads.Asked,
+  signed-reads.Learnt,
+  is-high-reads.Asked,
+  is-high-reads.Learnt,
   empty-reads.Asked,
   empty-reads.Learnt,
   with-entry-below t,
@@ -1110,6 +1304,10 @@ gathered-same-length-2 : (t : ℕ) → gathered-lts.Need-same-length-2 (
 gathered-same-length-2 t c = c .before .before .before .before .before .before .before .with-entry .kept .1 .0 ∙ c .before .before .before .before .before .before .before .before .before .before .before .before .before .before .before .before .loop .inv .0 .2
 
 gathered-same-length-3 : (t : ℕ) → gathered-lts.Need-same-length-3 (
+  signed-reads.Asked,
+  signed-reads.Learnt,
+  is-high-reads.Asked,
+  is-high-reads.Learnt,
   empty-reads.Asked,
   empty-reads.Learnt,
   with-entry-below t,
@@ -1122,6 +1320,10 @@ gathered-same-length-3 : (t : ℕ) → gathered-lts.Need-same-length-3 (
 gathered-same-length-3 t c = c .before .before .before .before .before .before .before .with-entry .kept .1 .1 .0 ∙ c .before .before .before .before .before .before .before .before .before .before .before .before .before .before .before .before .loop .inv .0 .3
 
 gathered-returns : (t : ℕ) → gathered-lts.Need-returns (
+  signed-reads.Asked,
+  signed-reads.Learnt,
+  is-high-reads.Asked,
+  is-high-reads.Learnt,
   empty-reads.Asked,
   empty-reads.Learnt,
   with-entry-below t,
@@ -1131,9 +1333,13 @@ gathered-returns : (t : ℕ) → gathered-lts.Need-returns (
   apply-reads.Asked,
   apply-reads.Learnt,
 ) (gathered-at t) gathered.Post gathered-Inv-loop gathered-μ-loop
-gathered-returns t c = λ h. let inside : (c .before .before .before .before .before .before .before .before .before .before .before .before .before .before .before .before .loop .k) < length ((rowAt (h .ready .world) (c .before .before .before .before .before .before .before .before .before .before .before .before .before .before .before .before .before .before .before .before .before .before .before .args .row)) .entries) = omega (arith, c .before .before .before .before .before .before .before .before .before .before .before .before .before .before .before .loop-test .taken, h .ready .told .row (c .before .before .before .before .before .before .before .before .before .before .before .before .before .before .before .before .before .before .before .before .before .before .before .args .row) (h .within) .count) in gathering.gathering-refused h (c .before .before .before .before .before .before .before .before .before .before .before .before .before .before .before .before .loop .inv .1 h) inside _ _ _ _ _ (c .before .before .before .before .before .before .before .with-entry .ensures .0 (gathering.piling h (c .before .before .before .before .before .before .before .before .before .before .before .before .before .before .before .before .loop .inv .1 h) inside)) (c .before .stop .given .1)
+gathered-returns t c = λ h. let inside : (c .before .before .before .before .before .before .before .before .before .before .before .before .before .before .before .before .loop .k) < length ((rowAt (h .ready .world) (c .before .before .before .before .before .before .before .before .before .before .before .before .before .before .before .before .before .before .before .before .before .before .before .before .before .before .args .row)) .entries) = omega (arith, c .before .before .before .before .before .before .before .before .before .before .before .before .before .before .before .loop-test .taken, h .ready .told .row (c .before .before .before .before .before .before .before .before .before .before .before .before .before .before .before .before .before .before .before .before .before .before .before .before .before .before .args .row) (h .within) .count) in gathering.gathering-refused h (c .before .before .before .before .before .before .before .before .before .before .before .before .before .before .before .before .loop .inv .1 h) inside _ _ _ _ _ (c .before .before .before .before .before .before .before .with-entry .ensures .0 (gathering.piling h (c .before .before .before .before .before .before .before .before .before .before .before .before .before .before .before .before .loop .inv .1 h) inside)) (c .before .stop .given .1)
 
 gathered-mul-object : (t : ℕ) → gathered-lts.Need-mul-object (
+  signed-reads.Asked,
+  signed-reads.Learnt,
+  is-high-reads.Asked,
+  is-high-reads.Learnt,
   empty-reads.Asked,
   empty-reads.Learnt,
   with-entry-below t,
@@ -1143,9 +1349,13 @@ gathered-mul-object : (t : ℕ) → gathered-lts.Need-mul-object (
   apply-reads.Asked,
   apply-reads.Learnt,
 ) (gathered-at t) gathered.Post gathered-Inv-loop gathered-μ-loop
-gathered-mul-object t c = scaled-fits _ _ _ (row-inside (c .before .before .before .before .before .before .before .before .pre .1 .0 .ready) (c .before .before .before .before .before .before .before .before .args .row) (c .before .before .before .before .before .before .before .before .pre .1 .0 .within)) (c .before .before .before .before .before .before .before .before .good .1 .1 .1 .1 .1 .1 .1 .1 .0 .1)
+gathered-mul-object t c = scaled-fits _ _ _ (row-inside (c .before .before .before .before .before .before .before .before .before .before .before .pre .1 .0 .ready) (c .before .before .before .before .before .before .before .before .before .before .before .args .row) (c .before .before .before .before .before .before .before .before .before .before .before .pre .1 .0 .within)) (c .before .before .before .before .before .before .before .before .before .before .before .good .1 .1 .1 .1 .1 .1 .1 .1 .0 .1)
 
 gathered-index-1-object : (t : ℕ) → gathered-lts.Need-index-1-object (
+  signed-reads.Asked,
+  signed-reads.Learnt,
+  is-high-reads.Asked,
+  is-high-reads.Learnt,
   empty-reads.Asked,
   empty-reads.Learnt,
   with-entry-below t,
@@ -1155,9 +1365,13 @@ gathered-index-1-object : (t : ℕ) → gathered-lts.Need-index-1-object (
   apply-reads.Asked,
   apply-reads.Learnt,
 ) (gathered-at t) gathered.Post gathered-Inv-loop gathered-μ-loop
-gathered-index-1-object t c = row-inside (c .before .before .before .before .before .before .before .before .pre .1 .0 .ready) (c .before .before .before .before .before .before .before .before .args .row) (c .before .before .before .before .before .before .before .before .pre .1 .0 .within)
+gathered-index-1-object t c = row-inside (c .before .before .before .before .before .before .before .before .before .before .before .pre .1 .0 .ready) (c .before .before .before .before .before .before .before .before .before .before .before .args .row) (c .before .before .before .before .before .before .before .before .before .before .before .pre .1 .0 .within)
 
 gathered-index-2-object : (t : ℕ) → gathered-lts.Need-index-2-object (
+  signed-reads.Asked,
+  signed-reads.Learnt,
+  is-high-reads.Asked,
+  is-high-reads.Learnt,
   empty-reads.Asked,
   empty-reads.Learnt,
   with-entry-below t,
@@ -1170,6 +1384,10 @@ gathered-index-2-object : (t : ℕ) → gathered-lts.Need-index-2-object (
 gathered-index-2-object t c = search needs
 
 gathered-mul-first : (t : ℕ) → gathered-lts.Need-mul-first (
+  signed-reads.Asked,
+  signed-reads.Learnt,
+  is-high-reads.Asked,
+  is-high-reads.Learnt,
   empty-reads.Asked,
   empty-reads.Learnt,
   with-entry-below t,
@@ -1179,9 +1397,13 @@ gathered-mul-first : (t : ℕ) → gathered-lts.Need-mul-first (
   apply-reads.Asked,
   apply-reads.Learnt,
 ) (gathered-at t) gathered.Post gathered-Inv-loop gathered-μ-loop
-gathered-mul-first t c = scaled-fits _ _ _ (row-inside (c .before .before .before .before .before .before .before .before .before .pre .1 .0 .ready) (c .before .before .before .before .before .before .before .before .before .args .row) (c .before .before .before .before .before .before .before .before .before .pre .1 .0 .within)) (c .before .before .before .before .before .before .before .before .before .good .1 .1 .1 .1 .1 .1 .1 .1 .0 .1)
+gathered-mul-first t c = scaled-fits _ _ _ (row-inside (c .before .before .before .before .before .before .before .before .before .before .before .before .pre .1 .0 .ready) (c .before .before .before .before .before .before .before .before .before .before .before .before .args .row) (c .before .before .before .before .before .before .before .before .before .before .before .before .pre .1 .0 .within)) (c .before .before .before .before .before .before .before .before .before .before .before .before .good .1 .1 .1 .1 .1 .1 .1 .1 .0 .1)
 
 gathered-index-1-first : (t : ℕ) → gathered-lts.Need-index-1-first (
+  signed-reads.Asked,
+  signed-reads.Learnt,
+  is-high-reads.Asked,
+  is-high-reads.Learnt,
   empty-reads.Asked,
   empty-reads.Learnt,
   with-entry-below t,
@@ -1191,9 +1413,13 @@ gathered-index-1-first : (t : ℕ) → gathered-lts.Need-index-1-first (
   apply-reads.Asked,
   apply-reads.Learnt,
 ) (gathered-at t) gathered.Post gathered-Inv-loop gathered-μ-loop
-gathered-index-1-first t c = row-inside (c .before .before .before .before .before .before .before .before .before .pre .1 .0 .ready) (c .before .before .before .before .before .before .before .before .before .args .row) (c .before .before .before .before .before .before .before .before .before .pre .1 .0 .within)
+gathered-index-1-first t c = row-inside (c .before .before .before .before .before .before .before .before .before .before .before .before .pre .1 .0 .ready) (c .before .before .before .before .before .before .before .before .before .before .before .before .args .row) (c .before .before .before .before .before .before .before .before .before .before .before .before .pre .1 .0 .within)
 
 gathered-index-2-first : (t : ℕ) → gathered-lts.Need-index-2-first (
+  signed-reads.Asked,
+  signed-reads.Learnt,
+  is-high-reads.Asked,
+  is-high-reads.Learnt,
   empty-reads.Asked,
   empty-reads.Learnt,
   with-entry-below t,
@@ -1206,6 +1432,10 @@ gathered-index-2-first : (t : ℕ) → gathered-lts.Need-index-2-first (
 gathered-index-2-first t c = search needs
 
 gathered-grown-requires : (t : ℕ) → gathered-lts.Need-grown-requires (
+  signed-reads.Asked,
+  signed-reads.Learnt,
+  is-high-reads.Asked,
+  is-high-reads.Learnt,
   empty-reads.Asked,
   empty-reads.Learnt,
   with-entry-below t,
@@ -1218,6 +1448,10 @@ gathered-grown-requires : (t : ℕ) → gathered-lts.Need-grown-requires (
 gathered-grown-requires t c κs = search needs
 
 gathered-apply-requires : (t : ℕ) → gathered-lts.Need-apply-requires (
+  signed-reads.Asked,
+  signed-reads.Learnt,
+  is-high-reads.Asked,
+  is-high-reads.Learnt,
   empty-reads.Asked,
   empty-reads.Learnt,
   with-entry-below t,
@@ -1227,9 +1461,13 @@ gathered-apply-requires : (t : ℕ) → gathered-lts.Need-apply-requires (
   apply-reads.Asked,
   apply-reads.Learnt,
 ) (gathered-at t) gathered.Post gathered-Inv-loop gathered-μ-loop
-gathered-apply-requires t c κs = gathering.floats-there (c .before .before .before .before .before .before .before .before .before .before .before .before .pre .1 .0) (c .before .before .before .before .before .loop .inv .1 (c .before .before .before .before .before .before .before .before .before .before .before .before .pre .1 .0))
+gathered-apply-requires t c κs = gathering.floats-there (c .before .before .before .before .before .before .before .before .before .before .before .before .before .before .before .pre .1 .0) (c .before .before .before .before .before .loop .inv .1 (c .before .before .before .before .before .before .before .before .before .before .before .before .before .before .before .pre .1 .0))
 
 gathered-same-length-4 : (t : ℕ) → gathered-lts.Need-same-length-4 (
+  signed-reads.Asked,
+  signed-reads.Learnt,
+  is-high-reads.Asked,
+  is-high-reads.Learnt,
   empty-reads.Asked,
   empty-reads.Learnt,
   with-entry-below t,
@@ -1242,6 +1480,10 @@ gathered-same-length-4 : (t : ℕ) → gathered-lts.Need-same-length-4 (
 gathered-same-length-4 t c = c .before .before .before .before .before .before .before .loop .inv .0 .1
 
 gathered-same-length-5 : (t : ℕ) → gathered-lts.Need-same-length-5 (
+  signed-reads.Asked,
+  signed-reads.Learnt,
+  is-high-reads.Asked,
+  is-high-reads.Learnt,
   empty-reads.Asked,
   empty-reads.Learnt,
   with-entry-below t,
@@ -1254,6 +1496,10 @@ gathered-same-length-5 : (t : ℕ) → gathered-lts.Need-same-length-5 (
 gathered-same-length-5 t c = c .before .before .before .before .before .before .before .loop .inv .0 .2
 
 gathered-same-length-6 : (t : ℕ) → gathered-lts.Need-same-length-6 (
+  signed-reads.Asked,
+  signed-reads.Learnt,
+  is-high-reads.Asked,
+  is-high-reads.Learnt,
   empty-reads.Asked,
   empty-reads.Learnt,
   with-entry-below t,
@@ -1266,6 +1512,10 @@ gathered-same-length-6 : (t : ℕ) → gathered-lts.Need-same-length-6 (
 gathered-same-length-6 t c = c .before .apply .kept .0 ∙ c .before .before .before .before .before .before .before .loop .inv .0 .3
 
 gathered-returns-2 : (t : ℕ) → gathered-lts.Need-returns-2 (
+  signed-reads.Asked,
+  signed-reads.Learnt,
+  is-high-reads.Asked,
+  is-high-reads.Learnt,
   empty-reads.Asked,
   empty-reads.Learnt,
   with-entry-below t,
@@ -1276,8 +1526,9 @@ gathered-returns-2 : (t : ℕ) → gathered-lts.Need-returns-2 (
   apply-reads.Learnt,
 ) (gathered-at t) gathered.Post gathered-Inv-loop gathered-μ-loop
 gathered-returns-2 t c =
-    λ h. let G = c .before .before .before .before .before .before .before .loop .inv .1 h in let all : length ((rowAt (h .ready .world) (c .before .before .before .before .before .before .before .before .before .before .before .before .before .before .args .row)) .entries) ≤ (c .before .before .before .before .before .before .before .loop .k) = omega (arith, c .before .before .before .before .before .before .loop-test .left, h .ready .told .row (c .before .before .before .before .before .before .before .before .before .before .before .before .before .before .args .row) (h .within) .count) in
-    gathering.gathering-applied h G all (c .before .before .before .before .before .before .before .before .before .before .before .before .before .before .pre .1 .1 .1 ∙ gathering.high-is (h .ready) (c .before .before .before .before .before .before .before .before .before .before .before .before .before .before .args .row) (h .within)) _ _ _ (c .before .apply .ensures (h .ready .world) _ (h .ready .sources₀) (h .ready .floats₀) (c .before .before .before .before .before .before .before .before .before .before .before .before .before .before .args .row) _ (c .before .before .before .before .before .before .before .before .before .before .before .before .before .before .args .high) (c .before .before .before .before .before .before .before .before .before .before .before .before .before .before .args .operator) (c .before .before .before .before .before .before .before .before .before .before .before .before .before .before .args .found) (G .sofar) _ (h .ready .told .recorded) (gathering.begins h G all refl) (sym (h .ready .told .held .object (c .before .before .before .before .before .before .before .before .before .before .before .before .before .before .args .row) (h .within))) (rw (c .before .before .before .grown .ensures) (G .piled)) (gathering.all-fresh h G all) (gathering.none-recorded h G all) (gathering.all-plain h G all))
+    let id : (c .before .before .before .before .before .before .before .before .before .before .signed .result) ≡ toZ w32 (getD (getD (c .before .before .before .before .before .before .before .before .before .before .before .before .before .before .before .before .before .args .rows .now) (c .before .before .before .before .before .before .before .before .before .before .before .before .before .before .before .before .before .args .row) []) 1 0) = c .before .before .before .before .before .before .before .before .before .before .signed .ensures .0 in
+    λ h. let G = c .before .before .before .before .before .before .before .loop .inv .1 h in let all : length ((rowAt (h .ready .world) (c .before .before .before .before .before .before .before .before .before .before .before .before .before .before .before .before .before .args .row)) .entries) ≤ (c .before .before .before .before .before .before .before .loop .k) = omega (arith, c .before .before .before .before .before .before .loop-test .left, h .ready .told .row (c .before .before .before .before .before .before .before .before .before .before .before .before .before .before .before .before .before .args .row) (h .within) .count) in
+    gathering.gathering-applied h G all (λ x g. c .before .before .before .before .before .before .before .before .before .is-high .ensures x g ∙ ap (λ (b : Bool). applied b (c .before .before .before .before .before .before .before .before .before .before .before .before .before .before .before .before .before .args .operator) x g) (ap (λ (a : ℤ). highIsGood (getDogmaAttribute (bookOf (c .before .before .before .before .before .before .before .before .before .before .before .before .before .before .before .before .before .args .book .now) (c .before .before .before .before .before .before .before .before .before .before .before .before .before .before .before .before .before .args .pairs .now)) a)) (toZ-ofZ (sfits-of (c .before .before .before .before .before .before .before .before .before .before .signed .ok)) ∙ id) ∙ gathering.high-is (h .ready) (c .before .before .before .before .before .before .before .before .before .before .before .before .before .before .before .before .before .args .row) (h .within))) _ _ _ (c .before .apply .ensures (h .ready .world) _ (h .ready .sources₀) (h .ready .floats₀) (c .before .before .before .before .before .before .before .before .before .before .before .before .before .before .before .before .before .args .row) _ (c .before .before .before .before .before .before .before .before .before .is-high .result) (c .before .before .before .before .before .before .before .before .before .before .before .before .before .before .before .before .before .args .operator) (c .before .before .before .before .before .before .before .before .before .before .before .before .before .before .before .before .before .args .found) (G .sofar) _ (h .ready .told .recorded) (gathering.begins h G all refl) (sym (h .ready .told .held .object (c .before .before .before .before .before .before .before .before .before .before .before .before .before .before .before .before .before .args .row) (h .within))) (rw (c .before .before .before .grown .ensures) (G .piled)) (gathering.all-fresh h G all) (gathering.none-recorded h G all) (gathering.all-plain h G all))
 
 limited-returns : (t : ℕ) → limited-lts.Need-returns (
   calculated-value-below t,
@@ -1384,10 +1635,10 @@ limited-returns-3 : (t : ℕ) → limited-lts.Need-returns-3 (
 limited-returns-3 t c = λ h. rw (c .held-to .ensures) (limiting.limit-held _ _ _ _ _ _ (c .before .before .before .before .before .before .before .before .before .before .before .before .before .before .before .before .before .args .object) _ (c .before .before .before .before .before .before .before .before .before .before .before .before .before .before .before .before .before .args .least) (c .before .before .before .before .before .before .before .before .before .before .before .before .before .before .before .before .before .args .limit) (c .before .before .before .before .before .before .before .before .before .before .before .before .before .before .before .before .before .args .v) _ (tested-apart {w = w32} (c .before .before .before .before .before .before .before .before .before .before .before .before .before .before .before .before .before .args .limit) (pos 0) (c .before .before .before .before .before .before .before .before .before .before .before .before .before .before .before .before .before .fits .limit) (search needs) (c .before .before .before .before .before .before .before .before .before .before .before .before .if1 .left)) _ _ (c .before .before .before .before .before .before .before .before .before .before .before .before .before .before .before .before .before .pre .1 .1 .1) (rw (toZ-ofZ (c .before .before .before .before .before .before .before .before .before .before .before .before .before .before .before .before .before .fits .limit), c .before .before .got .given .1) at (c .before .before .before .before .before .before .before .before .calculated-value .ensures h)))
 
 abbrev operated-Inv-loop : operated-lts.InvT-loop
-operated-Inv-loop values₀ sources₀ floats₀ book pairs states stretches limits rows bases entries entry-values run row high left used first end marks value₀ own₀ u₀ code₀ values sources floats value own u code = ((code ≤ 9) × (length values ≡ length values₀) × (length sources ≡ length sources₀) × (length floats ≡ length floats₀)) × ((h : Busy (tables book pairs states stretches limits rows bases entries entry-values) run values₀ sources₀ floats₀ used row 0 operators) → Operating (h .ready .world) (h .ready .sources₀) (h .ready .floats₀) left row (h .ready .mem) code values sources floats value own u)
+operated-Inv-loop values₀ sources₀ floats₀ book pairs states stretches limits rows bases entries entry-values run row left used first end marks value₀ own₀ u₀ code₀ values sources floats value own u code = ((code ≤ 9) × (length values ≡ length values₀) × (length sources ≡ length sources₀) × (length floats ≡ length floats₀)) × ((h : Busy (tables book pairs states stretches limits rows bases entries entry-values) run values₀ sources₀ floats₀ used row 0 operators) → Operating (h .ready .world) (h .ready .sources₀) (h .ready .floats₀) left row (h .ready .mem) code values sources floats value own u)
 
 abbrev operated-μ-loop : operated-lts.MeasureT-loop
-operated-μ-loop values₀ sources₀ floats₀ book pairs states stretches limits rows bases entries entry-values run row high left used first end marks value₀ own₀ u₀ code₀ values sources floats value own u code = 9 - code
+operated-μ-loop values₀ sources₀ floats₀ book pairs states stretches limits rows bases entries entry-values run row left used first end marks value₀ own₀ u₀ code₀ values sources floats value own u code = 9 - code
 
 operated-mul-first : (t : ℕ) → operated-lts.Need-mul-first (
   operators-in-reads.Asked,
@@ -1427,7 +1678,7 @@ operated-cast-first : (t : ℕ) → operated-lts.Need-cast-first (
   gathered-below t,
   gathered.Post,
 ) (operated-at t) operated.Post operated-Inv-loop operated-μ-loop
-operated-cast-first t c = first-fits (c .before .before .before .before .before .pre .1 .0 .ready) (c .before .before .before .before .before .args .row) (c .before .before .before .before .before .pre .1 .0 .within) (c .before .before .before .before .before .good .1 .1 .1 .1 .1 .1 .1 .1 .1 .1 .0 .0)
+operated-cast-first t c = first-fits (c .before .before .before .before .before .pre .1 .ready) (c .before .before .before .before .before .args .row) (c .before .before .before .before .before .pre .1 .within) (c .before .before .before .before .before .good .1 .1 .1 .1 .1 .1 .1 .1 .1 .1 .0 .0)
 
 operated-mul-end : (t : ℕ) → operated-lts.Need-mul-end (
   operators-in-reads.Asked,
@@ -1467,7 +1718,7 @@ operated-cast-end : (t : ℕ) → operated-lts.Need-cast-end (
   gathered-below t,
   gathered.Post,
 ) (operated-at t) operated.Post operated-Inv-loop operated-μ-loop
-operated-cast-end t c = count-fits (c .before .before .before .before .before .before .pre .1 .0 .ready) (c .before .before .before .before .before .before .args .row) (c .before .before .before .before .before .before .pre .1 .0 .within) (c .before .before .before .before .before .before .good .1 .1 .1 .1 .1 .1 .1 .1 .1 .1 .0 .0)
+operated-cast-end t c = count-fits (c .before .before .before .before .before .before .pre .1 .ready) (c .before .before .before .before .before .before .args .row) (c .before .before .before .before .before .before .pre .1 .within) (c .before .before .before .before .before .before .good .1 .1 .1 .1 .1 .1 .1 .1 .1 .1 .0 .0)
 
 operated-add-end : (t : ℕ) → operated-lts.Need-add-end (
   operators-in-reads.Asked,
@@ -1477,7 +1728,7 @@ operated-add-end : (t : ℕ) → operated-lts.Need-add-end (
   gathered-below t,
   gathered.Post,
 ) (operated-at t) operated.Post operated-Inv-loop operated-μ-loop
-operated-add-end t c = end-fits (c .before .before .before .before .before .before .pre .1 .0 .ready) (c .before .before .before .before .before .before .args .row) (c .before .before .before .before .before .before .pre .1 .0 .within) (c .before .before .before .before .before .before .good .1 .1 .1 .1 .1 .1 .1 .1 .1 .1 .0 .0)
+operated-add-end t c = end-fits (c .before .before .before .before .before .before .pre .1 .ready) (c .before .before .before .before .before .before .args .row) (c .before .before .before .before .before .before .pre .1 .within) (c .before .before .before .before .before .before .good .1 .1 .1 .1 .1 .1 .1 .1 .1 .1 .0 .0)
 
 operated-operators-in-requires : (t : ℕ) → operated-lts.Need-operators-in-requires (
   operators-in-reads.Asked,
@@ -1487,7 +1738,7 @@ operated-operators-in-requires : (t : ℕ) → operated-lts.Need-operators-in-re
   gathered-below t,
   gathered.Post,
 ) (operated-at t) operated.Post operated-Inv-loop operated-μ-loop
-operated-operators-in-requires t c κs = operating.end-inside (c .before .before .before .before .before .before .pre .1 .0) refl refl
+operated-operators-in-requires t c κs = operating.end-inside (c .before .before .before .before .before .before .pre .1) refl refl
 
 operated-mul-value : (t : ℕ) → operated-lts.Need-mul-value (
   operators-in-reads.Asked,
@@ -1578,8 +1829,8 @@ operated-gathered-requires : (t : ℕ) → operated-lts.Need-gathered-requires (
   gathered.Post,
 ) (operated-at t) operated.Post operated-Inv-loop operated-μ-loop
 operated-gathered-requires t c κs =
-    let O = c .before .before .before .before .before .before .loop .inv .1 (c .before .before .before .before .before .before .before .before .before .before .before .before .before .before .before .pre .1 .0) in
-    (omega (arith, c .before .before .before .before .before .before .before .before .before .before .before .before .before .before .before .pre .0, falling.operating-falls (c .before .before .before .before .before .before .before .before .before .before .before .before .before .before .before .pre .1 .0) O), (operating.busy-now (c .before .before .before .before .before .before .before .before .before .before .before .before .before .before .before .pre .1 .0) O (c .before .before .before .before .before .loop-test .taken) _ (c .before .before .before .before .operator-of .ensures), (O .number, c .before .before .before .before .before .before .before .before .before .before .before .before .before .before .before .pre .1 .1)))
+    let O = c .before .before .before .before .before .before .loop .inv .1 (c .before .before .before .before .before .before .before .before .before .before .before .before .before .before .before .pre .1) in
+    (omega (arith, c .before .before .before .before .before .before .before .before .before .before .before .before .before .before .before .pre .0, falling.operating-falls (c .before .before .before .before .before .before .before .before .before .before .before .before .before .before .before .pre .1) O), (operating.busy-now (c .before .before .before .before .before .before .before .before .before .before .before .before .before .before .before .pre .1) O (c .before .before .before .before .before .loop-test .taken) _ (c .before .before .before .before .operator-of .ensures), O .number))
 
 operated-enum-known-part : (t : ℕ) → operated-lts.Need-enum-known-part (
   operators-in-reads.Asked,
@@ -1890,300 +2141,128 @@ resisted-returns-4 : (t : ℕ) → resisted-lts.Need-returns-4 (
 resisted-returns-4 t c = λ h i row o. rw (c .before .before .before .before .before .before .before .before .before .before .before .before .before .before .before .resistance .given .1) (limiting.resist-not-finite _ _ _ _ _ _ i row _ (c .before .before .before .before .before .before .before .before .before .before .before .before .before .before .before .before .before .before .before .before .before .args .v) _ _ _ _ (rw (toZ-ofZ (sfits-of (c .before .before .before .before .before .before .before .before .before .before .before .before .before .before .known-told .given .0 .1)), c .before .before .before .before .got .given .1) at (c .before .before .before .before .before .before .before .before .before .before .calculated-value .ensures h)) (sym (c .before .before .product .ensures) ∙ c .enum-told3 .given .1) o)
 
 strength-enum-known-origin : (t : ℕ) → strength-lts.Need-enum-known-origin (
-  find-reads.Asked,
-  find-reads.Learnt,
-  calculate-value-below t,
-  calculate-value.Post,
+  calculated-value-below t,
+  calculated-value.Post,
   resisted-below t,
   resisted.Post,
-  get-dogma-attribute-reads.Asked,
-  get-dogma-attribute-reads.Learnt,
 ) (strength-at t) strength.Post
 strength-enum-known-origin t c = search needs
 
 strength-enum-known-origin-2 : (t : ℕ) → strength-lts.Need-enum-known-origin-2 (
-  find-reads.Asked,
-  find-reads.Learnt,
-  calculate-value-below t,
-  calculate-value.Post,
+  calculated-value-below t,
+  calculated-value.Post,
   resisted-below t,
   resisted.Post,
-  get-dogma-attribute-reads.Asked,
-  get-dogma-attribute-reads.Learnt,
 ) (strength-at t) strength.Post
 strength-enum-known-origin-2 t c = search needs
 
-strength-find-requires : (t : ℕ) → strength-lts.Need-find-requires (
-  find-reads.Asked,
-  find-reads.Learnt,
-  calculate-value-below t,
-  calculate-value.Post,
+strength-calculated-value-requires : (t : ℕ) → strength-lts.Need-calculated-value-requires (
+  calculated-value-below t,
+  calculated-value.Post,
   resisted-below t,
   resisted.Post,
-  get-dogma-attribute-reads.Asked,
-  get-dogma-attribute-reads.Learnt,
 ) (strength-at t) strength.Post
-strength-find-requires t c κs = rw (c .before .origin2 .given .1) at (c .before .before .before .before .before .before .before .pre .1 .1 .sourced)
-
-strength-enum-known-found : (t : ℕ) → strength-lts.Need-enum-known-found (
-  find-reads.Asked,
-  find-reads.Learnt,
-  calculate-value-below t,
-  calculate-value.Post,
-  resisted-below t,
-  resisted.Post,
-  get-dogma-attribute-reads.Asked,
-  get-dogma-attribute-reads.Learnt,
-) (strength-at t) strength.Post
-strength-enum-known-found t c = search needs
-
-strength-calculate-value-requires : (t : ℕ) → strength-lts.Need-calculate-value-requires (
-  find-reads.Asked,
-  find-reads.Learnt,
-  calculate-value-below t,
-  calculate-value.Post,
-  resisted-below t,
-  resisted.Post,
-  get-dogma-attribute-reads.Asked,
-  get-dogma-attribute-reads.Learnt,
-) (strength-at t) strength.Post
-strength-calculate-value-requires t c κs = (omega (arith, c .before .before .before .before .before .before .before .before .before .before .before .before .before .before .pre .0), ((c .before .before .before .before .before .before .before .before .before .before .before .before .before .before .pre .1 .0), finding.found-inside (c .before .before .before .before .before .before .before .before .before .before .before .before .before .before .pre .1 .0) (c .before .before .before .before .before .before .before .before .origin2 .given .0 .1 .0) (c .before .before .before .before .before .before .before .before .origin2 .given .0 .1 .1 .1 .0) _ (rw (toZ-ofZ (sfits-of (c .before .before .before .before .before .before .before .known-told2 .given .1 .1 .1 .0 .1)), c .before .before .before .before .found .given .1) at (c .before .before .before .before .before .before .find .ensures ((c .before .before .before .before .before .before .before .before .before .before .before .before .before .before .pre .1 .0) .world .rows) ((c .before .before .before .before .before .before .before .before .before .before .before .before .before .before .pre .1 .0) .told .held) ((c .before .before .before .before .before .before .before .before .before .before .before .before .before .before .pre .1 .0) .told .stretched)))))
+strength-calculated-value-requires t c κs = (omega (arith, c .before .before .before .before .before .before .before .before .before .before .pre .0), (c .before .before .before .before .before .before .before .before .before .before .pre .1 .0, rw (c .before .before .before .before .origin2 .given .1) at (c .before .before .before .before .before .before .before .before .before .before .pre .1 .1 .sourced)))
 
 strength-enum-known-got : (t : ℕ) → strength-lts.Need-enum-known-got (
-  find-reads.Asked,
-  find-reads.Learnt,
-  calculate-value-below t,
-  calculate-value.Post,
+  calculated-value-below t,
+  calculated-value.Post,
   resisted-below t,
   resisted.Post,
-  get-dogma-attribute-reads.Asked,
-  get-dogma-attribute-reads.Learnt,
 ) (strength-at t) strength.Post
 strength-enum-known-got t c = search needs
 
 strength-enum-told : (t : ℕ) → strength-lts.Need-enum-told (
-  find-reads.Asked,
-  find-reads.Learnt,
-  calculate-value-below t,
-  calculate-value.Post,
+  calculated-value-below t,
+  calculated-value.Post,
   resisted-below t,
   resisted.Post,
-  get-dogma-attribute-reads.Asked,
-  get-dogma-attribute-reads.Learnt,
 ) (strength-at t) strength.Post
 strength-enum-told t c = search needs
 
 strength-same-length : (t : ℕ) → strength-lts.Need-same-length (
-  find-reads.Asked,
-  find-reads.Learnt,
-  calculate-value-below t,
-  calculate-value.Post,
+  calculated-value-below t,
+  calculated-value.Post,
   resisted-below t,
   resisted.Post,
-  get-dogma-attribute-reads.Asked,
-  get-dogma-attribute-reads.Learnt,
 ) (strength-at t) strength.Post
 strength-same-length t c = search needs
 
 strength-same-length-2 : (t : ℕ) → strength-lts.Need-same-length-2 (
-  find-reads.Asked,
-  find-reads.Learnt,
-  calculate-value-below t,
-  calculate-value.Post,
+  calculated-value-below t,
+  calculated-value.Post,
   resisted-below t,
   resisted.Post,
-  get-dogma-attribute-reads.Asked,
-  get-dogma-attribute-reads.Learnt,
 ) (strength-at t) strength.Post
 strength-same-length-2 t c = search needs
 
 strength-same-length-3 : (t : ℕ) → strength-lts.Need-same-length-3 (
-  find-reads.Asked,
-  find-reads.Learnt,
-  calculate-value-below t,
-  calculate-value.Post,
+  calculated-value-below t,
+  calculated-value.Post,
   resisted-below t,
   resisted.Post,
-  get-dogma-attribute-reads.Asked,
-  get-dogma-attribute-reads.Learnt,
 ) (strength-at t) strength.Post
 strength-same-length-3 t c = search needs
 
 strength-returns : (t : ℕ) → strength-lts.Need-returns (
-  find-reads.Asked,
-  find-reads.Learnt,
-  calculate-value-below t,
-  calculate-value.Post,
+  calculated-value-below t,
+  calculated-value.Post,
   resisted-below t,
   resisted.Post,
-  get-dogma-attribute-reads.Asked,
-  get-dogma-attribute-reads.Learnt,
 ) (strength-at t) strength.Post
-strength-returns t c = λ h i row o. limiting.strength-refused _ _ _ _ _ _ i row _ (c .before .before .before .before .before .before .before .before .before .before .before .before .before .before .before .before .before .before .before .before .before .args .e) _ (c .before .before .before .before .before .before .before .before .before .before .before .before .before .before .before .origin2 .given .0 .0) (c .before .before .before .before .before .before .before .before .before .before .before .before .before .before .before .origin2 .given .0 .1 .0) (c .before .before .before .before .before .before .before .before .before .before .before .before .before .before .before .origin2 .given .0 .1 .1 .0) (c .before .before .before .before .before .before .before .before .before .before .before .before .before .before .before .origin2 .given .0 .1 .1 .1 .0) (c .before .before .before .before .before .before .before .before .before .before .before .before .before .before .before .origin2 .given .1) _ _ (c .enum-told .given .1) (finding.found-meets h (c .before .before .before .before .before .before .before .before .before .before .before .before .before .before .before .origin2 .given .0 .1 .0) (c .before .before .before .before .before .before .before .before .before .before .before .before .before .before .before .origin2 .given .0 .1 .1 .1 .0) (c .before .before .before .before .before .before .before .before .before .before .before .before .before .before .before .before .before .before .before .before .before .args .left) _ (rw (toZ-ofZ (sfits-of (c .before .before .before .before .before .before .before .before .before .before .before .before .before .before .known-told2 .given .1 .1 .1 .0 .1)), c .before .before .before .before .before .before .before .before .before .before .before .found .given .1) at (c .before .before .before .before .before .before .before .before .before .before .before .before .before .find .ensures (h .world .rows) (h .told .held) (h .told .stretched))) _ _ _ _ (c .before .before .before .before .before .before .calculate-value .ensures h))
+strength-returns t c = λ h i row o. limiting.strength-refused _ _ _ _ _ _ i row _ (c .before .before .before .before .before .before .before .before .before .before .before .before .before .before .before .before .before .args .e) _ (c .before .before .before .before .before .before .before .before .before .before .before .origin2 .given .0 .0) (c .before .before .before .before .before .before .before .before .before .before .before .origin2 .given .0 .1 .0) (c .before .before .before .before .before .before .before .before .before .before .before .origin2 .given .0 .1 .1 .0) (c .before .before .before .before .before .before .before .before .before .before .before .origin2 .given .0 .1 .1 .1 .0) (c .before .before .before .before .before .before .before .before .before .before .before .origin2 .given .1) _ _ (c .enum-told .given .1) (rw (toZ-ofZ (sfits-of (c .before .before .before .before .before .before .before .before .before .before .known-told2 .given .1 .1 .1 .0 .1))) at (c .before .before .before .before .before .before .calculated-value .ensures h))
 
 strength-resisted-requires : (t : ℕ) → strength-lts.Need-resisted-requires (
-  find-reads.Asked,
-  find-reads.Learnt,
-  calculate-value-below t,
-  calculate-value.Post,
+  calculated-value-below t,
+  calculated-value.Post,
   resisted-below t,
   resisted.Post,
-  get-dogma-attribute-reads.Asked,
-  get-dogma-attribute-reads.Learnt,
 ) (strength-at t) strength.Post
 strength-resisted-requires t c κs =
-    let k = rw (c .before .before .before .before .got .given .1) at (finding.found-meets (c .before .before .before .before .before .before .before .before .before .before .before .before .before .before .before .before .before .before .before .before .before .before .before .before .before .pre .1 .0) (c .before .before .before .before .before .before .before .before .before .before .before .before .before .before .before .before .before .before .before .origin2 .given .0 .1 .0) (c .before .before .before .before .before .before .before .before .before .before .before .before .before .before .before .before .before .before .before .origin2 .given .0 .1 .1 .1 .0) (c .before .before .before .before .before .before .before .before .before .before .before .before .before .before .before .before .before .before .before .before .before .before .before .before .before .args .left) _ (rw (toZ-ofZ (sfits-of (c .before .before .before .before .before .before .before .before .before .before .before .before .before .before .before .before .before .before .known-told2 .given .1 .1 .1 .0 .1)), c .before .before .before .before .before .before .before .before .before .before .before .before .before .before .before .found .given .1) at (c .before .before .before .before .before .before .before .before .before .before .before .before .before .before .before .before .before .find .ensures ((c .before .before .before .before .before .before .before .before .before .before .before .before .before .before .before .before .before .before .before .before .before .before .before .before .before .pre .1 .0) .world .rows) ((c .before .before .before .before .before .before .before .before .before .before .before .before .before .before .before .before .before .before .before .before .before .before .before .before .before .pre .1 .0) .told .held) ((c .before .before .before .before .before .before .before .before .before .before .before .before .before .before .before .before .before .before .before .before .before .before .before .before .before .pre .1 .0) .told .stretched))) _ _ _ _ (c .before .before .before .before .before .before .before .before .before .before .calculate-value .ensures (c .before .before .before .before .before .before .before .before .before .before .before .before .before .before .before .before .before .before .before .before .before .before .before .before .before .pre .1 .0))) in
-    (omega (arith, c .before .before .before .before .before .before .before .before .before .before .before .before .before .before .before .before .before .before .before .before .before .before .before .before .before .pre .0, falling.read-falls (c .before .before .before .before .before .before .before .before .before .before .before .before .before .before .before .before .before .before .before .before .before .before .before .before .before .pre .1 .0) (c .before .before .before .before .before .before .before .before .before .before .before .before .before .before .before .before .before .before .before .before .before .before .before .before .before .args .left) (c .before .before .before .before .before .before .before .before .before .before .before .before .before .before .before .before .before .before .before .origin2 .given .0 .1 .0) (c .before .before .before .before .before .before .before .before .before .before .before .before .before .before .before .before .before .before .before .origin2 .given .0 .1 .1 .1 .0) (c .before .before .before .before .got .given .0 .0) (c .before .before .before .before .got .given .0 .1 .0) (c .before .before .before .before .before .before .before .before .before .before .calculate-value .last .0) (c .before .before .before .before .before .before .before .before .before .before .calculate-value .last .1 .0) (c .before .before .before .before .before .before .before .before .before .before .calculate-value .last .1 .1 .0) k), (goes-on-from (c .before .before .before .before .before .before .before .before .before .before .before .before .before .before .before .before .before .before .before .before .before .before .before .before .before .pre .1 .0) (valueOf ((c .before .before .before .before .before .before .before .before .before .before .before .before .before .before .before .before .before .before .before .before .before .before .before .before .before .pre .1 .0) .world) (c .before .before .before .before .before .before .before .before .before .before .before .before .before .before .before .before .before .before .before .before .before .before .before .before .before .args .left) (c .before .before .before .before .before .before .before .before .before .before .before .before .before .before .before .before .before .before .before .origin2 .given .0 .1 .0) (c .before .before .before .before .before .before .before .before .before .before .before .before .before .before .before .before .before .before .before .origin2 .given .0 .1 .1 .1 .0) ((c .before .before .before .before .before .before .before .before .before .before .before .before .before .before .before .before .before .before .before .before .before .before .before .before .before .pre .1 .0) .mem)) (c .before .before .before .before .got .given .0 .0) (c .before .before .before .before .got .given .0 .1 .0) (c .before .before .before .before .before .before .before .before .before .before .calculate-value .last .0) (c .before .before .before .before .before .before .before .before .before .before .calculate-value .last .1 .0) (c .before .before .before .before .before .before .before .before .before .before .calculate-value .last .1 .1 .0) k, number-of (c .before .before .before .before .before .before .before .before .before .before .before .before .before .before .before .before .before .before .before .before .before .before .before .before .before .pre .1 .0) (valueOf ((c .before .before .before .before .before .before .before .before .before .before .before .before .before .before .before .before .before .before .before .before .before .before .before .before .before .pre .1 .0) .world) (c .before .before .before .before .before .before .before .before .before .before .before .before .before .before .before .before .before .before .before .before .before .before .before .before .before .args .left) (c .before .before .before .before .before .before .before .before .before .before .before .before .before .before .before .before .before .before .before .origin2 .given .0 .1 .0) (c .before .before .before .before .before .before .before .before .before .before .before .before .before .before .before .before .before .before .before .origin2 .given .0 .1 .1 .1 .0) ((c .before .before .before .before .before .before .before .before .before .before .before .before .before .before .before .before .before .before .before .before .before .before .before .before .before .pre .1 .0) .mem)) (c .before .before .before .before .got .given .0 .0) (c .before .before .before .before .got .given .0 .1 .0) (c .before .before .before .before .before .before .before .before .before .before .calculate-value .last .0) (c .before .before .before .before .before .before .before .before .before .before .calculate-value .last .1 .0) (c .before .before .before .before .before .before .before .before .before .before .calculate-value .last .1 .1 .0) k))
-
-strength-enum-told-2 : (t : ℕ) → strength-lts.Need-enum-told-2 (
-  find-reads.Asked,
-  find-reads.Learnt,
-  calculate-value-below t,
-  calculate-value.Post,
-  resisted-below t,
-  resisted.Post,
-  get-dogma-attribute-reads.Asked,
-  get-dogma-attribute-reads.Learnt,
-) (strength-at t) strength.Post
-strength-enum-told-2 t c = search needs
-
-strength-get-dogma-attribute-requires : (t : ℕ) → strength-lts.Need-get-dogma-attribute-requires (
-  find-reads.Asked,
-  find-reads.Learnt,
-  calculate-value-below t,
-  calculate-value.Post,
-  resisted-below t,
-  resisted.Post,
-  get-dogma-attribute-reads.Asked,
-  get-dogma-attribute-reads.Learnt,
-) (strength-at t) strength.Post
-strength-get-dogma-attribute-requires t c κs = search needs
-
-strength-resisted-requires-2 : (t : ℕ) → strength-lts.Need-resisted-requires-2 (
-  find-reads.Asked,
-  find-reads.Learnt,
-  calculate-value-below t,
-  calculate-value.Post,
-  resisted-below t,
-  resisted.Post,
-  get-dogma-attribute-reads.Asked,
-  get-dogma-attribute-reads.Learnt,
-) (strength-at t) strength.Post
-strength-resisted-requires-2 t c κs =
-    let k = (finding.absent-meets (c .before .before .before .before .before .before .before .before .before .before .before .before .before .before .pre .1 .0) (c .before .before .before .before .before .before .before .before .origin2 .given .0 .1 .0) (c .before .before .before .before .before .before .before .before .origin2 .given .0 .1 .1 .1 .0) (c .before .before .before .before .before .before .before .before .before .before .before .before .before .before .args .left) (rw (toZ-ofZ (sfits-of (c .before .before .before .before .before .before .before .known-told2 .given .1 .1 .1 .0 .1)), c .before .before .before .before .enum-told2 .given .1) at (c .before .before .before .before .before .before .find .ensures ((c .before .before .before .before .before .before .before .before .before .before .before .before .before .before .pre .1 .0) .world .rows) ((c .before .before .before .before .before .before .before .before .before .before .before .before .before .before .pre .1 .0) .told .held) ((c .before .before .before .before .before .before .before .before .before .before .before .before .before .before .pre .1 .0) .told .stretched))) _ (ap (λ (r : DogmaAttribute). r .«default_value») (rw (toZ-ofZ (sfits-of (c .before .before .before .before .before .before .before .known-told2 .given .1 .1 .1 .0 .1))) at (c .before .before .before .get-dogma-attribute .ensures)))) in
-    (omega (arith, c .before .before .before .before .before .before .before .before .before .before .before .before .before .before .pre .0), (goes-on-from (c .before .before .before .before .before .before .before .before .before .before .before .before .before .before .pre .1 .0) (valueOf ((c .before .before .before .before .before .before .before .before .before .before .before .before .before .before .pre .1 .0) .world) (c .before .before .before .before .before .before .before .before .before .before .before .before .before .before .args .left) (c .before .before .before .before .before .before .before .before .origin2 .given .0 .1 .0) (c .before .before .before .before .before .before .before .before .origin2 .given .0 .1 .1 .1 .0) ((c .before .before .before .before .before .before .before .before .before .before .before .before .before .before .pre .1 .0) .mem)) (c .before .before .before .get-dogma-attribute .result .«default_value») (c .before .before .before .before .before .before .before .before .before .before .before .before .before .before .args .used) (c .before .before .before .before .before .before .before .before .before .before .before .before .before .before .args .values .now) (c .before .before .before .before .before .before .before .before .before .before .before .before .before .before .args .sources .now) (c .before .before .before .before .before .before .before .before .before .before .before .before .before .before .args .floats .now) k, number-of (c .before .before .before .before .before .before .before .before .before .before .before .before .before .before .pre .1 .0) (valueOf ((c .before .before .before .before .before .before .before .before .before .before .before .before .before .before .pre .1 .0) .world) (c .before .before .before .before .before .before .before .before .before .before .before .before .before .before .args .left) (c .before .before .before .before .before .before .before .before .origin2 .given .0 .1 .0) (c .before .before .before .before .before .before .before .before .origin2 .given .0 .1 .1 .1 .0) ((c .before .before .before .before .before .before .before .before .before .before .before .before .before .before .pre .1 .0) .mem)) (c .before .before .before .get-dogma-attribute .result .«default_value») (c .before .before .before .before .before .before .before .before .before .before .before .before .before .before .args .used) (c .before .before .before .before .before .before .before .before .before .before .before .before .before .before .args .values .now) (c .before .before .before .before .before .before .before .before .before .before .before .before .before .before .args .sources .now) (c .before .before .before .before .before .before .before .before .before .before .before .before .before .before .args .floats .now) k))
+    let k = rw (toZ-ofZ (sfits-of (c .before .before .before .before .before .before .before .before .before .before .before .before .before .before .known-told2 .given .1 .1 .1 .0 .1)), c .before .before .before .before .got .given .1) at (c .before .before .before .before .before .before .before .before .before .before .calculated-value .ensures (c .before .before .before .before .before .before .before .before .before .before .before .before .before .before .before .before .before .before .before .before .before .pre .1 .0)) in
+    (omega (arith, c .before .before .before .before .before .before .before .before .before .before .before .before .before .before .before .before .before .before .before .before .before .pre .0, falling.read-falls (c .before .before .before .before .before .before .before .before .before .before .before .before .before .before .before .before .before .before .before .before .before .pre .1 .0) (c .before .before .before .before .before .before .before .before .before .before .before .before .before .before .before .before .before .before .before .before .before .args .left) (c .before .before .before .before .before .before .before .before .before .before .before .before .before .before .before .origin2 .given .0 .1 .0) (c .before .before .before .before .before .before .before .before .before .before .before .before .before .before .before .origin2 .given .0 .1 .1 .1 .0) (c .before .before .before .before .got .given .0 .0) (c .before .before .before .before .got .given .0 .1 .0) (c .before .before .before .before .before .before .before .before .before .before .calculated-value .last .0) (c .before .before .before .before .before .before .before .before .before .before .calculated-value .last .1 .0) (c .before .before .before .before .before .before .before .before .before .before .calculated-value .last .1 .1 .0) k), (goes-on-from (c .before .before .before .before .before .before .before .before .before .before .before .before .before .before .before .before .before .before .before .before .before .pre .1 .0) (valueOf (c .before .before .before .before .before .before .before .before .before .before .before .before .before .before .before .before .before .before .before .before .before .pre .1 .0 .world) (c .before .before .before .before .before .before .before .before .before .before .before .before .before .before .before .before .before .before .before .before .before .args .left) (c .before .before .before .before .before .before .before .before .before .before .before .before .before .before .before .origin2 .given .0 .1 .0) (c .before .before .before .before .before .before .before .before .before .before .before .before .before .before .before .origin2 .given .0 .1 .1 .1 .0) (c .before .before .before .before .before .before .before .before .before .before .before .before .before .before .before .before .before .before .before .before .before .pre .1 .0 .mem)) (c .before .before .before .before .got .given .0 .0) (c .before .before .before .before .got .given .0 .1 .0) (c .before .before .before .before .before .before .before .before .before .before .calculated-value .last .0) (c .before .before .before .before .before .before .before .before .before .before .calculated-value .last .1 .0) (c .before .before .before .before .before .before .before .before .before .before .calculated-value .last .1 .1 .0) k, number-of (c .before .before .before .before .before .before .before .before .before .before .before .before .before .before .before .before .before .before .before .before .before .pre .1 .0) (valueOf (c .before .before .before .before .before .before .before .before .before .before .before .before .before .before .before .before .before .before .before .before .before .pre .1 .0 .world) (c .before .before .before .before .before .before .before .before .before .before .before .before .before .before .before .before .before .before .before .before .before .args .left) (c .before .before .before .before .before .before .before .before .before .before .before .before .before .before .before .origin2 .given .0 .1 .0) (c .before .before .before .before .before .before .before .before .before .before .before .before .before .before .before .origin2 .given .0 .1 .1 .1 .0) (c .before .before .before .before .before .before .before .before .before .before .before .before .before .before .before .before .before .before .before .before .before .pre .1 .0 .mem)) (c .before .before .before .before .got .given .0 .0) (c .before .before .before .before .got .given .0 .1 .0) (c .before .before .before .before .before .before .before .before .before .before .calculated-value .last .0) (c .before .before .before .before .before .before .before .before .before .before .calculated-value .last .1 .0) (c .before .before .before .before .before .before .before .before .before .before .calculated-value .last .1 .1 .0) k))
 
 strength-returns-2 : (t : ℕ) → strength-lts.Need-returns-2 (
-  find-reads.Asked,
-  find-reads.Learnt,
-  calculate-value-below t,
-  calculate-value.Post,
+  calculated-value-below t,
+  calculated-value.Post,
   resisted-below t,
   resisted.Post,
-  get-dogma-attribute-reads.Asked,
-  get-dogma-attribute-reads.Learnt,
 ) (strength-at t) strength.Post
 strength-returns-2 t c = λ h i row o. limiting.buff-strength _ _ _ _ _ _ i row _ (c .before .before .before .before .before .before .before .args .e) _ _ _ (c .before .origin .given .1) (rw (c .before .origin .given .1) at (c .before .before .before .before .before .before .before .pre .1 .1 .valued)) (h .holds)
 
 strength-same-length-4 : (t : ℕ) → strength-lts.Need-same-length-4 (
-  find-reads.Asked,
-  find-reads.Learnt,
-  calculate-value-below t,
-  calculate-value.Post,
+  calculated-value-below t,
+  calculated-value.Post,
   resisted-below t,
   resisted.Post,
-  get-dogma-attribute-reads.Asked,
-  get-dogma-attribute-reads.Learnt,
 ) (strength-at t) strength.Post
 strength-same-length-4 t c = search needs
 
 strength-same-length-5 : (t : ℕ) → strength-lts.Need-same-length-5 (
-  find-reads.Asked,
-  find-reads.Learnt,
-  calculate-value-below t,
-  calculate-value.Post,
+  calculated-value-below t,
+  calculated-value.Post,
   resisted-below t,
   resisted.Post,
-  get-dogma-attribute-reads.Asked,
-  get-dogma-attribute-reads.Learnt,
 ) (strength-at t) strength.Post
 strength-same-length-5 t c = search needs
 
 strength-same-length-6 : (t : ℕ) → strength-lts.Need-same-length-6 (
-  find-reads.Asked,
-  find-reads.Learnt,
-  calculate-value-below t,
-  calculate-value.Post,
+  calculated-value-below t,
+  calculated-value.Post,
   resisted-below t,
   resisted.Post,
-  get-dogma-attribute-reads.Asked,
-  get-dogma-attribute-reads.Learnt,
 ) (strength-at t) strength.Post
 strength-same-length-6 t c = search needs
 
 strength-returns-3 : (t : ℕ) → strength-lts.Need-returns-3 (
-  find-reads.Asked,
-  find-reads.Learnt,
-  calculate-value-below t,
-  calculate-value.Post,
+  calculated-value-below t,
+  calculated-value.Post,
   resisted-below t,
   resisted.Post,
-  get-dogma-attribute-reads.Asked,
-  get-dogma-attribute-reads.Learnt,
 ) (strength-at t) strength.Post
 strength-returns-3 t c =
-    λ h i row o. let k = rw (c .before .before .before .before .before .before .before .before .before .got .given .1) at (finding.found-meets h (c .before .before .before .before .before .before .before .before .before .before .before .before .before .before .before .before .before .before .before .before .before .before .before .before .origin2 .given .0 .1 .0) (c .before .before .before .before .before .before .before .before .before .before .before .before .before .before .before .before .before .before .before .before .before .before .before .before .origin2 .given .0 .1 .1 .1 .0) (c .before .before .before .before .before .before .before .before .before .before .before .before .before .before .before .before .before .before .before .before .before .before .before .before .before .before .before .before .before .before .args .left) _ (rw (toZ-ofZ (sfits-of (c .before .before .before .before .before .before .before .before .before .before .before .before .before .before .before .before .before .before .before .before .before .before .before .known-told2 .given .1 .1 .1 .0 .1)), c .before .before .before .before .before .before .before .before .before .before .before .before .before .before .before .before .before .before .before .before .found .given .1) at (c .before .before .before .before .before .before .before .before .before .before .before .before .before .before .before .before .before .before .before .before .before .before .find .ensures (h .world .rows) (h .told .held) (h .told .stretched))) _ _ _ _ (c .before .before .before .before .before .before .before .before .before .before .before .before .before .before .before .calculate-value .ensures h)) in
-    limiting.strength-resisted (h .world) (h .sources₀) (h .floats₀) (c .before .before .before .before .before .before .before .before .before .before .before .before .before .before .before .calculate-value .last .0) (c .before .before .before .before .before .before .before .before .before .before .before .before .before .before .before .calculate-value .last .1 .0) (c .before .before .before .before .before .before .before .before .before .before .before .before .before .before .before .calculate-value .last .1 .1 .0) i row (valueOf (h .world) (c .before .before .before .before .before .before .before .before .before .before .before .before .before .before .before .before .before .before .before .before .before .before .before .before .before .before .before .before .before .before .args .left)) (c .before .before .before .before .before .before .before .before .before .before .before .before .before .before .before .before .before .before .before .before .before .before .before .before .before .before .before .before .before .before .args .e) (h .mem) (c .before .before .before .before .before .before .before .before .before .before .before .before .before .before .before .before .before .before .before .before .before .before .before .before .origin2 .given .0 .0) (c .before .before .before .before .before .before .before .before .before .before .before .before .before .before .before .before .before .before .before .before .before .before .before .before .origin2 .given .0 .1 .0) (c .before .before .before .before .before .before .before .before .before .before .before .before .before .before .before .before .before .before .before .before .before .before .before .before .origin2 .given .0 .1 .1 .0) (c .before .before .before .before .before .before .before .before .before .before .before .before .before .before .before .before .before .before .before .before .before .before .before .before .origin2 .given .0 .1 .1 .1 .0) (c .before .before .before .before .before .before .before .before .before .before .before .before .before .before .before .before .before .before .before .before .before .before .before .before .origin2 .given .1) (c .before .before .before .before .before .before .before .before .before .got .given .0 .0) (c .before .before .before .before .before .before .before .before .before .got .given .0 .1 .0) k _ _ _ _ (c .before .before .before .before .resisted .ensures (goes-on-from h (valueOf (h .world) (c .before .before .before .before .before .before .before .before .before .before .before .before .before .before .before .before .before .before .before .before .before .before .before .before .before .before .before .before .before .before .args .left) (c .before .before .before .before .before .before .before .before .before .before .before .before .before .before .before .before .before .before .before .before .before .before .before .before .origin2 .given .0 .1 .0) (c .before .before .before .before .before .before .before .before .before .before .before .before .before .before .before .before .before .before .before .before .before .before .before .before .origin2 .given .0 .1 .1 .1 .0) (h .mem)) (c .before .before .before .before .before .before .before .before .before .got .given .0 .0) (c .before .before .before .before .before .before .before .before .before .got .given .0 .1 .0) (c .before .before .before .before .before .before .before .before .before .before .before .before .before .before .before .calculate-value .last .0) (c .before .before .before .before .before .before .before .before .before .before .before .before .before .before .before .calculate-value .last .1 .0) (c .before .before .before .before .before .before .before .before .before .before .before .before .before .before .before .calculate-value .last .1 .1 .0) k) i row o)
-
-strength-same-length-7 : (t : ℕ) → strength-lts.Need-same-length-7 (
-  find-reads.Asked,
-  find-reads.Learnt,
-  calculate-value-below t,
-  calculate-value.Post,
-  resisted-below t,
-  resisted.Post,
-  get-dogma-attribute-reads.Asked,
-  get-dogma-attribute-reads.Learnt,
-) (strength-at t) strength.Post
-strength-same-length-7 t c = search needs
-
-strength-same-length-8 : (t : ℕ) → strength-lts.Need-same-length-8 (
-  find-reads.Asked,
-  find-reads.Learnt,
-  calculate-value-below t,
-  calculate-value.Post,
-  resisted-below t,
-  resisted.Post,
-  get-dogma-attribute-reads.Asked,
-  get-dogma-attribute-reads.Learnt,
-) (strength-at t) strength.Post
-strength-same-length-8 t c = search needs
-
-strength-same-length-9 : (t : ℕ) → strength-lts.Need-same-length-9 (
-  find-reads.Asked,
-  find-reads.Learnt,
-  calculate-value-below t,
-  calculate-value.Post,
-  resisted-below t,
-  resisted.Post,
-  get-dogma-attribute-reads.Asked,
-  get-dogma-attribute-reads.Learnt,
-) (strength-at t) strength.Post
-strength-same-length-9 t c = search needs
-
-strength-returns-4 : (t : ℕ) → strength-lts.Need-returns-4 (
-  find-reads.Asked,
-  find-reads.Learnt,
-  calculate-value-below t,
-  calculate-value.Post,
-  resisted-below t,
-  resisted.Post,
-  get-dogma-attribute-reads.Asked,
-  get-dogma-attribute-reads.Learnt,
-) (strength-at t) strength.Post
-strength-returns-4 t c =
-    λ h i row o. let k = (finding.absent-meets h (c .before .before .before .before .before .before .before .before .before .before .before .before .before .origin2 .given .0 .1 .0) (c .before .before .before .before .before .before .before .before .before .before .before .before .before .origin2 .given .0 .1 .1 .1 .0) (c .before .before .before .before .before .before .before .before .before .before .before .before .before .before .before .before .before .before .before .args .left) (rw (toZ-ofZ (sfits-of (c .before .before .before .before .before .before .before .before .before .before .before .before .known-told2 .given .1 .1 .1 .0 .1)), c .before .before .before .before .before .before .before .before .before .enum-told2 .given .1) at (c .before .before .before .before .before .before .before .before .before .before .before .find .ensures (h .world .rows) (h .told .held) (h .told .stretched))) _ (ap (λ (r : DogmaAttribute). r .«default_value») (rw (toZ-ofZ (sfits-of (c .before .before .before .before .before .before .before .before .before .before .before .before .known-told2 .given .1 .1 .1 .0 .1))) at (c .before .before .before .before .before .before .before .before .get-dogma-attribute .ensures)))) in
-    limiting.strength-resisted (h .world) (h .sources₀) (h .floats₀) (c .before .before .before .before .before .before .before .before .before .before .before .before .before .before .before .before .before .before .before .args .values .now) (c .before .before .before .before .before .before .before .before .before .before .before .before .before .before .before .before .before .before .before .args .sources .now) (c .before .before .before .before .before .before .before .before .before .before .before .before .before .before .before .before .before .before .before .args .floats .now) i row (valueOf (h .world) (c .before .before .before .before .before .before .before .before .before .before .before .before .before .before .before .before .before .before .before .args .left)) (c .before .before .before .before .before .before .before .before .before .before .before .before .before .before .before .before .before .before .before .args .e) (h .mem) (c .before .before .before .before .before .before .before .before .before .before .before .before .before .origin2 .given .0 .0) (c .before .before .before .before .before .before .before .before .before .before .before .before .before .origin2 .given .0 .1 .0) (c .before .before .before .before .before .before .before .before .before .before .before .before .before .origin2 .given .0 .1 .1 .0) (c .before .before .before .before .before .before .before .before .before .before .before .before .before .origin2 .given .0 .1 .1 .1 .0) (c .before .before .before .before .before .before .before .before .before .before .before .before .before .origin2 .given .1) (c .before .before .before .before .before .before .before .before .get-dogma-attribute .result .«default_value») (c .before .before .before .before .before .before .before .before .before .before .before .before .before .before .before .before .before .before .before .args .used) k _ _ _ _ (c .before .before .before .before .resisted2 .ensures (goes-on-from h (valueOf (h .world) (c .before .before .before .before .before .before .before .before .before .before .before .before .before .before .before .before .before .before .before .args .left) (c .before .before .before .before .before .before .before .before .before .before .before .before .before .origin2 .given .0 .1 .0) (c .before .before .before .before .before .before .before .before .before .before .before .before .before .origin2 .given .0 .1 .1 .1 .0) (h .mem)) (c .before .before .before .before .before .before .before .before .get-dogma-attribute .result .«default_value») (c .before .before .before .before .before .before .before .before .before .before .before .before .before .before .before .before .before .before .before .args .used) (c .before .before .before .before .before .before .before .before .before .before .before .before .before .before .before .before .before .before .before .args .values .now) (c .before .before .before .before .before .before .before .before .before .before .before .before .before .before .before .before .before .before .before .args .sources .now) (c .before .before .before .before .before .before .before .before .before .before .before .before .before .before .before .before .before .before .before .args .floats .now) k) i row o)
+    λ h i row o. let k = rw (toZ-ofZ (sfits-of (c .before .before .before .before .before .before .before .before .before .before .before .before .before .before .before .before .before .before .before .known-told2 .given .1 .1 .1 .0 .1)), c .before .before .before .before .before .before .before .before .before .got .given .1) at (c .before .before .before .before .before .before .before .before .before .before .before .before .before .before .before .calculated-value .ensures h) in
+    limiting.strength-resisted (h .world) (h .sources₀) (h .floats₀) (c .before .before .before .before .before .before .before .before .before .before .before .before .before .before .before .calculated-value .last .0) (c .before .before .before .before .before .before .before .before .before .before .before .before .before .before .before .calculated-value .last .1 .0) (c .before .before .before .before .before .before .before .before .before .before .before .before .before .before .before .calculated-value .last .1 .1 .0) i row (valueOf (h .world) (c .before .before .before .before .before .before .before .before .before .before .before .before .before .before .before .before .before .before .before .before .before .before .before .before .before .before .args .left)) (c .before .before .before .before .before .before .before .before .before .before .before .before .before .before .before .before .before .before .before .before .before .before .before .before .before .before .args .e) (h .mem) (c .before .before .before .before .before .before .before .before .before .before .before .before .before .before .before .before .before .before .before .before .origin2 .given .0 .0) (c .before .before .before .before .before .before .before .before .before .before .before .before .before .before .before .before .before .before .before .before .origin2 .given .0 .1 .0) (c .before .before .before .before .before .before .before .before .before .before .before .before .before .before .before .before .before .before .before .before .origin2 .given .0 .1 .1 .0) (c .before .before .before .before .before .before .before .before .before .before .before .before .before .before .before .before .before .before .before .before .origin2 .given .0 .1 .1 .1 .0) (c .before .before .before .before .before .before .before .before .before .before .before .before .before .before .before .before .before .before .before .before .origin2 .given .1) (c .before .before .before .before .before .before .before .before .before .got .given .0 .0) (c .before .before .before .before .before .before .before .before .before .got .given .0 .1 .0) k _ _ _ _ (c .before .before .before .before .resisted .ensures (goes-on-from h (valueOf (h .world) (c .before .before .before .before .before .before .before .before .before .before .before .before .before .before .before .before .before .before .before .before .before .before .before .before .before .before .args .left) (c .before .before .before .before .before .before .before .before .before .before .before .before .before .before .before .before .before .before .before .before .origin2 .given .0 .1 .0) (c .before .before .before .before .before .before .before .before .before .before .before .before .before .before .before .before .before .before .before .before .origin2 .given .0 .1 .1 .1 .0) (h .mem)) (c .before .before .before .before .before .before .before .before .before .got .given .0 .0) (c .before .before .before .before .before .before .before .before .before .got .given .0 .1 .0) (c .before .before .before .before .before .before .before .before .before .before .before .before .before .before .before .calculated-value .last .0) (c .before .before .before .before .before .before .before .before .before .before .before .before .before .before .before .calculated-value .last .1 .0) (c .before .before .before .before .before .before .before .before .before .before .before .before .before .before .before .calculated-value .last .1 .1 .0) k) i row o)
 
 with-entry-mul-at : (t : ℕ) → with-entry-lts.Need-mul-at (
   operator-code-reads.Asked,
@@ -2857,10 +2936,10 @@ pub +calculate-value+calculated-value+evaluated+gathered+limited+operated+resist
       signed-reads.Learnt,
       is-limited-reads.Asked,
       is-limited-reads.Learnt,
-      get-dogma-attribute-reads.Asked,
-      get-dogma-attribute-reads.Learnt,
       operated-below t,
       operated.Post,
+      get-dogma-attribute-reads.Asked,
+      get-dogma-attribute-reads.Learnt,
       limited-below t,
       limited.Post,
     )
@@ -2877,30 +2956,38 @@ pub +calculate-value+calculated-value+evaluated+gathered+limited+operated+resist
     (evaluated-mul-base t)
     (evaluated-shared-slice-read-base t)
     (evaluated-returns t)
-    (evaluated-get-dogma-attribute-requires t)
-    (evaluated-mul-object t)
-    (evaluated-index-1-object t)
-    (evaluated-index-2-object t)
     (evaluated-operated-requires t)
-    (evaluated-enum-known-got t)
-    (evaluated-enum-told t)
     (evaluated-same-length t)
     (evaluated-same-length-2 t)
     (evaluated-same-length-3 t)
     (evaluated-returns-2 t)
-    (evaluated-limited-requires t)
-    (evaluated-enum-known-low t)
-    (evaluated-enum-told-2 t)
+    (evaluated-enum-known-got t)
+    (evaluated-enum-told t)
     (evaluated-same-length-4 t)
     (evaluated-same-length-5 t)
     (evaluated-same-length-6 t)
     (evaluated-returns-3 t)
-    (evaluated-limited-requires-2 t)
+    (evaluated-get-dogma-attribute-requires t)
+    (evaluated-mul-object t)
+    (evaluated-index-1-object t)
+    (evaluated-index-2-object t)
+    (evaluated-limited-requires t)
+    (evaluated-enum-known-low t)
+    (evaluated-enum-told-2 t)
     (evaluated-same-length-7 t)
     (evaluated-same-length-8 t)
     (evaluated-same-length-9 t)
-    (evaluated-returns-4 t))
+    (evaluated-returns-4 t)
+    (evaluated-limited-requires-2 t)
+    (evaluated-same-length-10 t)
+    (evaluated-same-length-11 t)
+    (evaluated-same-length-12 t)
+    (evaluated-returns-5 t))
     (λ t. gathered-lts.spec (
+      signed-reads.Asked,
+      signed-reads.Learnt,
+      is-high-reads.Asked,
+      is-high-reads.Learnt,
       empty-reads.Asked,
       empty-reads.Learnt,
       with-entry-below t,
@@ -2918,6 +3005,11 @@ pub +calculate-value+calculated-value+evaluated+gathered+limited+operated+resist
     (gathered-index-1-count t)
     (gathered-index-2-count t)
     (gathered-cast-count t)
+    (gathered-mul-signed t)
+    (gathered-index-1-signed t)
+    (gathered-index-2-signed t)
+    (gathered-signed-requires t)
+    (gathered-is-high-requires t)
     (gathered-empty-requires t)
     (gathered-loop-holds t)
     (gathered-with-entry-requires t)
@@ -3038,22 +3130,16 @@ pub +calculate-value+calculated-value+evaluated+gathered+limited+operated+resist
     (resisted-same-length-9 t)
     (resisted-returns-4 t))
     (λ t. strength-lts.spec (
-      find-reads.Asked,
-      find-reads.Learnt,
-      calculate-value-below t,
-      calculate-value.Post,
+      calculated-value-below t,
+      calculated-value.Post,
       resisted-below t,
       resisted.Post,
-      get-dogma-attribute-reads.Asked,
-      get-dogma-attribute-reads.Learnt,
     )
     (strength-at t)
     strength.Post
     (strength-enum-known-origin t)
     (strength-enum-known-origin-2 t)
-    (strength-find-requires t)
-    (strength-enum-known-found t)
-    (strength-calculate-value-requires t)
+    (strength-calculated-value-requires t)
     (strength-enum-known-got t)
     (strength-enum-told t)
     (strength-same-length t)
@@ -3061,18 +3147,11 @@ pub +calculate-value+calculated-value+evaluated+gathered+limited+operated+resist
     (strength-same-length-3 t)
     (strength-returns t)
     (strength-resisted-requires t)
-    (strength-enum-told-2 t)
-    (strength-get-dogma-attribute-requires t)
-    (strength-resisted-requires-2 t)
     (strength-returns-2 t)
     (strength-same-length-4 t)
     (strength-same-length-5 t)
     (strength-same-length-6 t)
-    (strength-returns-3 t)
-    (strength-same-length-7 t)
-    (strength-same-length-8 t)
-    (strength-same-length-9 t)
-    (strength-returns-4 t))
+    (strength-returns-3 t))
     λ t. with-entry-lts.spec (
       operator-code-reads.Asked,
       operator-code-reads.Learnt,
