@@ -26,7 +26,7 @@ use Rattle.rules.specs.declared.Item.{Item}
 use Rattle.rules.specs.declared.Effect.{Effect}
 use Rattle.rules.specs.declared.Pass2Effect.{Pass2Effect}
 use Rattle.info.specs.Stands.{numberedAt}
-use Rattle.rows.specs.Tallies.{Tally, idOf, baseOf, tallyNumbers, narrow?, rowKey, hitNumber, hitId, Numbered, tallied, tallyOf, Stretch, Answered}
+use Rattle.rows.specs.Tallies.{Tally, idOf, baseOf, tallyNumbers, narrow?, rowKey, hitNumber, hitId, OfCollected, tallied, tallyOf, Stretch, Answered}
 use Rattle.rows.specs.declared.rows.Laid.{Laid}
 use Rattle.rows.specs.declared.rows.Laid.the-variants.{Rows, Full}
 use Rattle.rows.specs.Entries.{times, rowsFrom, rowCount, started, effectNumber, hitsAt, spreadOver, hitsIn, rowFor, rowsFor, Counted, Spreading}
@@ -74,7 +74,7 @@ module _ (k : Book) (f : Fit) (o : Item) (i : ℕ) (segment c : List (List ℕ))
 
   -- ---- the hits are spread
 
-  module _ (N : Numbered segment c) (spreaded : List (List ℕ)) (s : map effectNumber spreaded ≡ spreadOver c segment ids) where
+  module _ (N : OfCollected segment c) (spreaded : List (List ℕ)) (s : map effectNumber spreaded ≡ spreadOver c segment ids) where
     abbrev below : ℕ → Bool
     below n = ltb n (length c)
 
@@ -99,7 +99,7 @@ module _ (k : Book) (f : Fit) (o : Item) (i : ℕ) (segment c : List (List ℕ))
 
   -- ---- the definition's rows
 
-  module _ {v : List Float} {n : ℕ} (N : Numbered segment c) (es : List Pass2Effect) (E : Effects es c v n) where
+  module _ {v : List Float} {n : ℕ} (N : OfCollected segment c) (es : List Pass2Effect) (E : Effects es c v n) where
     among : (j : ℕ) → j < length segment → hitNumber (getD segment j []) < length es
     among j h = rw (E .count) (N j h)
 
