@@ -29,7 +29,7 @@ use Rattle.rules.specs.declared.Pass2Effect.{Pass2Effect}
 use Rattle.rules.specs.declared.ProjectedBuff.{ProjectedBuff}
 use Rattle.rules.proofs.Verdicts.{objects-good}
 use Rattle.info.specs.Sound.{SoundFit}
-use Rattle.info.specs.Stands.{Pointing, Narrow}
+use Rattle.info.specs.Stands.{Pointing, Narrow, NarrowOrigin, NarrowId}
 use Rattle.info.proofs.Narrow.{signed-narrow, cut-narrow}
 use Rattle.info.proofs.Rows.{pointing}
 use Rattle.info.proofs.Sheets.{numbered, char-inside}
@@ -40,7 +40,7 @@ use Rattle.collect.specs.Takes.{Each, Goes, Member, Caused, Collects, or
 use Rattle.collect.proofs.Taking.{each-weaker, each-at, func-goes, func-of}
 use Rattle.collect.proofs.Pointed.{target-in, source-in}
 use Rattle.collect.proofs.Comes.{each-collects, effect-read, modifier-read, buff-read}
-use Rattle.collect.specs.Bounded.{NarrowOrigin, NarrowOptional, Bounded}
+use Rattle.collect.specs.Bounded.{Bounded}
 
 -- ---- ids
 
@@ -54,11 +54,11 @@ named-narrow : (x : Option BaseAttribute) → SFits w32 (elim x [ none ↦ pos 0
 named-narrow none = zero-narrow
 named-narrow (some r) = cut-narrow (r .value)
 
-unless-narrow : (b : Bool) (a : ℤ) (o : OptionalId) → SFits w32 a → NarrowOptional o → NarrowOptional (cond b o (Given a))
+unless-narrow : (b : Bool) (a : ℤ) (o : OptionalId) → SFits w32 a → NarrowId o → NarrowId (cond b o (Given a))
 unless-narrow true a o h g = g
 unless-narrow false a o h g = h
 
-resistance-narrow : (f : Fit) (o : Item) (e : DogmaEffect) → SFits w32 (e .«resistance_attribute_id») → NarrowOptional (resistanceOf f o e)
+resistance-narrow : (f : Fit) (o : Item) (e : DogmaEffect) → SFits w32 (e .«resistance_attribute_id») → NarrowId (resistanceOf f o e)
 resistance-narrow f o e h =
     unless-narrow (eqZ (named f o) (pos 0)) (named f o) (unlessZero (e .«resistance_attribute_id») Absent) (named-narrow (getBase f o remoteResistance))
     (unless-narrow (eqZ (e .«resistance_attribute_id») (pos 0)) (e .«resistance_attribute_id») Absent h tt)
@@ -105,7 +105,7 @@ module _ (book fit : List ℕ) (pairs : List (List ℕ)) where
   origin-narrow m l (cause.Projected w e c r) h = (effect-narrow e (h .1), modifying-narrow m l)
   origin-narrow m l (cause.Buff b o) h = buff-narrow b h
 
-  met-narrow : (c : Cause) → Caused k f c → NarrowOptional (metBy f c)
+  met-narrow : (c : Cause) → Caused k f c → NarrowId (metBy f c)
   met-narrow (cause.Own w e c) h = tt
   met-narrow (cause.Projected w e c r) h = resistance-narrow f (w .item) e (effect-resistance e (h .1))
   met-narrow (cause.Buff b o) h = tt
@@ -121,7 +121,7 @@ module _ (book fit : List ℕ) (pairs : List (List ℕ)) where
           modifier = func-of Narrow m (func-narrow m l) (h .of);
           attribute = subst (SFits w32) (sym (h .of .attribute)) (modified-narrow m l);
           origin = subst NarrowOrigin (sym (h .of .origin)) (origin-narrow m l (h .cause) (h .caused));
-          resistance = subst NarrowOptional (sym (h .of .resistance)) (met-narrow (h .cause) (h .caused));
+          resistance = subst NarrowId (sym (h .of .resistance)) (met-narrow (h .cause) (h .caused));
         }
 
     pub each-bounded : Each (Bounded (length (fitOf fit pairs .objects))) (moves (bookOf book pairs) (fitOf fit pairs))

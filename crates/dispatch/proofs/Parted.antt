@@ -40,7 +40,8 @@ use Rattle.hits.proofs.Gathering.{inside?, inside-take}
 use Rattle.hits.proofs.Numbering.{arrivals-inside, arrivals-keys, arrivals-listed}
 use Rattle.hits.proofs.Cutting.{parts-length, parts-few, parts-numbered, parts-hits, parts-placed, parts-ended}
 use Rattle.rows.specs.Tallies.{narrow?}
-use Rattle.rows.specs.Entries.{effectAt, Collected, rowFor, rowsFor}
+use Rattle.info.specs.Stands.{effectAt}
+use Rattle.rows.specs.Entries.{Collected, rowFor, rowsFor}
 use Rattle.rows.proofs.Defined.{rows-defined}
 use Rattle.rows.proofs.Bounds.{narrow-fits, fits-narrow}
 use Rattle.rows.specs.Effects.{Effects}

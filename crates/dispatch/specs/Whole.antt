@@ -8,8 +8,8 @@ use lib.ListN.{length, getD}
 use Rattle.rules.specs.Sheet.{Book, Fit}
 use Rattle.rules.specs.Dispatch.{baseKeys, hitKeys, fullAt, rows}
 use Rattle.rules.specs.declared.Pass2Effect.{Pass2Effect}
-use Rattle.info.specs.Stands.{Pointing, Narrow}
-use Rattle.rows.specs.Entries.{effectAt, Collected}
+use Rattle.info.specs.Stands.{Pointing, Narrow, effectAt}
+use Rattle.rows.specs.Entries.{Collected}
 use Rattle.rows.specs.Laying.{entriesOf}
 use Rattle.rows.specs.Parts.{ListsLaid}
 use Rattle.dispatch.specs.declared.Dispatched.{Dispatched}

@@ -19,7 +19,7 @@ use Rattle.rules.specs.Value.{World, Mem, Gathered, ownSources, withCopy, note,
 use Rattle.rules.specs.declared.Source.{Source}
 use Rattle.operate.specs.SoFar.{copiesFrom, withCopies}
 use Rattle.sources.specs.Keeping.{notes, moreOf}
-use Rattle.sources.proofs.Results.{apart, got, bind-same}
+use Rattle.rules.proofs.Results.{apart, got, bind-same}
 use Rattle.sources.proofs.Noting.{note-off, note-full, note-on}
 
 -- one copy, and then others

@@ -17,6 +17,7 @@ use rules::Refusal;
 use rules::Step;
 use sources::Noted;
 use sources::Recording;
+use sources::notes::kept;
 use sources::notes::note;
 use sources::notes::note_penalised;
 use sources::rows::to_source;
@@ -193,13 +194,6 @@ fn with_copies(
     }
 }
 
-// How many copies of a quantity are weighed.
-fn copies_of(quantity: u32) -> u32
-    ensures defined { λ r. ⌜ r ≡ min quantity 8 ⌝ }
-{
-    if quantity < 8 { quantity } else { 8 }
-}
-
 // A penalised entry by its strength, and by x, its simplified value.
 fn add_penalised(
     positives: &mut CopyValues,
@@ -234,7 +228,7 @@ fn add_penalised(
                 p,
                 run.recording,
                 x,
-                copies_of(e.quantity),
+                kept(e.quantity),
             );
             counted(q, own, used)
         }

@@ -18,6 +18,7 @@ use item::locations::is_owner_modifiable;
 use numbers::integers::bits;
 use numbers::integers::cut;
 use numbers::integers::flag;
+use rules::ATTRIBUTE_SKILLS;
 use rules::CHAR;
 use rules::CHARGE;
 use rules::ITEM;
@@ -90,15 +91,25 @@ const NO_SKILL: u64 = 4294967296;
 fn slot_of(id: i32) -> usize
     ensures defined { λ r. ⌜ r ≡ slotOf id ⌝ }
 {
-    match id {
-        182 => 0,
-        183 => 1,
-        184 => 2,
-        1285 => 3,
-        1289 => 4,
-        1290 => 5,
-        _ => 6,
+    if id == ATTRIBUTE_SKILLS[0] {
+        return 0;
     }
+    if id == ATTRIBUTE_SKILLS[1] {
+        return 1;
+    }
+    if id == ATTRIBUTE_SKILLS[2] {
+        return 2;
+    }
+    if id == ATTRIBUTE_SKILLS[3] {
+        return 3;
+    }
+    if id == ATTRIBUTE_SKILLS[4] {
+        return 4;
+    }
+    if id == ATTRIBUTE_SKILLS[5] {
+        return 5;
+    }
+    6
 }
 
 // The skills that object i requires, fixed from base values.

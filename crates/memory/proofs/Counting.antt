@@ -2,25 +2,17 @@
 use Prim.Native.Nat.{_+_}
 use native.Mathlib.Omega.{arith}
 use mathlib.Core.Path.{_≡_}
-use mathlib.Core.Bool.{cond}
 use mathlib.Core.List.{List, [], _∷_, _++_}
-use Rattle.rules.specs.Codes.{sameOperator}
 use Rattle.rules.specs.Value.{World}
 use Rattle.rules.specs.declared.Effect.{Effect}
 use Rattle.rules.specs.declared.EffectOperator.{EffectOperator}
-use Rattle.sources.specs.Planned.{plannedOf, plannedFor, plannedBy}
+use Rattle.sources.specs.Planned.{plannedFor, plannedBy}
 
 module _ (w : World) where
   pub planned-append : (op : EffectOperator) (xs ys : List Effect) → plannedFor w op (xs ++ ys) ≡ plannedFor w op xs + plannedFor w op ys
   planned-append op [] ys = omega arith
   planned-append op (e ∷ xs) ys = let rest = planned-append op xs ys in omega (arith, rest)
 
-  pub planned-one : (op : EffectOperator) (xs : List Effect) (e : Effect) → plannedFor w op (xs ++ (e ∷ [])) ≡ plannedFor w op xs + cond (sameOperator (e .operator) op) (plannedOf w e) 0
-  planned-one op xs e = omega (arith, planned-append op xs (e ∷ []))
-
   pub by-append : (xs ys : List EffectOperator) (es : List Effect) → plannedBy w (xs ++ ys) es ≡ plannedBy w xs es + plannedBy w ys es
   by-append [] ys es = omega arith
   by-append (op ∷ xs) ys es = let rest = by-append xs ys es in omega (arith, rest)
-
-  pub by-one : (xs : List EffectOperator) (op : EffectOperator) (es : List Effect) → plannedBy w (xs ++ (op ∷ [])) es ≡ plannedBy w xs es + plannedFor w op es
-  by-one xs op es = omega (arith, by-append xs (op ∷ []) es)

@@ -27,7 +27,7 @@ use Rattle.operate.specs.Held.{copy}
 use Rattle.sources.specs.Marks.{Waits, Fresh, empty}
 use Rattle.sources.proofs.Marking.{more-fresh, copy-fresh}
 use Rattle.sources.proofs.Noting.{note-off, note-full, note-on}
-use Rattle.sources.proofs.Results.{apart, got}
+use Rattle.rules.proofs.Results.{apart, got}
 use Rattle.gather.specs.Piles.{entered}
 use Rattle.memory.specs.Memory.{valueAt, GrowingReader}
 use Rattle.memory.proofs.Kept.{entered-kept, gather-kept}

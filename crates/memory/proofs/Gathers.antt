@@ -17,7 +17,7 @@ use Rattle.rules.specs.declared.EffectOperator.{EffectOperator}
 use Rattle.rules.specs.declared.Origin.{Origin}
 use Rattle.rules.specs.declared.Origin.the-variants as origin
 use Rattle.sources.specs.Planned.{runsIn}
-use Rattle.sources.proofs.Results.{got, then, bind-same}
+use Rattle.rules.proofs.Results.{got, then, bind-same}
 use Rattle.gather.specs.Piles.{entered}
 use Rattle.memory.specs.Memory.{Grows, GrowingReader}
 use Rattle.memory.specs.Steps.{strengthOf}

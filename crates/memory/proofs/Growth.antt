@@ -30,7 +30,7 @@ use Rattle.rules.specs.declared.Origin.{Origin}
 use Rattle.rules.specs.declared.Origin.the-variants as origin
 use Rattle.rules.specs.declared.Refusal.{Refusal}
 use Rattle.rules.specs.declared.Refusal.the-variants.{Room, Depth}
-use Rattle.sources.proofs.Results.{apart, got, then}
+use Rattle.rules.proofs.Results.{apart, got, then}
 use Rattle.memory.specs.Memory.{valueAt, Grows, GrowsBut, GrowingReader}
 
 -- growing is kept by going on

@@ -25,7 +25,7 @@ use Rattle.rules.specs.declared.Source.{Source}
 use Rattle.operate.specs.Held.{copy}
 use Rattle.sources.specs.Marks.{Waits}
 use Rattle.sources.specs.Planned.{runsIn}
-use Rattle.sources.proofs.Results.{got, then}
+use Rattle.rules.proofs.Results.{got, then}
 use Rattle.gather.specs.Piles.{entered}
 use Rattle.memory.specs.Steps.{strengthOf}
 use Rattle.memory.proofs.Gathers.{from-idle, from-read}

@@ -1,10 +1,10 @@
 -- The operators of a row in their order, one after another.
 use Prim.Native.Nat.{ℕ, _+_, _-_, _≤_, _<_}
 use native.Mathlib.Omega.{arith}
-use mathlib.Core.Path.{_≡_, refl, sym, ap, subst, _∙_}
+use mathlib.Core.Path.{_≡_, refl, sym, ap, _∙_}
 use mathlib.Core.Bool.{Bool, true, false, cond}
 use mathlib.Core.List.{List, [], _∷_, _++_}
-use mathlib.Core.Option.{Option, none, some}
+use mathlib.Core.Option.{some}
 use lib.Dec.{T}
 use lib.Ieee.{Float, nan}
 use lib.ListN.{length, getD, take, drop, take-append-drop}
@@ -22,11 +22,11 @@ use Rattle.operate.proofs.PassedOver.{isOf, operate-none}
 use Rattle.reading.specs.Held.{hasCode, isMarked}
 use Rattle.reading.proofs.Decodes.{mark-left}
 use Rattle.sources.specs.declared.Recording.{Recording}
-use Rattle.sources.specs.Planned.{countsOf, plannedFor, plannedBy, Started, Grown}
+use Rattle.sources.specs.Planned.{countsOf, plannedBy, Started, Grown}
 use Rattle.sources.proofs.Planning.{counts-long, some-none, operate-gives, leaves-started}
 use Rattle.memory.specs.Memory.{valueAt}
 use Rattle.memory.specs.Steps.{rowAt}
-use Rattle.memory.specs.Holding.{Tables, RowTold, Holds, Ready, Busy}
+use Rattle.memory.specs.Holding.{Tables, RowTold, Holds, Busy}
 use Rattle.memory.proofs.Growth.{value-grows, operate-grows}
 use Rattle.memory.proofs.Gathers.{operate-append}
 use Rattle.memory.proofs.Counting.{by-append}
@@ -69,9 +69,6 @@ module _ {t : Tables} {run : Recording} {v₀ : List Float} {s₁ : List (List �
 
   started : Started i m
   started = record { valued = λ e. some-none (sym (h .begun) ∙ e); there = omega (arith, h .within, counts-long w, h .ready .holds .sources i .long) }
-
-  pub base-is : getD (t .bases) i nan ≡ row .base
-  base-is = told .base
 
   pub base-good : T (finite (getD (t .bases) i nan))
   base-good = rw (told .base) (told .number)

@@ -20,13 +20,12 @@ use Rattle.rules.specs.Dispatch.{Row}
 use Rattle.rules.specs.Info.{getDogmaAttribute}
 use Rattle.rules.specs.Value.{World, Mem, Read, Reader, Found, operate, clamped, atLeast, atMost, setValue, calculate, calculatedValue, valueOf, findRow}
 use Rattle.rules.specs.declared.EffectOperator.{EffectOperator}
-use Rattle.rules.specs.declared.Refusal.{Refusal}
 use Rattle.rules.specs.declared.Refusal.the-variants.{Depth}
 use Rattle.reading.specs.Held.{noRow, rowBefore, ascending, RowsHeld, indexOf}
 use Rattle.reading.proofs.Orders.{before-apart}
 use Rattle.reading.proofs.Finds.{found-in}
 use Rattle.operate.proofs.PassedOver.{isOf, operate-none}
-use Rattle.sources.proofs.Results.{bind-same}
+use Rattle.rules.proofs.Results.{bind-same}
 use Rattle.memory.specs.Memory.{valueAt}
 use Rattle.memory.specs.Steps.{evaluation}
 
@@ -99,15 +98,6 @@ module _ (rs : List Row) (o : ℕ) (a : ℤ) where
           subst (λ (n : ℕ). (n < length rs) × (o ≡ getD rs n noRow .object) × (a ≡ getD rs n noRow .id)) h
           (g .within, sym (g .object) ∙ ap (λ (r : Row). r .object) (g .row noRow), sym (g .id) ∙ ap (λ (r : Row). r .id) (g .row noRow))
 
-  pub found-at : {i : ℕ} → some i ≡ indexOf (findRow o a 0 rs) → findRow o a 0 rs ≡ some (record { index = i; row = getD rs i noRow })
-  found-at {i} = by (findRow o a 0 rs) refl
-    where
-      by : (f : Option Found) → findRow o a 0 rs ≡ f → some i ≡ indexOf f → f ≡ some (record { index = i; row = getD rs i noRow })
-      by none p e = let z : _≡_ {A = ℕ} 0 1 = cc in absurd (omega arith)
-      by (some f) p e =
-          let h : f .index ≡ i = cc in
-          ap (λ (r : Row). some (found (f .index) r)) (found-in o a rs f p .row noRow) ∙ ap (λ (n : ℕ). some (found n (getD rs n noRow))) h
-
   pub nowhere : none ≡ indexOf (findRow o a 0 rs) → findRow o a 0 rs ≡ none
   nowhere = by (findRow o a 0 rs)
     where
@@ -147,15 +137,9 @@ module _ (w : World) (read : Reader) (i : ℕ) (row : Row) where
   evaluation-is m = refl
 
   module _ (m : Mem) where
-    pub evaluation-refused : {y : Refusal} → operated m ≡ refused y → evaluation w read i row m ≡ refused y
-    evaluation-refused e = evaluation-is m ∙ ap (λ (x : Res Read). x >>= λ a. raised a >>= lowered) e
-
     module _ {a : Read} (e : operated m ≡ ok a) where
       pub evaluation-operated : evaluation w read i row m ≡ (raised a >>= λ b. lowered b)
       evaluation-operated = evaluation-is m ∙ ap (λ (x : Res Read). x >>= λ a. raised a >>= lowered) e
-
-      pub evaluation-low-refused : {y : Refusal} → raised a ≡ refused y → evaluation w read i row m ≡ refused y
-      evaluation-low-refused h = evaluation-operated ∙ ap (λ (x : Res Read). x >>= lowered) h
 
       pub evaluation-raised : {b : Read} → raised a ≡ ok b → evaluation w read i row m ≡ lowered b
       evaluation-raised h = evaluation-operated ∙ ap (λ (x : Res Read). x >>= lowered) h

@@ -1,2 +1,2 @@
-// The memory of values while they are calculated: what becomes of it is in `apply`, its laws are in proofs/.
+// The memory of values while they are calculated: its laws are in proofs/; what becomes of a pile and of a limit is in `apply`.
 pub mod apply;

@@ -116,10 +116,6 @@ module _ (q : outcome.Rooms) where
 
 -- ---- for who calls: what an answer says
 
-pub done : (r : Res Unit) (ms : List Move) {n p : ℕ} (c : List (List ℕ)) (v : List Float) (l : List (List ℕ)) {c′ : List (List ℕ)} {v′ : List Float} {l′ : List (List ℕ)} → at n p c′ v′ l′ ≡ ended r ms c v l → r ≡ ok tt
-done (ok u) ms c v l e = refl
-done (refused x) ms c v l e = absurd (let z : _≡_ {A = ℕ} 0 1 = cc in omega arith)
-
 pub not-done : (r : Res Unit) (ms : List Move) {x : Refusal} (c : List (List ℕ)) (v : List Float) (l : List (List ℕ)) → stop x ≡ ended r ms c v l → r ≡ refused x
 not-done (ok u) ms c v l e = absurd (let z : _≡_ {A = ℕ} 0 1 = cc in omega arith)
 not-done (refused y) ms c v l e = cc

@@ -11,11 +11,7 @@ use Rattle.rules.specs.declared.Origin.{Origin}
 use Rattle.rules.specs.declared.Origin.the-variants.{Effect, Buff}
 use Rattle.rules.specs.declared.Modifier.{Modifier}
 use Rattle.rules.specs.declared.Modifier.the-variants.{LocationRequiredSkillModifier, LocationGroupModifier, LocationModifier, OwnerRequiredSkillModifier, ItemModifier}
-use Rattle.rules.specs.declared.OptionalId.{OptionalId}
-use Rattle.rules.specs.declared.OptionalId.the-variants.{Absent, Given}
-
-abbrev pair : List ℕ → List ℕ
-pair l = getD l 0 0 ∷ getD l 1 0 ∷ []
+use Rattle.numbers.proofs.Pairs.{pair, optional-pair}
 
 abbrev six : List ℕ → List ℕ
 six l = getD l 0 0 ∷ getD l 1 0 ∷ getD l 2 0 ∷ getD l 3 0 ∷ getD l 4 0 ∷ getD l 5 0 ∷ []
@@ -30,10 +26,6 @@ modifier-pair (LocationGroupModifier g) = refl
 modifier-pair LocationModifier = refl
 modifier-pair (OwnerRequiredSkillModifier s) = refl
 modifier-pair ItemModifier = refl
-
-optional-pair : (o : OptionalId) → pair (optionalNumbers o) ≡ optionalNumbers o
-optional-pair Absent = refl
-optional-pair (Given a) = refl
 
 pub row : (t : Pass2Effect) {xs ms rs : List ℕ} {k a : ℕ} → xs ≡ originNumbers (t .origin) → ms ≡ modifierNumbers (t .modifier) → k ≡ operatorCode (t .operator) → a ≡ bits (t .«target_attribute_id») → rs ≡ optionalNumbers (t .resistance) → six xs ++ pair ms ++ (k ∷ t .«source_quantity» ∷ t .target ∷ a ∷ pair rs) ≡ collectedNumbers t
 row t e f g h i =

@@ -2,7 +2,7 @@
 use Prim.Native.Nat.{ℕ, _≤_}
 use native.Mathlib.Omega.{arith}
 use mathlib.Core.Path.{_≡_, refl, sym, ap, _∙_}
-use mathlib.Core.Bool.{Bool, true, false, _&&_, _||_, not, cond}
+use mathlib.Core.Bool.{Bool, cond}
 use mathlib.Core.List.{List}
 use mathlib.Core.Option.{Option, none, some}
 use borrow.Author.Tests.{eq-eqb, ne-eqb, lt-leb}
@@ -10,7 +10,7 @@ use lib.Dec.{eqb, leb}
 use Rattle.laws.proofs.Bools.{and-false-right}
 use Rattle.item.proofs.Back.{Rest, past-all}
 use Rattle.rules.specs.Sheet.{Fit}
-use Rattle.rules.specs.Collect.{Move, Test, go, over, bad, then, unless, testFunc, testOperation, testDomain, testProjectedDomain}
+use Rattle.rules.specs.Collect.{Move, Test, go, over, bad, then, testFunc, testOperation, testDomain, testProjectedDomain}
 use Rattle.rules.specs.Codes.{operatorAt}
 use Rattle.rules.specs.declared.EffectOperator.{EffectOperator}
 use Rattle.rules.specs.declared.Item.{Item}
@@ -74,10 +74,3 @@ module _ (operation number : ℕ) where
 -- what follows a test whose outcome is known
 pub then-is : {A : Type 0} {t u : Test A} → t ≡ u → (g : A → List Move) → then t g ≡ then u g
 then-is e g = ap (λ t. then t g) e
-
--- a modifier that is passed over; one that is not
-pub unless-yes : {b : Bool} (l : List Move) → b ≡ true → unless b l ≡ unless true l
-unless-yes l e = ap (λ (b : Bool). unless b l) e
-
-pub unless-no : {b : Bool} (l : List Move) → b ≡ false → unless b l ≡ l
-unless-no l e = ap (λ (b : Bool). unless b l) e

@@ -1,6 +1,7 @@
-// What the definition promises: the crate's theorems are in proofs/. A crate has a function.
+// What the definition promises: the crate's theorems are in proofs/.
 ghost use mathlib.Core.Path.{_≡_};
 
+// A crate has a function.
 pub fn nothing() -> u32
     ensures { λ r. ⌜ r ≡ 0 ⌝ }
 {

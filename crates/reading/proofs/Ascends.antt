@@ -1,16 +1,13 @@
--- The definition's rows ascend by object, then attribute; and list 2 holds them.
-use Prim.Native.Nat.{ℕ, zero, suc, _+_, _<_}
-use native.Mathlib.Nat.{not-suc-le-zero, le-of-suc-le-suc}
+-- The definition's rows ascend by object, then attribute.
+use Prim.Native.Nat.{ℕ, suc, _<_}
 use native.Mathlib.Omega.{arith}
-use mathlib.Core.Path.{_≡_, refl, sym, ap, ap₂, _∙_}
+use mathlib.Core.Path.{_≡_, refl, sym, ap₂, _∙_}
 use mathlib.Core.Bool.{Bool, true}
 use mathlib.Core.List.{List, [], _∷_, _++_, map}
 use lib.Dec.{eqb, leb}
 use lib.IntN.{ℤ}
-use lib.ListN.{length, getD, length-map}
+use lib.ListN.{length, length-map}
 use lib.Signed.{ltZ}
-use mir.Syntax.{w32}
-use mir.Val.{SFits}
 use borrow.Author.Tests.{eqb-true, eq-eqb, leb-true, le-leb}
 use Rattle.laws.specs.Lists.{every?, flat, from, ascends}
 use Rattle.laws.proofs.Bools.{and-left, and-right, and-both}
@@ -19,15 +16,12 @@ use Rattle.laws.proofs.Maps.{map-at, map-itself}
 use Rattle.laws.proofs.From.{is-table}
 use Rattle.laws.proofs.Ascending.{ascends-head, ascends-tail}
 use Rattle.laws.proofs.Inserts.{ascends-insertAll}
-use Rattle.rules.specs.Bytes.{bits}
 use Rattle.rules.specs.Sheet.{Book, Fit, basesOf}
 use Rattle.rules.specs.Item.{object, noItem}
 use Rattle.rules.specs.Dispatch.{Row, hitsOn, idsOf, rowOf, rows}
-use Rattle.rules.specs.Columns.{rowsNumbers}
 use Rattle.rules.specs.declared.Item.{Item}
 use Rattle.rules.specs.declared.Pass2Effect.{Pass2Effect}
-use Rattle.rules.specs.declared.Source.{Source}
-use Rattle.reading.specs.Held.{noRow, rowBefore, ascending, RowsHeld}
+use Rattle.reading.specs.Held.{rowBefore, ascending}
 use Rattle.reading.proofs.Orders.{lower, level, tested}
 
 -- s stands behind r
@@ -101,30 +95,3 @@ module _ (k : Book) (f : Fit) (ts : List Pass2Effect) (number : (i : ℕ) → i 
       (every-by (λ o. ascending (map (rowOf k f ts o) (idsOf k f ts o))) (f .objects) noItem (λ i h.
       one-ascends (rowOf k f ts (object f i)) (object f i .number) (λ x. refl) (λ x. refl) (idsOf k f ts (object f i))
       (ascends-insertAll (map (λ n. n .effect .«target_attribute_id») (hitsOn k f ts (object f i))) (map (λ r. r .«attribute_id») (basesOf f (object f i))) (bases i h))))
-
--- ---- in list 2
-
-numbers-long : (rs : List Row) (qs : List (List Source)) (e s : ℕ) → length (rowsNumbers e s rs qs) ≡ length rs
-numbers-long [] qs e s = refl
-numbers-long (r ∷ rs) [] e s = ap suc (numbers-long rs [] (e + length (r .entries)) s)
-numbers-long (r ∷ rs) (q ∷ qs) e s = ap suc (numbers-long rs qs (e + length (r .entries)) (s + length q))
-
-abbrev Stands : List (List ℕ) → List Row → ℕ → Type 0
-Stands c rs i = (getD (getD c i []) 0 0 ≡ getD rs i noRow .object) × (getD (getD c i []) 1 0 ≡ bits (getD rs i noRow .id))
-
-numbers-at : (rs : List Row) (qs : List (List Source)) (e s i : ℕ) → i < length rs → Stands (rowsNumbers e s rs qs) rs i
-numbers-at [] qs e s i h = absurd (not-suc-le-zero h)
-numbers-at (r ∷ rs) [] e s zero h = (refl, refl)
-numbers-at (r ∷ rs) [] e s (suc i) h = numbers-at rs [] (e + length (r .entries)) s i (le-of-suc-le-suc h)
-numbers-at (r ∷ rs) (q ∷ qs) e s zero h = (refl, refl)
-numbers-at (r ∷ rs) (q ∷ qs) e s (suc i) h = numbers-at rs qs (e + length (r .entries)) (s + length q) i (le-of-suc-le-suc h)
-
-pub rows-held : (rs : List Row) (qs : List (List Source)) (e s : ℕ) → ((i : ℕ) → i < length rs → SFits w32 (getD rs i noRow .id)) → ascending rs ≡ true
-    → RowsHeld rs (rowsNumbers e s rs qs)
-rows-held rs qs e s f h = record {
-  long = numbers-long rs qs e s;
-  object = λ i l. numbers-at rs qs e s i l .0;
-  id = λ i l. numbers-at rs qs e s i l .1;
-  narrow = f;
-  ordered = h;
-}

@@ -14,6 +14,7 @@ use mir.Syntax.{w32}
 use mir.Val.{SFits, toZ, ofZ}
 use mir.Facts.{toZ-ofZ}
 use borrow.Author.Tests.{eqb-true, eqb-false, eq-eqb, ne-eqb}
+use Rattle.laws.proofs.Bools.{or-none-right}
 use Rattle.laws.specs.Lists.{some?, span}
 use Rattle.laws.proofs.Scans.{some-step, some-done}
 use Rattle.laws.proofs.Spans.{span-left, span-end}
@@ -28,7 +29,8 @@ use Rattle.rules.specs.declared.Origin.the-variants as origin
 use Rattle.rules.specs.declared.OptionalId.{OptionalId}
 use Rattle.rules.specs.declared.OptionalId.the-variants.{Absent, Given}
 use Rattle.item.proofs.Back.{category-back, operator-back}
-use Rattle.reading.specs.Held.{NarrowOrigin, NarrowId, EntryHeld, isRunning, hasCode, isMarked}
+use Rattle.info.specs.Stands.{NarrowOrigin, NarrowId}
+use Rattle.reading.specs.Held.{EntryHeld, isRunning, hasCode, isMarked}
 
 -- ---- codes
 
@@ -151,17 +153,13 @@ or-there : (a rest : Bool) → a || (true || rest) ≡ true
 or-there true rest = refl
 or-there false rest = refl
 
-or-none : (a : Bool) → a || false ≡ a
-or-none true = refl
-or-none false = refl
-
 -- no mark, as the code tests it
 pub mark-left : (m : List ℕ) (c : ℕ) → getD m c 0 ≡ 0 → isMarked m c ≡ false
 mark-left m c e = ap not (eq-eqb (getD m c 0) 0 e)
 
 module _ (l : List (List ℕ)) (first e i : ℕ) {m : List ℕ} (inside : e ≤ length l) (M : Marks l first e i m) where
   pub marks-all : e ≤ i → (c : ℕ) → c < 9 → isMarked m c ≡ some? (hasCode c) (span first (e - first) l)
-  marks-all h c b = sym (ap (λ (t : Bool). isMarked m c || t) (some-done (hasCode c) (span-end i e l h)) ∙ or-none (isMarked m c)) ∙ M .is c b
+  marks-all h c b = sym (ap (λ (t : Bool). isMarked m c || t) (some-done (hasCode c) (span-end i e l h)) ∙ or-none-right (isMarked m c)) ∙ M .is c b
 
   module _ (h : i < e) {code : ℕ} (is : code ≡ getD (getD l i []) 6 0) where
     abbrev rest : ℕ → Bool

@@ -51,7 +51,7 @@ module _ {c : List (List ℕ)} {o first : ℕ} where
 
 -- ---- all objects
 
-before-most : (p : ℕ) (x : ℤ) (o : ℕ) (a : ℤ) → isBefore p x o a ≡ true → p ≤ o
+pub before-most : (p : ℕ) (x : ℤ) (o : ℕ) (a : ℤ) → isBefore p x o a ≡ true → p ≤ o
 before-most p x o a h = by (eqb p o) refl h
   where
     by : (t : Bool) → eqb p o ≡ t → cond t (ltZ x a) (ltb p o) ≡ true → p ≤ o

@@ -4,14 +4,12 @@ use native.Mathlib.Nat.{add-zero, zero-add, add-suc, not-suc-le-zero}
 use native.Mathlib.Numerals.{add-one}
 use native.Mathlib.Omega.{arith}
 use mathlib.Core.Path.{_≡_, refl, sym, ap, ap₂, _∙_}
-use mathlib.Core.Bool.{Bool, true, false, _||_, cond}
+use mathlib.Core.Bool.{true, _||_}
 use mathlib.Core.List.{List, _++_, append-assoc}
 use mathlib.Core.Logic.{⊎-elim}
 use lib.Dec.{eqb, ltb}
-use lib.IntN.{ℤ}
-use lib.Signed.{ltZ}
 use lib.ListN.{length, getD}
-use borrow.Author.Tests.{eqb-true, ltb-true, ltb-false}
+use borrow.Author.Tests.{ltb-true, ltb-false}
 use Rattle.laws.specs.Lists.{keep, flat, span}
 use Rattle.laws.proofs.Bools.{true-or-false}
 use Rattle.laws.proofs.Keep.{keep-all}
@@ -24,28 +22,22 @@ use Rattle.rules.specs.Item.{object, noItem, isShip, isMode, isChar, isItem, is
 use Rattle.rules.specs.Dispatch.{Row}
 use Rattle.rules.specs.Outcome.{walkOrder}
 use Rattle.rules.specs.declared.Item.{Item}
-use Rattle.reading.specs.Held.{noRow, isBefore, ascending}
+use Rattle.reading.specs.Held.{noRow, ascending}
 use Rattle.reading.proofs.Orders.{ascending-far}
 use Rattle.reading.specs.declared.turns.Turns.{Turns}
 use Rattle.reading.specs.Order.{rowsBelow, projectedEnd, walkedAt, Ordered, owned, TurnsOf}
+use Rattle.reading.proofs.Laying.{before-most}
 use Rattle.reading.proofs.Sorted.{Climbs, below-inside, below-climbs, below-is, keyed-run, span-join}
 use Rattle.reading.proofs.Shifted.{shifted}
 use Rattle.reading.proofs.Objects.{ends, ends-inside, ends-climb, ends-none, ends-ship, ends-char, ends-projected, ends-all, ships, modes, chars, projected, fitted, skills}
 
 -- ---- rows stand by object
 
-before-object : (p : ℕ) (x : ℤ) (o : ℕ) (a : ℤ) → isBefore p x o a ≡ true → p ≤ o
-before-object p x o a h = by (eqb p o) refl h
-  where
-    by : (t : Bool) → eqb p o ≡ t → cond t (ltZ x a) (ltb p o) ≡ true → p ≤ o
-    by true e h = omega (arith, eqb-true p o e)
-    by false e h = omega (arith, ltb-true p o h)
-
 pub objects-climb : (rs : List Row) → ascending rs ≡ true → Climbs (λ r. r .object) rs noRow
 objects-climb rs h i j l m = ⊎-elim (λ e. earlier (ltb-true i j e)) (λ e. same (omega (arith, ltb-false i j e))) (true-or-false (ltb i j))
   where
     earlier : i < j → getD rs i noRow .object ≤ getD rs j noRow .object
-    earlier k = before-object (getD rs i noRow .object) (getD rs i noRow .id) (getD rs j noRow .object) (getD rs j noRow .id) (ascending-far rs noRow h i j k m)
+    earlier k = before-most (getD rs i noRow .object) (getD rs i noRow .id) (getD rs j noRow .object) (getD rs j noRow .id) (ascending-far rs noRow h i j k m)
 
     same : i ≡ j → getD rs i noRow .object ≤ getD rs j noRow .object
     same e = rw e (omega arith)

@@ -21,8 +21,7 @@ use Rattle.rules.specs.Columns.{entryNumbers, originValue}
 use Rattle.rules.specs.declared.Effect.{Effect}
 use Rattle.rules.specs.declared.Origin.{Origin}
 use Rattle.rules.specs.declared.Origin.the-variants as origin
-use Rattle.rules.specs.declared.OptionalId.{OptionalId}
-use Rattle.rules.specs.declared.OptionalId.the-variants.{Absent, Given}
+use Rattle.info.specs.Stands.{NarrowOrigin, NarrowId}
 use Rattle.reading.specs.declared.rows.Found.{Found}
 use Rattle.reading.specs.declared.rows.Found.the-variants.{At, Nothing}
 
@@ -68,15 +67,6 @@ indexOf none = none
 indexOf (some f) = some (f .index)
 
 -- ---- entries
-
--- ids of 32 bits
-abbrev pub NarrowOrigin : Origin → Type 0
-NarrowOrigin (origin.Effect e o c a) = SFits w32 e × SFits w32 a
-NarrowOrigin (origin.Buff b v) = SFits w32 b
-
-abbrev pub NarrowId : OptionalId → Type 0
-NarrowId Absent = Unit {0}
-NarrowId (Given a) = SFits w32 a
 
 -- e stands in list 3 as these numbers and the value beside them
 pub record EntryHeld (e : Effect) (row : List ℕ) (v : Float) : Type 0 where

@@ -37,7 +37,8 @@ ghost use Rattle.laws.specs.Lists.{some?, span};
 ghost use Rattle.rules.specs.Codes.{categoryCode, operatorCode};
 ghost use Rattle.rules.specs.Operate.{hasPenalty};
 ghost use Rattle.rules.specs.Columns.{originNumbers, originValue, optionalNumbers};
-ghost use Rattle.reading.specs.Held.{NarrowOrigin, NarrowId, EntryHeld, Sourced, isRunning, hasCode, isMarked};
+ghost use Rattle.info.specs.Stands.{NarrowOrigin, NarrowId};
+ghost use Rattle.reading.specs.Held.{EntryHeld, Sourced, isRunning, hasCode, isMarked};
 
 // What the code of a category stands for; no other number is met.
 fn category_of(code: u32) -> EffectCategory

@@ -29,7 +29,8 @@ use Rattle.rules.specs.declared.Modifier.{Modifier}
 use Rattle.rules.specs.declared.Modifier.the-variants.{LocationRequiredSkillModifier, LocationGroupModifier, LocationModifier, OwnerRequiredSkillModifier, ItemModifier}
 use Rattle.info.specs.Stands.{numberedAt}
 use Rattle.rows.specs.Tallies.{Tally, baseOf, tallyNumbers, tallyOf, hitNumber, hitId}
-use Rattle.rows.specs.Entries.{times, rowsFrom, started, hitsAt, spreadOver, effectAt, Collected, hitsIn, rowFor, rowsFor}
+use Rattle.info.specs.Stands.{effectAt}
+use Rattle.rows.specs.Entries.{times, rowsFrom, started, hitsAt, spreadOver, Collected, hitsIn, rowFor, rowsFor}
 
 -- with the definition's hits they are the definition's rows
 pub rows-defined : (k : Book) (f : Fit) (ts : List Pass2Effect) (o : Item) → rowsFor k f o (hitsOn k f ts o) ≡ map (rowOf k f ts o) (idsOf k f ts o)

@@ -9,8 +9,8 @@ use Rattle.rules.specs.Dispatch.{entry}
 use Rattle.rules.specs.Columns.{originValue, entryNumbers}
 use Rattle.rules.specs.declared.Item.{Item}
 use Rattle.rules.specs.declared.Pass2Effect.{Pass2Effect}
-use Rattle.info.specs.Stands.{Pointing, numberedAt}
-use Rattle.rows.specs.Entries.{effectNumber, effectAt, Collected}
+use Rattle.info.specs.Stands.{Pointing, effectAt, numberedAt}
+use Rattle.rows.specs.Entries.{effectNumber, Collected}
 
 -- the columns of list 1 hold these effects and nothing more; their sources are among n objects
 pub record Effects (es : List Pass2Effect) (c : List (List ℕ)) (v : List Float) (n : ℕ) : Type 0 where

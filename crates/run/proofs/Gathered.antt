@@ -17,10 +17,9 @@ use Rattle.rules.specs.Outcome as outcome
 use Rattle.rules.specs.Outcome.{collectedIn}
 use Rattle.info.specs.Sound.{SoundFit}
 use Rattle.info.proofs.Elements.{objects-length}
-use Rattle.info.specs.Stands.{Pointing}
+use Rattle.info.specs.Stands.{Pointing, noEffect}
 use Rattle.modifier.specs.Ran.{at, ended, valueOf}
 use Rattle.collect.proofs.Bounds.{bounded-at, row-points}
-use Rattle.rows.specs.Entries.{noEffect}
 use Rattle.dispatch.specs.Whole.{Collection}
 use Rattle.run.proofs.Steps.{within}
 

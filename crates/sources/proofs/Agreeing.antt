@@ -19,7 +19,8 @@ use Rattle.rules.specs.declared.Effect.{Effect}
 use Rattle.rules.specs.declared.Origin.{Origin}
 use Rattle.rules.specs.declared.Origin.the-variants as origin
 use Rattle.rules.specs.declared.Source.{Source}
-use Rattle.reading.specs.Held.{NarrowOrigin, NarrowId, Sourced, isRunning}
+use Rattle.info.specs.Stands.{NarrowOrigin, NarrowId}
+use Rattle.reading.specs.Held.{Sourced, isRunning}
 use Rattle.sources.specs.Planned.{runsIn, plannedIf, plannedOf, countsOf}
 use Rattle.sources.specs.Ranged.{EntriesHeld, plannedBy}
 use Rattle.sources.specs.Rows.{countsBy, plannedNumbers, entriesOf, DispatchedRows}

@@ -1,4 +1,3 @@
-pub mod Results
 pub mod Showing
 pub mod Noting
 pub mod Copying

@@ -5,7 +5,7 @@ use mathlib.Core.Path.{_≡_, refl, sym, ap, ap₂, subst, _∙_}
 use mathlib.Core.Bool.{Bool, true, false, cond}
 use mathlib.Core.List.{List, [], _∷_, _++_, append-nil, append-assoc}
 use lib.Ieee.{Float}
-use lib.ListN.{length, getD, set, take, drop, length-append, length-set, take-append-drop, List·getD-append}
+use lib.ListN.{length, getD, set, take, drop, length-append, take-append-drop, List·getD-append}
 use lib.Seq.{lt-length-set, getD-set-other, set-getD, getD-append-seam}
 use Rattle.laws.specs.Floats.{zeroF, smaller}
 use Rattle.rules.specs.Number.{weight}
@@ -59,10 +59,6 @@ left-away k (x ∷ xs) ys (away h a) = away h (left-away k xs ys a)
 pub left-fresh : (own : List Source) (xs ys : List Copy) → Fresh own (xs ++ ys) → Fresh own xs
 left-fresh own [] ys f = empty
 left-fresh own (x ∷ xs) ys (fresh h u a f) = fresh h u (left-away (x .source) xs ys a) (left-fresh own xs ys f)
-
-pub right-fresh : (own : List Source) (xs ys : List Copy) → Fresh own (xs ++ ys) → Fresh own ys
-right-fresh own [] ys f = f
-right-fresh own (x ∷ xs) ys (fresh h u a f) = right-fresh own xs ys f
 
 pub take-fresh : (own : List Source) (n : ℕ) (xs : List Copy) → Fresh own xs → Fresh own (take n xs)
 take-fresh own n xs f = left-fresh own (take n xs) (drop n xs) (subst (Fresh own) (sym (take-append-drop n xs)) f)

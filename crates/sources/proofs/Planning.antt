@@ -1,10 +1,10 @@
 -- A row that is calculated and not refused gets the source rows that are planned for it.
-use Prim.Native.Nat.{ℕ, zero, suc, _+_, _-_, _≤_, _<_, min}
+use Prim.Native.Nat.{ℕ, zero, suc, _+_, _-_, _<_, min}
 use native.Mathlib.Omega.{arith}
 use mathlib.Core.Path.{_≡_, refl, sym, ap, subst, _∙_}
 use mathlib.Core.Bool.{Bool, true, false, _&&_, _||_, cond, false≢true}
 use mathlib.Core.List.{List, [], _∷_, _++_, map}
-use mathlib.Core.Logic.{_⊎_, inl, inr}
+use mathlib.Core.Logic.{inl, inr}
 use mathlib.Core.Option.{Option, none, some}
 use borrow.Author.Tests.{ltb-true, ltb-false}
 use lib.Dec.{ltb}
@@ -14,8 +14,9 @@ use lib.ListN.{length, getD, set, length-append, length-map, length-set, List·g
 use lib.Seq.{getD-set-same, getD-set-other}
 use Rattle.laws.specs.Lists.{eqZ}
 use Rattle.laws.specs.Floats.{zeroF}
-use Rattle.laws.proofs.Bools.{true-or-false, or-true-right}
+use Rattle.laws.proofs.Bools.{true-or-false}
 use Rattle.laws.proofs.Flat.{total}
+use Rattle.rules.proofs.Results.{apart as no-answer, got}
 use Rattle.rules.specs.Answer.{Res, ok, refused, _>>=_}
 use Rattle.rules.specs.Codes.{operators, sameOperator}
 use Rattle.rules.specs.Dispatch.{Row}
@@ -31,27 +32,12 @@ use Rattle.rules.specs.declared.Origin.{Origin}
 use Rattle.rules.specs.declared.Origin.the-variants as origin
 use Rattle.rules.specs.declared.OptionalId.{OptionalId}
 use Rattle.rules.specs.declared.OptionalId.the-variants.{Absent, Given}
-use Rattle.rules.specs.declared.Refusal.{Refusal}
 use Rattle.rules.specs.declared.Refusal.the-variants.{Depth}
 use Rattle.rules.specs.declared.Source.{Source}
 use Rattle.sources.specs.Planned.{runsIn, plannedIf, plannedOf, plannedFor, plannedBy, countsOf, Started, Grown, Leaves}
 use Rattle.sources.proofs.Noting.{note-off, note-full, note-on}
 
 -- ---- answers that are no refusals
-
-abbrev passed : {A : Type 0} → Res A → Bool
-passed (ok a) = true
-passed (refused r) = false
-
-abbrev given : {A : Type 0} → A → Res A → A
-given d (ok a) = a
-given d (refused r) = d
-
-not-ok : {A X : Type 0} {r : Refusal} {a : A} → refused r ≡ ok a → X
-not-ok e = absurd (false≢true (ap passed e))
-
-ok-same : {A : Type 0} {a b : A} → ok a ≡ ok b → a ≡ b
-ok-same {a = a} e = ap (given a) e
 
 record Bound {A B : Type 0} (x : Res A) (f : A → Res B) (b : B) : Type 0 where
   val : A
@@ -60,7 +46,7 @@ record Bound {A B : Type 0} (x : Res A) (f : A → Res B) (b : B) : Type 0 where
 
 bound : {A B : Type 0} (x : Res A) (f : A → Res B) (b : B) → (x >>= f) ≡ ok b → Bound x f b
 bound (ok a) f b e = record { val = a; is = refl; next = e }
-bound (refused r) f b e = not-ok e
+bound (refused r) f b e = absurd (no-answer e)
 
 -- ---- source rows more
 
@@ -128,11 +114,11 @@ module _ (w : World) (i : ℕ) (row : Row) (j : ℕ) (gain : ℕ → ℕ) (add :
   noted-grown : (r : Source) (m : Mem) (f : Mem → Gathered) (h : Gathered) → ((x : Mem) → f x .mem ≡ x) → (note w i row r m >>= λ x. ok (f x)) ≡ ok h → Started j m → Grown j m (h .mem) (gain 1)
   noted-grown r m f h k e s =
       let b = bound (note w i row r m) (λ x. ok (f x)) h e in
-      subst (λ (x : Mem). Grown j m x (gain 1)) (sym (k (b .val)) ∙ ap (λ (g : Gathered). g .mem) (ok-same (b .next))) (note-gives r m (b .val) (b .is) s)
+      subst (λ (x : Mem). Grown j m x (gain 1)) (sym (k (b .val)) ∙ ap (λ (g : Gathered). g .mem) (got (b .next))) (note-gives r m (b .val) (b .is) s)
 
   copies-grown : (n : ℕ) (r : Source) (x : Float) (g h : Gathered) → copies w i row n r x g ≡ ok h → Started j (g .mem) → Grown j (g .mem) (h .mem) (gain n)
   unfolding copies
-  copies-grown zero r x g h e s = still s (ap (λ (y : Gathered). y .mem) (ok-same e))
+  copies-grown zero r x g h e s = still s (ap (λ (y : Gathered). y .mem) (got e))
   copies-grown (suc n) r x g h e s =
       let f : Mem → Gathered = λ m. record { mem = m; values = withCopy (lt x zeroF) (record { value = x; source = length (ownSources i (g .mem)) }) (g .values) } in
       let b = bound (note w i row r (g .mem)) (λ m. copies w i row n r x (f m)) h e in
@@ -149,7 +135,7 @@ module _ (w : World) (i : ℕ) (row : Row) (j : ℕ) (gain : ℕ → ℕ) (add :
     where
       rest : (c : Gathered) (k : ℕ) → (elim k [ zero ↦ ok c | suc n ↦ (note w i row (toSource e v true (suc n) true) (c .mem) >>= λ m. ok (record { mem = m; values = c .values })) ]) ≡ ok h
           → Started j (c .mem) → Grown j (c .mem) (h .mem) (gain (min k 1))
-      rest c zero t u = still u (ap (λ (y : Gathered). y .mem) (ok-same t))
+      rest c zero t u = still u (ap (λ (y : Gathered). y .mem) (got t))
       rest c (suc n) t u =
           let only : 1 ≡ min (suc n) 1 = omega arith in
           subst (λ (k : ℕ). Grown j (c .mem) (h .mem) (gain k)) only (noted-grown (toSource e v true (suc n) true) (c .mem) (λ m. record { mem = m; values = c .values }) h (λ y. refl) t u)
@@ -168,11 +154,11 @@ module _ (w : World) (i : ℕ) (row : Row) (j : ℕ) (gain : ℕ → ℕ) (add :
   module _ (read : Reader) (leaves : Leaves j read) where
     resisted-grown : (o : OptionalId) (r s : Read) → resisted w i row read o r ≡ ok s → Started j (r .mem) → Grown j (r .mem) (s .mem) 0
     unfolding resisted
-    resisted-grown Absent r s e u = same u (ap (λ (y : Read). y .mem) (ok-same e))
+    resisted-grown Absent r s e u = same u (ap (λ (y : Read). y .mem) (got e))
     resisted-grown (Given a) r s e u =
         let b = bound (read 0 a (r .mem)) (λ (q : Read). numberAt (row .object) (times (r .value) (q .value)) >>= λ v. ok (record { value = v; mem = q .mem })) s e in
         let c = bound (numberAt (row .object) (times (r .value) (b .val .value))) (λ v. ok (record { value = v; mem = b .val .mem })) s (b .next) in
-        subst (λ (y : Mem). Grown j (r .mem) y 0) (ap (λ (y : Read). y .mem) (ok-same (c .next))) (leaves 0 a (r .mem) (b .val) u (b .is))
+        subst (λ (y : Mem). Grown j (r .mem) y 0) (ap (λ (y : Read). y .mem) (got (c .next))) (leaves 0 a (r .mem) (b .val) u (b .is))
 
     -- one entry
     entry-grown : (e : Effect) (o : Origin) (g h : Gathered) → gatherFrom w i row read e o g ≡ ok h → Started j (g .mem) → Grown j (g .mem) (h .mem) (gain (plannedIf (runsIn w o) e))
@@ -209,12 +195,12 @@ module _ (w : World) (i : ℕ) (row : Row) (j : ℕ) (gain : ℕ → ℕ) (add :
             → Grown j (g .mem) (h .mem) (gain (plannedIf (runsAt c (stateOf w source)) e))
         opened true u p k t = strength t
         opened false true p k t = strength t
-        opened false false p k t = subst (λ (n : ℕ). Grown j (g .mem) (h .mem) n) (sym (off k (plannedIf (runsAt c (stateOf w source)) e))) (same s (ap (λ (y : Gathered). y .mem) (ok-same t)))
+        opened false false p k t = subst (λ (n : ℕ). Grown j (g .mem) (h .mem) n) (sym (off k (plannedIf (runsAt c (stateOf w source)) e))) (same s (ap (λ (y : Gathered). y .mem) (got t)))
 
     -- the entries of one operator
     gather-grown : (op : EffectOperator) (es : List Effect) (g h : Gathered) → gather w i row read op es g ≡ ok h → Started j (g .mem) → Grown j (g .mem) (h .mem) (gain (plannedFor w op es))
     unfolding gather
-    gather-grown op [] g h q s = still s (ap (λ (y : Gathered). y .mem) (ok-same q))
+    gather-grown op [] g h q s = still s (ap (λ (y : Gathered). y .mem) (got q))
     gather-grown op (e ∷ es) g h q s = go (λ c. gather-grown op es c h) (sameOperator (e .operator) op) q
       where
         go : ((c : Gathered) → gather w i row read op es c ≡ ok h → Started j (c .mem) → Grown j (c .mem) (h .mem) (gain (plannedFor w op es))) → (t : Bool)
@@ -236,7 +222,7 @@ module _ (w : World) (i : ℕ) (row : Row) (j : ℕ) (gain : ℕ → ℕ) (add :
     -- the operators in turn
     operate-grown : (ops : List EffectOperator) (a z : Read) → operate w i row read ops a ≡ ok z → Started j (a .mem) → Grown j (a .mem) (z .mem) (gain (plannedBy w ops (row .entries)))
     unfolding operate
-    operate-grown [] a z q s = still s (ap (λ (y : Read). y .mem) (ok-same q))
+    operate-grown [] a z q s = still s (ap (λ (y : Read). y .mem) (got q))
     operate-grown (op ∷ ops) a z q s =
         let start : Gathered = record { mem = a .mem; values = nothing } in
         let worth : Gathered → Res Float = λ g. numberAt (row .object) (applied (highIsGood (getDogmaAttribute (w .book) (row .id))) op (a .value) (g .values)) in
@@ -252,14 +238,14 @@ module _ (w : World) (i : ℕ) (row : Row) (j : ℕ) (gain : ℕ → ℕ) (add :
     clamped-grown o clamp a r z q s = go (eqZ a (pos 0)) q
       where
         go : (t : Bool) → (elim t [ true ↦ ok r | false ↦ (read o a (r .mem) >>= λ x. ok (record { value = clamp (r .value) (x .value); mem = x .mem })) ]) ≡ ok z → Grown j (r .mem) (z .mem) 0
-        go true t = same s (ap (λ (y : Read). y .mem) (ok-same t))
+        go true t = same s (ap (λ (y : Read). y .mem) (got t))
         go false t =
             let b = bound (read o a (r .mem)) (λ x. ok (record { value = clamp (r .value) (x .value); mem = x .mem })) z t in
-            subst (λ (y : Mem). Grown j (r .mem) y 0) (ap (λ (y : Read). y .mem) (ok-same (b .next))) (leaves o a (r .mem) (b .val) s (b .is))
+            subst (λ (y : Mem). Grown j (r .mem) y 0) (ap (λ (y : Read). y .mem) (got (b .next))) (leaves o a (r .mem) (b .val) s (b .is))
 
     -- its value is kept
     finished : {m : Mem} {n : ℕ} (c z : Read) → Grown j m (c .mem) (n + 0 + 0) → ok (record { value = c .value; mem = setValue i (c .value) (c .mem) }) ≡ ok z → Grown j m (z .mem) n
-    finished {m} {n} c z g e = subst (λ (y : Read). Grown j m (y .mem) n) (ok-same e) (both g (value-gives (c .value) (c .mem) (g .started)) (omega arith))
+    finished {m} {n} c z g e = subst (λ (y : Read). Grown j m (y .mem) n) (got e) (both g (value-gives (c .value) (c .mem) (g .started)) (omega arith))
 
     calculate-grown : (m : Mem) (z : Read) → calculate w read i row m ≡ ok z → Started j (setValue i (row .base) m) → Grown j (setValue i (row .base) m) (z .mem) (gain (plannedBy w operators (row .entries)))
     unfolding calculate
@@ -291,10 +277,10 @@ module _ (i j : ℕ) (apart : j ≡ i → ⊥) where
 
   other-note : (w : World) (row : Row) (r : Source) (m m′ : Mem) → note w i row r m ≡ ok m′ → Started j m → Grown j m m′ 0
   other-note w row r m m′ e s = elim (true-or-false (w .recording)) [
-    | inr t ↦ same s (ok-same (sym (note-off w i row r m t) ∙ e))
+    | inr t ↦ same s (got (sym (note-off w i row r m t) ∙ e))
     | inl on ↦ elim (true-or-false (ltb (m .used) (w .room))) [
-      | inr t ↦ not-ok (sym (note-full w i row r m on t) ∙ e)
-      | inl t ↦ subst (λ (x : Mem). Grown j m x 0) (ok-same (sym (note-on w i row r m on t) ∙ e)) (wider (other-own (ownSources i m ++ (r ∷ [])) m s))
+      | inr t ↦ absurd (no-answer (sym (note-full w i row r m on t) ∙ e))
+      | inl t ↦ subst (λ (x : Mem). Grown j m x 0) (got (sym (note-on w i row r m on t) ∙ e)) (wider (other-own (ownSources i m ++ (r ∷ [])) m s))
     ]
   ]
     where
@@ -319,23 +305,23 @@ leaves-started w zero j o a m q s e = found (findRow o a 0 (w .rows)) e
       | none ↦ ok (record { value = getDogmaAttribute (w .book) a .«default_value»; mem = m })
       | some f ↦ elim (getD (m .values) (f .index) none) [ some v ↦ ok (record { value = v; mem = m }) | none ↦ refused (Depth o) ]
     ]) ≡ ok q → Grown j m (q .mem) 0
-    found none t = same s (ap (λ (y : Read). y .mem) (ok-same t))
+    found none t = same s (ap (λ (y : Read). y .mem) (got t))
     found (some f) t = has (getD (m .values) (f .index) none) t
       where
         has : (v : Option Float) → (elim v [ some v ↦ ok (record { value = v; mem = m }) | none ↦ refused (Depth o) ]) ≡ ok q → Grown j m (q .mem) 0
-        has (some v) u = same s (ap (λ (y : Read). y .mem) (ok-same u))
-        has none u = not-ok u
+        has (some v) u = same s (ap (λ (y : Read). y .mem) (got u))
+        has none u = absurd (no-answer u)
 leaves-started w (suc d) j o a m q s e = found (leaves-started w d j) (findRow o a 0 (w .rows)) e
   where
     found : Leaves j (valueOf w d) → (f : Option Found) → (elim f [
       | none ↦ ok (record { value = getDogmaAttribute (w .book) a .«default_value»; mem = m })
       | some f ↦ elim (getD (m .values) (f .index) none) [ some v ↦ ok (record { value = v; mem = m }) | none ↦ calculate w (valueOf w d) (f .index) (f .row) m ]
     ]) ≡ ok q → Grown j m (q .mem) 0
-    found less none t = same s (ap (λ (y : Read). y .mem) (ok-same t))
+    found less none t = same s (ap (λ (y : Read). y .mem) (got t))
     found less (some f) t = has (getD (m .values) (f .index) none) refl t
       where
         has : (v : Option Float) → getD (m .values) (f .index) none ≡ v → (elim v [ some v ↦ ok (record { value = v; mem = m }) | none ↦ calculate w (valueOf w d) (f .index) (f .row) m ]) ≡ ok q → Grown j m (q .mem) 0
-        has (some v) p u = same s (ap (λ (y : Read). y .mem) (ok-same u))
+        has (some v) p u = same s (ap (λ (y : Read). y .mem) (got u))
         has none p u = other-calculated (f .index) j (λ x. s .valued (ap (λ (k : ℕ). getD (m .values) k none) x ∙ p)) w (f .row) (valueOf w d) less m q u s
 
 -- ---- the row itself gets what is planned
@@ -366,24 +352,20 @@ module _ (w : World) (i : ℕ) (row : Row) where
       inside = elim (true-or-false (ltb i (length (m .values)))) [ inl t ↦ ltb-true i (length (m .values)) t | inr t ↦ absurd (s .valued (List·getD-eq-default (m .values) none (ltb-false i (length (m .values)) t))) ]
 
   note-gained : (r : Source) (m m′ : Mem) → note w i row r m ≡ ok m′ → Started i m → Grown i m m′ (gained 1)
-  note-gained r m m′ e s = elim (true-or-false (w .recording)) [ inl t ↦ recorded t | inr t ↦ rw t (same s (ok-same (sym (note-off w i row r m t) ∙ e))) ]
+  note-gained r m m′ e s = elim (true-or-false (w .recording)) [ inl t ↦ recorded t | inr t ↦ rw t (same s (got (sym (note-off w i row r m t) ∙ e))) ]
     where
       fits : w .recording ≡ true → ltb (m .used) (w .room) ≡ true → Grown i m m′ 1
       fits on t =
-          subst (λ (x : Mem). Grown i m x 1) (ok-same (sym (note-on w i row r m on t) ∙ e))
+          subst (λ (x : Mem). Grown i m x 1) (got (sym (note-on w i row r m on t) ∙ e))
           (record {
             started = record { valued = s .valued; there = omega (arith, s .there, length-set (m .sources) i (ownSources i m ++ (r ∷ []))) };
             more = ap length (getD-set-same (m .sources) i (ownSources i m ++ (r ∷ [])) [] (s .there)) ∙ length-append (ownSources i m) (r ∷ []);
           })
 
       recorded : w .recording ≡ true → Grown i m m′ (gained 1)
-      recorded on = rw on (elim (true-or-false (ltb (m .used) (w .room))) [ inl t ↦ fits on t | inr t ↦ not-ok (sym (note-full w i row r m on t) ∙ e) ])
+      recorded on = rw on (elim (true-or-false (ltb (m .used) (w .room))) [ inl t ↦ fits on t | inr t ↦ absurd (no-answer (sym (note-full w i row r m on t) ∙ e)) ])
 
   module _ (read : Reader) (leaves : Leaves i read) where
-    -- one entry
-    pub entry-gives : (e : Effect) (o : Origin) (g h : Gathered) → gatherFrom w i row read e o g ≡ ok h → Started i (g .mem) → Grown i (g .mem) (h .mem) (cond (w .recording) (plannedIf (runsIn w o) e) 0)
-    entry-gives = entry-grown w i row i gained gained-add gained-off note-gained own-gained value-gained read leaves
-
     -- the entries of one operator
     pub gather-gives : (op : EffectOperator) (es : List Effect) (g h : Gathered) → gather w i row read op es g ≡ ok h → Started i (g .mem) → Grown i (g .mem) (h .mem) (cond (w .recording) (plannedFor w op es) 0)
     gather-gives = gather-grown w i row i gained gained-add gained-off note-gained own-gained value-gained read leaves
@@ -391,10 +373,6 @@ module _ (w : World) (i : ℕ) (row : Row) where
     -- some operators in turn
     pub operate-gives : (ops : List EffectOperator) (a z : Read) → operate w i row read ops a ≡ ok z → Started i (a .mem) → Grown i (a .mem) (z .mem) (cond (w .recording) (plannedBy w ops (row .entries)) 0)
     operate-gives = operate-grown w i row i gained gained-add gained-off note-gained own-gained value-gained read leaves
-
-    -- all operators
-    pub operators-give : (a z : Read) → operate w i row read operators a ≡ ok z → Started i (a .mem) → Grown i (a .mem) (z .mem) (cond (w .recording) (total (map (plannedOf w) (row .entries))) 0)
-    operators-give a z q s = subst (λ (n : ℕ). Grown i (a .mem) (z .mem) (gained n)) (planned-all w (row .entries)) (operate-gives operators a z q s)
 
   -- the whole calculation
   pub calculation-gives : (d : ℕ) (m : Mem) (z : Read) → calculate w (valueOf w d) i row m ≡ ok z → i < length (m .values) → i < length (m .sources)

@@ -2,25 +2,16 @@
 use Prim.Native.Nat.{ℕ}
 use mathlib.Core.Path.{_≡_, refl, ap, _∙_}
 use mathlib.Core.List.{List, [], _∷_, _++_}
-use lib.ListN.{getD}
 use Rattle.rules.specs.Columns.{yes1, fromNumbers, optionalNumbers, sourceNumbers}
 use Rattle.rules.specs.Codes.{operatorCode}
 use Rattle.rules.specs.declared.Source.{Source}
 use Rattle.rules.specs.declared.SourceRef.{SourceRef}
 use Rattle.rules.specs.declared.SourceRef.the-variants.{Object, Buff}
-use Rattle.rules.specs.declared.OptionalId.{OptionalId}
-use Rattle.rules.specs.declared.OptionalId.the-variants.{Absent, Given}
-
-abbrev pair : List ℕ → List ℕ
-pair l = getD l 0 0 ∷ getD l 1 0 ∷ []
+use Rattle.numbers.proofs.Pairs.{pair, optional-pair}
 
 from-pair : (s : SourceRef) → pair (fromNumbers s) ≡ fromNumbers s
 from-pair (Object o) = refl
 from-pair (Buff b) = refl
-
-optional-pair : (o : OptionalId) → pair (optionalNumbers o) ≡ optionalNumbers o
-optional-pair Absent = refl
-optional-pair (Given a) = refl
 
 pub row : (s : Source) {a b c : List ℕ} {k p q : ℕ} → a ≡ fromNumbers (s .«from») → b ≡ optionalNumbers (s .«effect_id») → c ≡ optionalNumbers (s .«source_attribute_id»)
     → k ≡ operatorCode (s .operator) → p ≡ yes1 (s .penalised) → q ≡ yes1 (s .applied)

@@ -71,8 +71,8 @@ fn note_copies(
     Noted::At(a, b)
 }
 
-// How many copies of a quantity have a source row of their own.
-fn kept(quantity: u32) -> u32
+// How many copies of a quantity are weighed, and have a source row of their own.
+pub fn kept(quantity: u32) -> u32
     ensures defined { λ r. ⌜ r ≡ min quantity 8 ⌝ }
 {
     if quantity < 8 { quantity } else { 8 }

@@ -27,6 +27,7 @@ use Rattle.sources.proofs.Planning.{calculation-gives, some-none}
 use Rattle.memory.specs.Memory.{valueAt, Grows}
 use Rattle.memory.proofs.Growth.{calculate-grows, value-grows}
 use Rattle.values.specs.Complete.{Long, Clean, Complete, Whole, Keeps}
+use Rattle.values.proofs.PreparedBlankLaws.{own-none}
 use Rattle.values.proofs.Keeps.{note-keeps, calculate-keeps, value-keeps, valued-keeps}
 use Rattle.values.proofs.Starts.{calculated-valued, valued-grows}
 
@@ -116,16 +117,11 @@ module _ (w : World) where
   not-started (r ∷ rs) zero = refl
   not-started (r ∷ rs) (suc i) = not-started rs i
 
-  no-sources : (rs : List Row) (i : ℕ) → ownSources i (blank rs) ≡ []
-  no-sources [] i = refl
-  no-sources (r ∷ rs) zero = refl
-  no-sources (r ∷ rs) (suc i) = no-sources rs i
-
   pub blank-whole : Whole w (blank (w .rows))
   blank-whole =
       record {
         long = record { values = length-map (w .rows) (λ r. none); sources = length-map (w .rows) (λ r. []) };
-        clean = λ i e. no-sources (w .rows) i;
+        clean = λ i e. own-none (w .rows) i;
         complete = λ i v e. absurd (some-none (sym e ∙ not-started (w .rows) i));
       }
 

@@ -6,7 +6,6 @@ use mathlib.Core.Path.{_≡_, refl, _∙_}
 use mathlib.Core.List.{List, [], _∷_, _++_, map}
 use mathlib.Core.Option.{none, some}
 use lib.Ieee.{Float}
-use lib.IntN.{ℤ}
 use lib.ListN.{length, getD, set, length-set, length-append}
 use Rattle.laws.proofs.Flat.{total}
 use Rattle.rules.specs.Answer.{ok}
@@ -18,7 +17,7 @@ use Rattle.rules.specs.declared.Source.{Source}
 use Rattle.reading.specs.Held.{noRow}
 use Rattle.memory.specs.Memory.{valueAt}
 use Rattle.values.specs.Complete.{Long, UsedTotal, Keeps}
-use Rattle.values.proofs.Keeps.{note-keeps, calculate-keeps, value-keeps, valued-keeps}
+use Rattle.values.proofs.Keeps.{note-keeps, calculate-keeps, valued-keeps}
 use Rattle.values.proofs.Completes.{blank-whole}
 
 -- one of the lists is another
@@ -51,9 +50,6 @@ module _ (w : World) where
   starting : (d i : ℕ) → Keeps (Counted w) (valueOf w d) → i < length (w .rows) → (m : Mem) (q : Read) → valueAt m i ≡ none → calculate w (valueOf w d) i (getD (w .rows) i noRow) m ≡ ok q → Counted w m → Counted w (q .mem)
   starting d i less h m q n e k =
       calculate-keeps (Counted w) w i (getD (w .rows) i noRow) (note-counted i h (getD (w .rows) i noRow)) (λ own x l y. own-counted i h own (x .used) x (omega (arith, l)) y) (value-counted i h) (valueOf w d) less m q e k
-
-  pub used-total : (d o : ℕ) (a : ℤ) (m : Mem) (q : Read) → valueOf w d o a m ≡ ok q → Long w m → UsedTotal m → UsedTotal (q .mem)
-  used-total d o a m q e l u = value-keeps (Counted w) w starting d o a m q e (record { long = l; used = u }) .used
 
   pub valued-total : (d : ℕ) (starts : List Ask) (m m′ : Mem) → valued w d starts m ≡ ok m′ → Long w m → UsedTotal m → UsedTotal m′
   valued-total d starts m m′ e l u = valued-keeps (Counted w) w starting d starts m m′ e (record { long = l; used = u }) .used

@@ -27,7 +27,7 @@ use Rattle.reading.specs.Held.{noRow}
 use Rattle.reading.proofs.Finds.{found-in}
 use Rattle.sources.proofs.Noting.{note-off, note-full, note-on}
 use Rattle.sources.proofs.Planning.{marked-length}
-use Rattle.sources.proofs.Results.{apart, got, then}
+use Rattle.rules.proofs.Results.{apart, got, then}
 use Rattle.memory.specs.Memory.{valueAt}
 use Rattle.memory.proofs.Kept.{gather-kept}
 use Rattle.values.specs.Complete.{Keeps}

@@ -3,9 +3,9 @@ use Prim.Native.Nat.{ℕ, suc, _≤_}
 use native.Mathlib.Nat.{not-suc-le-zero, le-of-suc-le-suc}
 use native.Mathlib.Omega.{arith}
 use mathlib.Core.Path.{_≡_, refl, sym, ap, _∙_}
-use mathlib.Core.List.{List, [], _∷_, _++_, map}
+use mathlib.Core.List.{List, [], _∷_, map}
 use mathlib.Core.Option.{Option, some}
-use lib.ListN.{length, getD, take, drop, length-map}
+use lib.ListN.{length, getD, take, length-map}
 use lib.Seq.{take-all}
 use Rattle.laws.specs.Lists.{flat}
 use Rattle.laws.specs.Columns.{laid, Col}
@@ -51,9 +51,6 @@ module _ {A : Type 0} where
 
       shown-laid : shown enc room counts qs c₀ ≡ laid enc (flat (λ x. x) qs) c₀
       shown-laid = let e = lengths-are qs counts l h in ap (λ (ns : List ℕ). shown enc room ns qs c₀) (sym e) ∙ shown-lengths room qs c₀ (rw e t) r
-
-      pub shown-whole : shown enc room counts qs c₀ ≡ map enc (flat (λ x. x) qs) ++ drop (total counts) c₀
-      shown-whole = shown-laid ∙ ap (λ (n : ℕ). map enc (flat (λ x. x) qs) ++ drop n c₀) (sym together)
 
       pub shown-column : {c : List B} → c ≡ shown enc room counts qs c₀ → Col enc (flat (λ x. x) qs) c₀ c
       shown-column e = record { is = e ∙ shown-laid; long = ap length (e ∙ shown-laid) ∙ laid-length enc (flat (λ x. x) qs) c₀ (omega (arith, t, r, together)) }

@@ -1,13 +1,11 @@
 -- Starts valued one after another.
-use Prim.Native.Nat.{ℕ, suc, _+_, _≤_, _<_}
+use Prim.Native.Nat.{ℕ, _+_, _≤_, _<_}
 use native.Mathlib.Omega.{arith}
-use mathlib.Core.Path.{_≡_, refl, sym, ap, subst, _∙_}
-use mathlib.Core.Bool.{true}
+use mathlib.Core.Path.{_≡_, refl, sym, ap, _∙_}
 use mathlib.Core.List.{List, [], _∷_, _++_, map}
 use borrow.Author.Tests.{ltb-true}
 use lib.Dec.{ltb}
 use lib.Ieee.{Float}
-use lib.IntN.{pos}
 use lib.ListN.{length, getD, take, drop, take-append-drop, length-map}
 use lib.Seq.{take-all}
 use Rattle.laws.proofs.Every.{every-at}
@@ -22,14 +20,12 @@ use Rattle.rules.proofs.Verdicts.{asks-good}
 use Rattle.rules.specs.Value.{World, Mem, Read, valueOf}
 use Rattle.rules.specs.declared.Ask.{Ask}
 use Rattle.rules.specs.declared.Refusal.{Refusal}
-use Rattle.info.specs.Sound.{SoundFit, Nth}
-use Rattle.info.proofs.Elements.{asks-length}
+use Rattle.info.specs.Sound.{SoundFit}
 use Rattle.reading.specs.Held.{noRow}
 use Rattle.reading.specs.declared.turns.Turns.{Turns}
 use Rattle.reading.specs.Order.{TurnsOf, walkedAt}
 use Rattle.reading.proofs.Walks.{turns-long, turn-at}
 use Rattle.sources.specs.declared.Recording.{Recording}
-use Rattle.memory.specs.Steps.{rowAt}
 use Rattle.memory.specs.Holding.{Tables, Holds, Ready}
 use Rattle.memory.specs.Answers.{Returns}
 use Rattle.memory.specs.declared.apply.Got.the-variants as got
@@ -39,9 +35,6 @@ use Rattle.values.specs.Complete.{askOf}
 use Rattle.values.specs.Starting.{ValuedAs}
 use Rattle.values.specs.declared.walk.Valued.{Valued}
 use Rattle.values.specs.declared.walk.Valued.the-variants as answer
-
-pub noAsk : Ask
-noAsk = record { object = 0; «attribute_id» = pos 0 }
 
 pub valued-append : (w : World) (d : ℕ) (xs ys : List Ask) (m : Mem) → valued w d (xs ++ ys) m ≡ (valued w d xs m >>= λ n. valued w d ys n)
 unfolding valued

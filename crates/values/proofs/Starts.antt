@@ -14,7 +14,7 @@ use Rattle.rules.specs.Outcome.{valued}
 use Rattle.rules.specs.Value.{World, Mem, Read, Reader, setValue, calculate, valueOf}
 use Rattle.rules.specs.declared.Ask.{Ask}
 use Rattle.reading.specs.Held.{noRow, RowsHeld}
-use Rattle.sources.proofs.Results.{apart, got, then}
+use Rattle.rules.proofs.Results.{apart, got, then}
 use Rattle.memory.specs.Memory.{valueAt, Grows, GrowingReader}
 use Rattle.memory.specs.Steps.{evaluation}
 use Rattle.memory.proofs.Growth.{grows-same, grows-on, calculate-grows, value-grows}

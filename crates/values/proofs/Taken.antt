@@ -14,8 +14,6 @@ use Rattle.rules.specs.Collect.{takenOf, moves}
 use Rattle.rules.specs.Outcome.{collectedIn}
 use Rattle.rules.specs.Columns.{originNumbers, originValue}
 use Rattle.rules.specs.declared.DogmaModifier.{DogmaModifier}
-use Rattle.rules.specs.declared.OptionalId.{OptionalId}
-use Rattle.rules.specs.declared.OptionalId.the-variants.{Absent, Given}
 use Rattle.rules.specs.declared.Origin.{Origin}
 use Rattle.rules.specs.declared.Origin.the-variants as origin
 use Rattle.rules.specs.declared.Pass2Effect.{Pass2Effect}
@@ -31,21 +29,13 @@ use Rattle.collect.specs.Takes.{Member, Caused, Collects, originOf}
 use Rattle.collect.proofs.Taking.{each-at}
 use Rattle.collect.proofs.Comes.{each-collects}
 use Rattle.collect.proofs.Bounds.{bounded-at}
-use Rattle.reading.specs.Held.{NarrowOrigin, NarrowId, Sourced}
+use Rattle.reading.specs.Held.{Sourced}
 use Rattle.values.specs.SoundRows.{AllAre, Fair}
 use Rattle.values.proofs.All.{all-by}
 
 -- a sound fit has at most 1,024 objects
 pub few-objects : (b : List ℕ) (pairs : List (List ℕ)) → SoundFit b pairs → length (fitOf b pairs .objects) ≤ 1024
 few-objects b pairs s = omega (arith, objects-length b pairs, s .held .objects .few)
-
-narrow-origin : (g : Origin) → bounded.NarrowOrigin g → NarrowOrigin g
-narrow-origin (origin.Effect e o c a) h = h
-narrow-origin (origin.Buff b v) h = h
-
-narrow-id : (r : OptionalId) → bounded.NarrowOptional r → NarrowId r
-narrow-id Absent h = tt
-narrow-id (Given a) h = h
 
 source-few : (n : ℕ) (g : Origin) → n ≤ 1024 → getD (originNumbers g) 2 0 < n → Sourced g
 source-few n (origin.Effect e o c a) l h = omega arith
@@ -83,8 +73,8 @@ module _ (book fit : List ℕ) (pairs : List (List ℕ)) (s : SoundFit fit pairs
   fair t b c =
       record {
         attribute = b .attribute;
-        origin = narrow-origin (t .origin) (b .origin);
-        resistance = narrow-id (t .resistance) (b .resistance);
+        origin = b .origin;
+        resistance = b .resistance;
         sourced = source-few (length (f .objects)) (t .origin) (few-objects fit pairs s) (rw (source-at t) at (b .pointing .source));
         valued = collects-finite k f (buffs-good f (s .good)) t c;
       }

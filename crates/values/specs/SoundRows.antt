@@ -12,7 +12,8 @@ use Rattle.rules.specs.Columns.{originValue}
 use Rattle.rules.specs.Dispatch.{Row}
 use Rattle.rules.specs.declared.Effect.{Effect}
 use Rattle.rules.specs.declared.Pass2Effect.{Pass2Effect}
-use Rattle.reading.specs.Held.{NarrowOrigin, NarrowId, Sourced, noRow, ascending}
+use Rattle.info.specs.Stands.{NarrowOrigin, NarrowId}
+use Rattle.reading.specs.Held.{Sourced, noRow, ascending}
 use Rattle.memory.specs.Holding.{Good}
 
 -- what holds of every element

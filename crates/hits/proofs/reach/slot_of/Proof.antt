@@ -1,5 +1,6 @@
 -- Made by `answers` from Proof.answers: edit that file.
 -- `reach::slot_of` meets its contract.
+use borrow.Author.Needs.{needs}
 use Rattle.hits.proofs.reach.slot_of.Statement.{statement}
 use Rattle.hits.proofs.reach.slot_of.Tie as tie
 use mathlib.Core.Path.{refl}
@@ -7,4 +8,18 @@ use Rattle.hits.proofs.Filled.{slot-here, slot-else}
 
 pub slot-of-spec : {M : Type 1} → statement M
 slot-of-spec =
-    tie.close (tie.spec (λ c. slot-here (c .before .args .id) (c .before .fits .id) _ refl (c .match .keys1)) (λ c. slot-here (c .before .args .id) (c .before .fits .id) _ refl (c .match .keys2)) (λ c. slot-here (c .before .args .id) (c .before .fits .id) _ refl (c .match .keys3)) (λ c. slot-here (c .before .args .id) (c .before .fits .id) _ refl (c .match .keys4)) (λ c. slot-here (c .before .args .id) (c .before .fits .id) _ refl (c .match .keys5)) (λ c. slot-here (c .before .args .id) (c .before .fits .id) _ refl (c .match .keys6)) (λ c. slot-else (c .before .args .id) (c .before .fits .id) (c .match .rest .0 .0 .0 .0 .0 .1) (c .match .rest .0 .0 .0 .0 .1) (c .match .rest .0 .0 .0 .1) (c .match .rest .0 .0 .1) (c .match .rest .0 .1) (c .match .rest .1)))
+    tie.close
+    (tie.spec
+    (λ c. search needs)
+    (λ c. slot-here (c .before .before .args .id) (c .before .before .fits .id) _ refl (c .if1 .taken))
+    (λ c. search needs)
+    (λ c. slot-here (c .before .before .before .before .args .id) (c .before .before .before .before .fits .id) _ refl (c .if2 .taken))
+    (λ c. search needs)
+    (λ c. slot-here (c .before .before .before .before .before .before .args .id) (c .before .before .before .before .before .before .fits .id) _ refl (c .if3 .taken))
+    (λ c. search needs)
+    (λ c. slot-here (c .before .before .before .before .before .before .before .before .args .id) (c .before .before .before .before .before .before .before .before .fits .id) _ refl (c .if4 .taken))
+    (λ c. search needs)
+    (λ c. slot-here (c .before .before .before .before .before .before .before .before .before .before .args .id) (c .before .before .before .before .before .before .before .before .before .before .fits .id) _ refl (c .if5 .taken))
+    (λ c. search needs)
+    (λ c. slot-here (c .before .before .before .before .before .before .before .before .before .before .before .before .args .id) (c .before .before .before .before .before .before .before .before .before .before .before .before .fits .id) _ refl (c .if6 .taken))
+    (λ c. slot-else (c .before .before .before .before .before .before .before .before .before .before .before .before .args .id) (c .before .before .before .before .before .before .before .before .before .before .before .before .fits .id) (c .before .before .before .before .before .before .before .before .before .before .if1 .left) (c .before .before .before .before .before .before .before .before .if2 .left) (c .before .before .before .before .before .before .if3 .left) (c .before .before .before .before .if4 .left) (c .before .before .if5 .left) (c .if6 .left)))
