@@ -33,14 +33,13 @@ use Rattle.rules.specs.Dispatch.{Row, Key, sameKey, baseKeys, hitKeys, fullAt, 
 use Rattle.rules.specs.Columns.{rowsNumbers}
 use Rattle.rules.specs.declared.Item.{Item}
 use Rattle.rules.specs.declared.Pass2Effect.{Pass2Effect}
-use Rattle.info.specs.Stands.{numberedAt}
+use Rattle.info.specs.Stands.{effectAt, numberedAt}
 use Rattle.info.proofs.Narrow.{signed-narrow}
 use Rattle.hits.specs.Strikes.{Strike, strike, Listed, Listing, arrivals, effectsOn, keyOf, keyNumbers, Segmented}
 use Rattle.hits.proofs.Gathering.{inside?, inside-take}
 use Rattle.hits.proofs.Numbering.{arrivals-inside, arrivals-keys, arrivals-listed}
 use Rattle.hits.proofs.Cutting.{parts-length, parts-few, parts-numbered, parts-hits, parts-placed, parts-ended}
 use Rattle.rows.specs.Tallies.{narrow?}
-use Rattle.info.specs.Stands.{effectAt}
 use Rattle.rows.specs.Entries.{Collected, rowFor, rowsFor}
 use Rattle.rows.proofs.Defined.{rows-defined}
 use Rattle.rows.proofs.Bounds.{narrow-fits, fits-narrow}

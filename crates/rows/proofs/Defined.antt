@@ -27,9 +27,8 @@ use Rattle.rules.specs.declared.Origin.{Origin}
 use Rattle.rules.specs.declared.Origin.the-variants as origin
 use Rattle.rules.specs.declared.Modifier.{Modifier}
 use Rattle.rules.specs.declared.Modifier.the-variants.{LocationRequiredSkillModifier, LocationGroupModifier, LocationModifier, OwnerRequiredSkillModifier, ItemModifier}
-use Rattle.info.specs.Stands.{numberedAt}
+use Rattle.info.specs.Stands.{effectAt, numberedAt}
 use Rattle.rows.specs.Tallies.{Tally, baseOf, tallyNumbers, tallyOf, hitNumber, hitId}
-use Rattle.info.specs.Stands.{effectAt}
 use Rattle.rows.specs.Entries.{times, rowsFrom, started, hitsAt, spreadOver, Collected, hitsIn, rowFor, rowsFor}
 
 -- with the definition's hits they are the definition's rows
