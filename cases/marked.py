@@ -42,9 +42,9 @@ def attribute(i, flags=0, least=0, most=0):
     return [i, flags, 0.0, least, most]
 
 
-def case_l(depth=2, asks=(), category=1, changes=None):
+def case_l(depth=2, asks=(), category=1, changes=None, unused=0):
     return sheet([attribute(20, 2), attribute(37, 2)], [[1, category, 0, 0, 0, 1]], [changes or modifier(4, 1, 7, 20, 37)], [[9, 1, 0]],
-                 [thing(SHIP, bases=(0, 1)), thing(CHAR), module((1, 1)), module((1, 1))], [[37, 200.0], [20, 50.0]], asks, depth)
+                 [thing(SHIP, bases=(0, 1)), thing(CHAR), module((1, 1)), module((1, 1))], [[37, 200.0], [20, 50.0]] + [[20, 1.0]] * unused, asks, depth)
 
 
 def changed(operation, start, first, quantity, second, flags=0):
@@ -156,7 +156,7 @@ def main():
     account += ["", "Down to divided-by-0 they are the sheets of `crates/rules/proofs/Marked.antt`, and the four slips those of `crates/rules/proofs/Slips.antt`, byte for byte: "
                 "what they print is proved there of the definition. Of L, loop-walked and those named numbers-.. `crates/rules/proofs/Numbers.antt` proves which collection numbers their entries have. docs/FORMAT.md explains case L byte by byte, and why each of the refused is.",
                 "`kept.bin` has sheets with the oracle's answers, every list of them; [KEPT.md](KEPT.md) names each and says how it is read.",
-                "`make_damaged.py` makes the sheets of crates/shape_test."]
+                "`make_damaged.py` makes the sheets of crates/shape_test; `make_texts.py` hands every sheet here, and its text, to crates/cases_test."]
     (HERE / "README.md").write_text("\n".join(account) + "\n")
     print(len(CASES), "cases")
 
