@@ -136,9 +136,10 @@ record Place (k : ℕ) (ts : List Pass2Effect) (n : Numbered) : Type 0 where
 
 places : (k : ℕ) (ts : List Pass2Effect) → Each (Place k ts) (numbered k ts)
 places k [] = tt
-places k (t ∷ r) =
-    (record { i = 0; number = sym (add-zero k); inside = omega arith; is = λ d. refl },
-    each-weaker (Place (suc k) r) (Place k (t ∷ r)) (λ n q. record { i = suc (q .i); number = q .number ∙ omega arith; inside = suc-le-suc (q .inside); is = q .is }) (numbered (suc k) r) (places (suc k) r))
+places k (t ∷ r) = (
+  record { i = 0; number = sym (add-zero k); inside = omega arith; is = λ d. refl },
+  each-weaker (Place (suc k) r) (Place k (t ∷ r)) (λ n q. record { i = suc (q .i); number = q .number ∙ omega arith; inside = suc-le-suc (q .inside); is = q .is }) (numbered (suc k) r) (places (suc k) r),
+)
 
 module _ (k : Book) (f : Fit) (ts : List Pass2Effect) where
   -- entry e, of a row of attribute a, is of effect n of ts
