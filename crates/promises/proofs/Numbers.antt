@@ -9,7 +9,7 @@ use borrow.Author.Tests.{lt-ltb, ltb-true, ltb-false}
 use lib.Dec.{ltb}
 use lib.IntN.{ℤ, pos}
 use lib.Ieee.{Float}
-use lib.ListN.{length, getD, replicate, length-append, length-map, List·getD-append}
+use lib.ListN.{length, getD, length-append, length-map, List·getD-append}
 use lib.Seq.{getD-append-add}
 use Rattle.laws.specs.Lists.{eqZ, put, keep, every?, flat}
 use Rattle.laws.specs.Floats.{zeroF}
@@ -38,7 +38,7 @@ use Rattle.rules.specs.declared.OptionalId.{OptionalId}
 use Rattle.rules.specs.declared.OptionalId.the-variants.{Absent, Given}
 use Rattle.promises.specs.Given.{cell}
 use Rattle.promises.specs.NoMemory.{noRow, bookIn, fitIn}
-use Rattle.promises.specs.Numbers.{climbs, numberAt, Owns, Ascending, ItsEffect}
+use Rattle.promises.specs.Numbers.{climbs, numberAt, Ascending, ItsEffect}
 use Rattle.promises.specs.Result.{Result, Meets}
 use Rattle.promises.proofs.Ends.{column-place, column-cell, row-cells}
 use Rattle.promises.proofs.Given.{row-count, row-given}
@@ -383,9 +383,6 @@ module _ (b : List ℕ) (l : Lent) (r : Result) (m : Meets b l r) (d : Done) (e 
   module _ (p : ℕ) (h : p < length (all (d .rows))) where
     found : Found (d .rows) p
     found = find (d .rows) p h
-
-    row-at : Row
-    row-at = getD (d .rows) (found .i) noRow
 
     source : From (bookIn b) (fitIn b) ts (getD (d .rows) (found .i) noRow .id) (own (found .i) (found .j))
     source =
