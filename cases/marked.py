@@ -31,10 +31,10 @@ def modifier(func, domain, operation, modifying, modified, skill=0):
     return [func, domain, operation, modifying, modified, skill, 0]
 
 
-def sheet(attributes=(), effects=(), modifiers=(), types=(), objects=(), bases=(), asks=(), depth=2):
+def sheet(attributes=(), effects=(), modifiers=(), types=(), objects=(), bases=(), asks=(), depth=2, collections=(), buffs=()):
     made = make_sheets.Sheet()
     made.categories, made.depth = [7, 0, 0], depth
-    made.tables = [list(table) for table in (attributes, effects, modifiers, types, (), objects, bases, (), (), asks)]
+    made.tables = [list(table) for table in (attributes, effects, modifiers, types, collections, objects, bases, (), buffs, asks)]
     return made.bytes()
 
 
@@ -58,8 +58,9 @@ def skilled(skill, required):
                  [thing(SHIP, 8, quantity=1, bases=(0, 1)), thing(CHAR), module((1, 2))], [[20, 5.0], [37, 1.0], [182, required]])
 
 
-def looped(asks=()):
-    return sheet((), [[1, 0, 0, 0, 0, 2]], [modifier(4, 0, 3, 37, 20), modifier(4, 0, 3, 20, 37)], [[8, 1, 0]],
+def looped(asks=(), first=0):
+    modifiers = [modifier(4, 0, 3, 37, 20), modifier(4, 0, 3, 20, 37)]
+    return sheet((), [[1, 0, 0, 0, 0, 2]], [modifiers[first], modifiers[1 - first]], [[8, 1, 0]],
                  [thing(SHIP, 8, bases=(0, 2)), thing(CHAR)], [[20, 10.0], [37, 1.0]], asks)
 
 
@@ -111,12 +112,31 @@ CASES = [
     ("refused-6", "OTHER: OtherID from the ship", by_ship([modifier(4, 3, 3, 20, 37)], [HULL, thing(CHAR)], [[20, 5.0]]), "refused 6 0\n"),
     ("refused-7", "ROOM: 90 skills of 50 attributes each are 4,500 rows, and the program lends 4,096",
      sheet(objects=[thing(SHIP), thing(CHAR)] + [thing(SKILL, bases=(0, 50))] * 90, bases=[[i, 1.0] for i in range(50)]), "refused 7 2\n"),
+    ("numbers-order", "two effects on 5, then one on 4: the entry on 4 stands first and has number 2, those on 5 have 0 and 1",
+     by_ship([modifier(4, 0, 3, 20, 5), modifier(4, 0, 3, 20, 5), modifier(4, 0, 3, 20, 4)], [HULL, thing(CHAR)], [[20, 2.0]]), None),
+    ("numbers-location", "one effect on the ship's location: three entries on three rows, each with number 0",
+     by_ship([modifier(2, 1, 3, 20, 37)], [HULL, thing(CHAR), module((0, 0)), module((0, 0))], [[20, 2.0]]), None),
+    ("numbers-buff", "a buff between ship and item: its entry has number 1, theirs 0 and 2",
+     sheet((), [[1, 0, 0, 0, 0, 1]], [modifier(4, 1, 3, 20, 37)], [[8, 1, 0], [9, 1, 0]], [HULL, thing(CHAR), module((0, 1))], [[20, 2.0]],
+           collections=[[30, 3, 0, 1]], buffs=[[30, 5.0]]), None),
+    ("numbers-char", "the second effect on the char's location: char, implant and skill have number 1, although the implant arrives last",
+     by_ship([modifier(4, 1, 3, 20, 37), modifier(2, 2, 3, 20, 37)],
+             [HULL, thing(CHAR), thing(ITEM, 7, 20, 10, 1), thing(SKILL, 6, 16, quantity=1)], [[20, 2.0]]), None),
+    ("numbers-loop", "the loop of 20 and 37 with its modifiers in the other order: the entry on 20 has number 1, that on 37 number 0",
+     looped(first=1), "rows 2\n0 20 21.00\n0 37 11.00\n"),
 ]
+# the collection numbers of the entries, in the order of list 3
+NUMBERS = {"L": [0, 1], "loop-walked": [0, 1], "numbers-order": [2, 0, 1], "numbers-location": [0, 0, 0], "numbers-buff": [0, 1, 2],
+           "numbers-char": [0, 1, 1, 1], "numbers-loop": [1, 0]}
 
 
 def held(name, data, text):
-    """What the program prints; where a text is given it is that."""
-    found = reference.listing(reference.answer(data, (4096,) * 5))
+    """What the program prints; where a text is given it is that, and where numbers are, the entries have them."""
+    answer = reference.answer(data, (4096,) * 5)
+    numbers = [entry[11] for entry, _ in answer.entries]
+    if NUMBERS.get(name, numbers) != numbers:
+        sys.exit(f"{name}: entries numbered {numbers}")
+    found = reference.listing(answer)
     if text not in (None, found):
         sys.exit(f"{name}: {found!r}, expected {text!r}")
     return found
@@ -134,7 +154,7 @@ def main():
         (HERE / f"{name}.txt").write_text(printed)
         account.append(f"| {name} | {len(data)} | {what} | {'; '.join(printed.splitlines())} |")
     account += ["", "Down to divided-by-0 they are the sheets of `crates/rules/proofs/Marked.antt`, and the four slips those of `crates/rules/proofs/Slips.antt`, byte for byte: "
-                "what they print is proved there of the definition. docs/FORMAT.md explains case L byte by byte, and why each of the refused is.",
+                "what they print is proved there of the definition. Of L, loop-walked and those named numbers-.. `crates/rules/proofs/Numbers.antt` proves which collection numbers their entries have. docs/FORMAT.md explains case L byte by byte, and why each of the refused is.",
                 "`kept.bin` has sheets with the oracle's answers, every list of them; [KEPT.md](KEPT.md) names each and says how it is read.",
                 "`make_damaged.py` makes the sheets of crates/shape_test; `make_texts.py` hands every sheet here, and its text, to crates/cases_test."]
     (HERE / "README.md").write_text("\n".join(account) + "\n")

@@ -107,7 +107,7 @@ enum dogma_row_field {
 };
 
 /* list 3, entries, by row, then arrival; beside it entry_values: a buff's value, 0.0 for an effect */
-typedef uint32_t dogma_entry[11];
+typedef uint32_t dogma_entry[12];
 enum dogma_entry_field {
     DOGMA_ENTRY_ORIGIN = 0,              /* one of enum dogma_origin; what the other kind has is 0 */
     DOGMA_ENTRY_EFFECT = 1,              /* signed */
@@ -119,7 +119,8 @@ enum dogma_entry_field {
     DOGMA_ENTRY_PENALTY = 7,             /* flag */
     DOGMA_ENTRY_QUANTITY = 8,
     DOGMA_ENTRY_RESISTANCE_GIVEN = 9,    /* flag */
-    DOGMA_ENTRY_RESISTANCE = 10          /* signed */
+    DOGMA_ENTRY_RESISTANCE = 10,         /* signed */
+    DOGMA_ENTRY_COLLECTED = 11           /* its effect's row in list 1, from 0; within a row of list 2 it ascends */
 };
 
 /* list 4, plain effects (those without modifiers), by arrival */

@@ -71,6 +71,8 @@ ITEM = [
             "#[derive(Debug, Copy, Clone, PartialEq, Eq, PartialOrd, Ord)]\n"),
     # not carried over: needs the fit and the types
     cut("    pub fn new_fit(", "    pub fn new_projected("),
+    # M-110: an entry keeps the number of its effect
+    replace("    pub quantity: u32,\n    pub resistance: Option<i32>,\n}\n", "    pub quantity: u32,\n    pub resistance: Option<i32>,\n    pub number: u32,\n}\n"),
 ]
 
 MOD = [
@@ -95,6 +97,11 @@ PASS_2 = [
     replace("use esf_data::eve;\n", "use crate::eve;\n"),
     replace("        /* Depending on the modifier, move the effects to the correct attribute. */\n",
             "        report(&effects);\n"),
+    # M-110: the collected effects are numbered where they are dispatched, and the number goes into each entry
+    replace("        for effect in effects {\n", "        for (number, effect) in effects.into_iter().enumerate() {\n"),
+    replace("&effect,\n", "&effect,\n number as u32,\n", 5),
+    replace("        effect: &Pass2Effect,\n    ) {\n", "        effect: &Pass2Effect,\n        number: u32,\n    ) {\n"),
+    replace("            resistance: effect.resistance,\n        });\n", "            resistance: effect.resistance,\n            number,\n        });\n"),
     append("pass_2_tail.rs"),
 ]
 

@@ -414,7 +414,7 @@ class Run:
     def dispatch(self):
         for t in self.things:
             t.skills = frozenset(cut_to_i32(t.rows[a].base) for a in SKILL_ATTRIBUTES if a in t.rows)
-        for e in self.collected:
+        for number, e in enumerate(self.collected):
             from_effect = e["origin"][0] == "effect"
             category = e["origin"][2].category if from_effect else 0
             attribute = e["attribute"]
@@ -428,7 +428,7 @@ class Run:
                     raise Refusal(ROOM, 3)
                 self.entry_count += 1
                 itself = from_effect and e["origin"][2] is t
-                t.rows[attribute].entries.append((e["origin"], e["operator"], penalty, 1 if itself else e["quantity"], e["resistance"]))
+                t.rows[attribute].entries.append((e["origin"], e["operator"], penalty, 1 if itself else e["quantity"], e["resistance"], number))
 
     # -- values
 
@@ -500,7 +500,7 @@ class Calculation:
         """What the operator works with: unpenalised with quantities, positives, negatives."""
         plain, positives, negatives = [], [], []
         multiplies = operator in (PRE_MUL, PRE_DIV, POST_MUL, POST_DIV, POST_PERCENT)
-        for origin, of_operator, penalty, quantity, resistance in self.row.entries:
+        for origin, of_operator, penalty, quantity, resistance, _ in self.row.entries:
             if of_operator != operator:
                 continue
             if origin[0] == "buff":
@@ -606,9 +606,9 @@ class Answer:
     def fill_row(self, t, attribute, row):
         counts = [len(self.entries), len(row.entries), len(self.sources), len(row.sources)]
         self.rows.append(([t.number, attribute, *counts], [row.base, row.value]))
-        for origin, operator, penalty, quantity, resistance in row.entries:
+        for origin, operator, penalty, quantity, resistance, number in row.entries:
             numbers, value = origin_numbers(origin)
-            self.entries.append((numbers + [operator, int(penalty), quantity, *optional(resistance)], [value]))
+            self.entries.append((numbers + [operator, int(penalty), quantity, *optional(resistance), number], [value]))
         for origin, operator, value, quantity, penalty, applied in row.sources:
             if origin[0] == "buff":
                 numbers = [1, origin[1], 0, 0, 0, 0]

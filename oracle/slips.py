@@ -221,6 +221,11 @@ SLIPS = [
     ("buff value not shown", "return [1, 0, 0, 0, 0, origin[1]], origin[2]", "return [1, 0, 0, 0, 0, origin[1]], 0.0"),
     ("source rows of buffs have an attribute", "numbers = [1, origin[1], 0, 0, 0, 0]", "numbers = [1, origin[1], 0, 0, 1, 0]"),
     ("rows by arrival", "for attribute in sorted(t.rows):\n                self.fill_row", "for attribute in t.rows:\n                self.fill_row"),
+    # M-110: the collection number of an entry
+    ("collection numbers from one", "enumerate(self.collected)", "enumerate(self.collected, 1)"),
+    ("an entry's number is its place", 'e["resistance"], number))', 'e["resistance"], self.entry_count - 1))'),
+    ("numbers count within the row", 'e["resistance"], number))', 'e["resistance"], len(t.rows[attribute].entries)))'),
+    ("an entry's number is its source's", 'e["resistance"], number))', 'e["resistance"], e["origin"][2].number if from_effect else number))'),
 ]
 
 # not slips: they change nothing that can be seen, and show that the test does not cry out at everything

@@ -41,7 +41,7 @@ unsafe extern "C" {
         base_count: usize,
         values: *mut f64,
         value_count: usize,
-        entries: *mut [u32; 11],
+        entries: *mut [u32; 12],
         entry_count: usize,
         entry_values: *mut f64,
         entry_value_count: usize,
@@ -194,6 +194,8 @@ pub struct Entry {
     pub penalty: bool,
     pub quantity: u32,
     pub resistance: Option<i32>,
+    /// Its effect among the collected, from 0.
+    pub collected: u32,
 }
 
 #[derive(Debug, Copy, Clone, PartialEq, Eq)]
@@ -238,7 +240,7 @@ pub struct Engine {
     rows: Vec<[u32; 6]>,
     bases: Vec<f64>,
     values: Vec<f64>,
-    entries: Vec<[u32; 11]>,
+    entries: Vec<[u32; 12]>,
     entry_values: Vec<f64>,
     plain: Vec<[u32; 2]>,
     sources: Vec<[u32; 10]>,
@@ -254,7 +256,7 @@ impl Engine {
             rows: vec![[0; 6]; rooms.rows],
             bases: vec![0.0; rooms.rows],
             values: vec![0.0; rooms.rows],
-            entries: vec![[0; 11]; rooms.entries],
+            entries: vec![[0; 12]; rooms.entries],
             entry_values: vec![0.0; rooms.entries],
             plain: vec![[0; 2]; rooms.plain],
             sources: vec![[0; 10]; rooms.sources],
@@ -361,17 +363,29 @@ impl Fit<'_> {
         at.ok().map(|at| self.lists.values[at])
     }
 
+    fn entry(&self, i: usize) -> Entry {
+        let numbers = &self.lists.entries[i];
+        Entry {
+            origin: origin_of(numbers[..6].try_into().unwrap(), self.lists.entry_values[i]),
+            operator: operator_of(numbers[6]),
+            penalty: numbers[7] == 1,
+            quantity: numbers[8],
+            resistance: given(numbers[9], numbers[10]),
+            collected: numbers[11],
+        }
+    }
+
     pub fn entries(&self, row: &Row) -> impl Iterator<Item = Entry> + '_ {
-        row.entries.clone().map(|i| {
-            let numbers = &self.lists.entries[i];
-            Entry {
-                origin: origin_of(numbers[..6].try_into().unwrap(), self.lists.entry_values[i]),
-                operator: operator_of(numbers[6]),
-                penalty: numbers[7] == 1,
-                quantity: numbers[8],
-                resistance: given(numbers[9], numbers[10]),
-            }
-        })
+        row.entries.clone().map(|i| self.entry(i))
+    }
+
+    /// Every entry with its row, in the order in which their effects were collected; those of one effect by row.
+    pub fn entries_by_collection(&self) -> impl Iterator<Item = (Row, Entry)> + '_ {
+        let mut places: Vec<(u32, usize, usize)> = (0..self.row_count())
+            .flat_map(|r| self.row(r).entries.map(move |i| (self.lists.entries[i][11], r, i)))
+            .collect();
+        places.sort_unstable();
+        places.into_iter().map(|(_, r, i)| (self.row(r), self.entry(i)))
     }
 
     /// Object and effect.

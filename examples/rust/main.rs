@@ -40,6 +40,9 @@ fn print_whole(fit: &Fit) {
             println!("    {source:?}");
         }
     }
+    for (row, entry) in fit.entries_by_collection() {
+        println!("collected {} acts on {} of object {}", entry.collected, row.attribute, row.object);
+    }
 }
 
 fn main() -> ExitCode {

@@ -381,8 +381,8 @@ fn write_entries(attribute: &Attribute, out: &mut String) {
         let (given, resistance) = optional(effect.resistance);
         let _ = writeln!(
             out,
-            "E {from} {} {} {} {given} {resistance} {value}",
-            effect.operator as u32, effect.penalty as u32, effect.quantity
+            "E {from} {} {} {} {given} {resistance} {} {value}",
+            effect.operator as u32, effect.penalty as u32, effect.quantity, effect.number
         );
     }
 }

@@ -62,7 +62,7 @@ pub record Cleared (n : clear.KeptCounts) (st : List (List ℕ)) (c : Columns) (
   pub rows : c′ .rows ≡ cleared (replicate 6 0) (n .rows) (c .rows)
   pub bases : c′ .bases ≡ cleared zeroF (n .rows) (c .bases)
   pub values : c′ .values ≡ cleared zeroF (n .rows) (c .values)
-  pub entries : c′ .entries ≡ cleared (replicate 11 0) (n .entries) (c .entries)
+  pub entries : c′ .entries ≡ cleared (replicate 12 0) (n .entries) (c .entries)
   pub entryValues : c′ .entryValues ≡ cleared zeroF (n .entries) (c .entryValues)
   pub plain : c′ .plain ≡ cleared (replicate 2 0) (n .plain) (c .plain)
   pub sources : c′ .sources ≡ cleared (replicate 10 0) (n .sources) (c .sources)
@@ -104,7 +104,7 @@ module _ (b : List ℕ) (c₀ c c′ : Columns) (st st′ : List (List ℕ)) (o 
         by-values =
             rw e
             (held (λ x. x) zeroF (map (λ (v : Option Float). Option·getD v zeroF) (d .values)) (k .values) (f .values) (f .n-values ∙ sym (length-map (d .values) (λ (v : Option Float). Option·getD v zeroF))));
-        by-entries = rw e (held entryNumbers (replicate 11 0) (flat (λ x. x .entries) (d .rows)) (k .entries) (f .entries) (f .n-entries));
+        by-entries = rw e (held entryNumbers (replicate 12 0) (flat (λ x. x .entries) (d .rows)) (k .entries) (f .entries) (f .n-entries));
         by-entryValues =
             rw e (held (λ x. originValue (x .origin)) zeroF (flat (λ x. x .entries) (d .rows)) (k .entryValues) (f .entryValues) (f .n-entries));
         by-plain = rw e (held plainNumbers (replicate 2 0) (d .plain) (k .plain) (f .plain) (f .n-plain));
@@ -125,7 +125,7 @@ module _ (b : List ℕ) (c₀ c c′ : Columns) (st st′ : List (List ℕ)) (o 
         by-rows = rw e (emptied (λ x. x) (replicate 6 0) (c₀ .rows) (c .rows) (k .rows) (t .rows));
         by-bases = rw e (emptied (λ x. x .base) zeroF (c₀ .bases) (c .bases) (k .bases) (t .bases));
         by-values = rw e (emptied (λ x. x) zeroF (c₀ .values) (c .values) (k .values) (t .values));
-        by-entries = rw e (emptied entryNumbers (replicate 11 0) (c₀ .entries) (c .entries) (k .entries) (t .entries));
+        by-entries = rw e (emptied entryNumbers (replicate 12 0) (c₀ .entries) (c .entries) (k .entries) (t .entries));
         by-entryValues = rw e (emptied (λ x. originValue (x .origin)) zeroF (c₀ .entryValues) (c .entryValues) (k .entryValues) (t .entryValues));
         by-plain = rw e (emptied plainNumbers (replicate 2 0) (c₀ .plain) (c .plain) (k .plain) (t .plain));
         by-sources = rw e (emptied sourceNumbers (replicate 10 0) (c₀ .sources) (c .sources) (k .sources) (t .sources));

@@ -33,7 +33,7 @@ fn zero_collected(collected: &mut [CollectedRow], from: usize)
 }
 
 fn zero_entries(entries: &mut [EntryRow], from: usize)
-    ensures cleared { λ _. ⌜ ClearedFrom entries (replicate 11 0) from ⌝ }
+    ensures cleared { λ _. ⌜ ClearedFrom entries (replicate 12 0) from ⌝ }
 {
     let n = entries.len();
     let mut i = from;
@@ -148,7 +148,7 @@ pub fn clear(
     ensures rows { λ _. ⌜ ClearedFrom rows (replicate 6 0) (counts .rows) ⌝ }
     ensures bases { λ _. ⌜ ClearedFrom bases zeroF (counts .rows) ⌝ }
     ensures values { λ _. ⌜ ClearedFrom values zeroF (counts .rows) ⌝ }
-    ensures entries { λ _. ⌜ ClearedFrom entries (replicate 11 0) (counts .entries) ⌝ }
+    ensures entries { λ _. ⌜ ClearedFrom entries (replicate 12 0) (counts .entries) ⌝ }
     ensures entry_values { λ _. ⌜ ClearedFrom «entry_values» zeroF (counts .entries) ⌝ }
     ensures plain { λ _. ⌜ ClearedFrom plain (replicate 2 0) (counts .plain) ⌝ }
     ensures sources { λ _. ⌜ ClearedFrom sources (replicate 10 0) (counts .sources) ⌝ }

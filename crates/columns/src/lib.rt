@@ -86,7 +86,7 @@ pub const ROW_FIRST_SOURCE: usize = 4;
 pub const ROW_SOURCE_COUNT: usize = 5;
 
 // List 3, entries. Until `entries` writes them out, number 0 is a hit's effect and number 1 the effect at a place.
-pub const ENTRY_WIDTH: usize = 11;
+pub const ENTRY_WIDTH: usize = 12;
 
 pub type EntryRow = [u32; ENTRY_WIDTH];
 
@@ -115,6 +115,8 @@ pub const ENTRY_QUANTITY: usize = 8;
 pub const ENTRY_RESISTANCE_GIVEN: usize = 9;
 
 pub const ENTRY_RESISTANCE: usize = 10;
+
+pub const ENTRY_COLLECTED: usize = 11;
 
 // List 4, plain effects.
 pub const PLAIN_WIDTH: usize = 2;

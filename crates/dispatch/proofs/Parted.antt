@@ -33,13 +33,13 @@ use Rattle.rules.specs.Dispatch.{Row, Key, sameKey, baseKeys, hitKeys, fullAt, 
 use Rattle.rules.specs.Columns.{rowsNumbers}
 use Rattle.rules.specs.declared.Item.{Item}
 use Rattle.rules.specs.declared.Pass2Effect.{Pass2Effect}
+use Rattle.info.specs.Stands.{effectAt, numberedAt}
 use Rattle.info.proofs.Narrow.{signed-narrow}
 use Rattle.hits.specs.Strikes.{Strike, strike, Listed, Listing, arrivals, effectsOn, keyOf, keyNumbers, Segmented}
 use Rattle.hits.proofs.Gathering.{inside?, inside-take}
 use Rattle.hits.proofs.Numbering.{arrivals-inside, arrivals-keys, arrivals-listed}
 use Rattle.hits.proofs.Cutting.{parts-length, parts-few, parts-numbered, parts-hits, parts-placed, parts-ended}
 use Rattle.rows.specs.Tallies.{narrow?}
-use Rattle.info.specs.Stands.{effectAt}
 use Rattle.rows.specs.Entries.{Collected, rowFor, rowsFor}
 use Rattle.rows.proofs.Defined.{rows-defined}
 use Rattle.rows.proofs.Bounds.{narrow-fits, fits-narrow}
@@ -172,14 +172,14 @@ module _ (k : Book) (f : Fit) (objects : ℕ) (long : length (f .objects) ≡ ob
 
   -- the ids of object i
   abbrev idsAt : ℕ → List ℤ
-  idsAt i = insertAll (map (λ t. t .«target_attribute_id») (map (effectAt es) (partOf i))) (baseIds f i)
+  idsAt i = insertAll (map (λ n. n .effect .«target_attribute_id») (map (numberedAt es) (partOf i))) (baseIds f i)
 
-  ids-are : (i : ℕ) → idsOn i (map (keyOf es) got) ≡ map (λ t. t .«target_attribute_id») (map (effectAt es) (partOf i))
+  ids-are : (i : ℕ) → idsOn i (map (keyOf es) got) ≡ map (λ n. n .effect .«target_attribute_id») (map (numberedAt es) (partOf i))
   ids-are i =
       ap (map (λ h. h .id)) (keep-map (λ h. eqb (h .object) i) (keyOf es) got)
       ∙ map-map (λ h. h .id) (keyOf es) (keep (λ h. eqb (h .object) i) got)
-      ∙ sym (ap (map (λ t. t .«target_attribute_id»)) (map-map (effectAt es) (λ h. h .effect) (keep (λ h. eqb (h .object) i) got))
-      ∙ map-map (λ t. t .«target_attribute_id») (λ h. effectAt es (h .effect)) (keep (λ h. eqb (h .object) i) got))
+      ∙ sym (ap (map (λ n. n .effect .«target_attribute_id»)) (map-map (numberedAt es) (λ h. h .effect) (keep (λ h. eqb (h .object) i) got))
+      ∙ map-map (λ n. n .effect .«target_attribute_id») (λ h. numberedAt es (h .effect)) (keep (λ h. eqb (h .object) i) got))
 
   agrees : Agrees objects known (λ i. insertAll (idsOn i (take room3 keys)) (baseIds f i))
   agrees =
@@ -194,7 +194,7 @@ module _ (k : Book) (f : Fit) (objects : ℕ) (long : length (f .objects) ≡ ob
   rows-count =
       flat-length (partRows k f es partOf) (from 0 objects)
       ∙ ap total (map-same (λ i. length (partRows k f es partOf i)) (λ i. length (insertAll (idsOn i (take room3 keys)) (baseIds f i)))
-      (λ i. length-map (idsAt i) (rowFor k f (object f i) (map (effectAt es) (partOf i))) ∙ sym (ap length (ids-known i))) (from 0 objects))
+      (λ i. length-map (idsAt i) (rowFor k f (object f i) (map (numberedAt es) (partOf i))) ∙ sym (ap length (ids-known i))) (from 0 objects))
       ∙ sym (agrees .count)
 
   -- ---- which list is full
@@ -221,9 +221,9 @@ module _ (k : Book) (f : Fit) (objects : ℕ) (long : length (f .objects) ≡ ob
   -- ---- the row of the hit past the room
 
   module _ (based : (i : ℕ) → every? narrow? (baseIds f i) ≡ true) (held : (j : ℕ) → j < length es → SFits w32 (effectAt es j .«target_attribute_id»)) where
-    hits-narrow : (i : ℕ) → every? narrow? (map (λ t. t .«target_attribute_id») (map (effectAt es) (partOf i))) ≡ true
+    hits-narrow : (i : ℕ) → every? narrow? (map (λ n. n .effect .«target_attribute_id») (map (numberedAt es) (partOf i))) ≡ true
     hits-narrow i =
-        every-map narrow? (λ t. t .«target_attribute_id») (map (effectAt es) (partOf i)) ∙ every-map (λ t. narrow? (t .«target_attribute_id»)) (effectAt es) (partOf i)
+        every-map narrow? (λ n. n .effect .«target_attribute_id») (map (numberedAt es) (partOf i)) ∙ every-map (λ n. narrow? (n .effect .«target_attribute_id»)) (numberedAt es) (partOf i)
         ∙ every-weaker (λ j. ltb j (length es)) (λ j. narrow? (effectAt es j .«target_attribute_id»)) (λ j p. fits-narrow (effectAt es j .«target_attribute_id») (held j (ltb-true j (length es) p))) (partOf i)
         (every-map (λ j. ltb j (length es)) (λ h. h .effect) (keep (λ h. eqb (h .object) i) got)
         ∙ every-kept (λ h. ltb (h .effect) (length es)) (λ h. eqb (h .object) i) got (every-take (λ h. ltb (h .effect) (length es)) room3 hs listed))
@@ -232,7 +232,7 @@ module _ (k : Book) (f : Fit) (objects : ℕ) (long : length (f .objects) ≡ ob
         listed = arrivals-listed k f (length es) 0 es (omega arith)
 
     ids-narrow : (i : ℕ) → every? narrow? (idsAt i) ≡ true
-    ids-narrow i = insertAll-every narrow? (map (λ t. t .«target_attribute_id») (map (effectAt es) (partOf i))) (baseIds f i) (hits-narrow i) (based i)
+    ids-narrow i = insertAll-every narrow? (map (λ n. n .effect .«target_attribute_id») (map (numberedAt es) (partOf i))) (baseIds f i) (hits-narrow i) (based i)
 
     module _ (o : ℕ) (a : ℤ) (w : SFits w32 a) where
       abbrev keyed : Row → Bool
@@ -241,7 +241,7 @@ module _ (k : Book) (f : Fit) (objects : ℕ) (long : length (f .objects) ≡ ob
       part-keyed : (i : ℕ) → i < objects → some? keyed (partRows k f es partOf i) ≡ eqb i o && some? (eqZ a) (idsAt i)
       unfolding rowsFor rowFor
       part-keyed i l =
-          some-map keyed (rowFor k f (object f i) (map (effectAt es) (partOf i))) (idsAt i)
+          some-map keyed (rowFor k f (object f i) (map (numberedAt es) (partOf i))) (idsAt i)
           ∙ some-and (eqb (object f i .number) o) (λ x. eqb (bits x) (bits a)) (idsAt i)
           ∙ ap (λ (m : ℕ). eqb m o && some? (λ x. eqb (bits x) (bits a)) (idsAt i)) (number-of i l)
           ∙ ap (λ (t : Bool). eqb i o && t) (same-ids a w (idsAt i) (ids-narrow i))

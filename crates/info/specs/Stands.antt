@@ -11,6 +11,7 @@ use mir.Val.{SFits}
 use Rattle.laws.specs.Lists.{ascends}
 use Rattle.laws.specs.Floats.{zeroF}
 use Rattle.rules.specs.Sheet.{Fit, basesOf}
+use Rattle.rules.specs.Dispatch.{Numbered}
 use Rattle.rules.specs.Item.{object, isShip, isChar, isItem, isCharge, isSkill, charOf}
 use Rattle.rules.specs.declared.Item.{Item}
 use Rattle.rules.specs.declared.Modifier.{Modifier}
@@ -91,3 +92,7 @@ noEffect =
 
 abbrev pub effectAt : List Pass2Effect → ℕ → Pass2Effect
 effectAt es j = getD es j noEffect
+
+-- with its number
+abbrev pub numberedAt : List Pass2Effect → ℕ → Numbered
+numberedAt es j = record { number = j; effect = effectAt es j }

@@ -48,7 +48,7 @@ use Rattle.memory.proofs.Holdings.{Met, met, missed, noted-holds, sourc
 code-at : (e : Effect) → getD (entryNumbers e) 6 0 ≡ operatorCode (e .operator)
 code-at e = by (e .origin)
   where
-    by : (o : Origin) → getD (entryNumbers (record { origin = o; operator = e .operator; penalty = e .penalty; quantity = e .quantity; resistance = e .resistance })) 6 0 ≡ operatorCode (e .operator)
+    by : (o : Origin) → getD (entryNumbers (record { origin = o; operator = e .operator; penalty = e .penalty; quantity = e .quantity; resistance = e .resistance; number = e .number })) 6 0 ≡ operatorCode (e .operator)
     by (origin.Effect a b c d) = refl
     by (origin.Buff a b) = refl
 

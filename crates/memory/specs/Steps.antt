@@ -24,7 +24,7 @@ rowAt w i = getD (w .rows) i noRow
 
 -- its entry k
 abbrev pub noEntry : Effect
-noEntry = record { origin = origin.Buff (pos 0) zeroF; operator = PreAssign; penalty = false; quantity = 0; resistance = Absent }
+noEntry = record { origin = origin.Buff (pos 0) zeroF; operator = PreAssign; penalty = false; quantity = 0; resistance = Absent; number = 0 }
 
 abbrev pub entryAt : World → ℕ → ℕ → Effect
 entryAt w i k = getD (rowAt w i .entries) k noEntry

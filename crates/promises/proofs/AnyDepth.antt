@@ -12,7 +12,7 @@ use Rattle.rules.specs.Info.{getBase}
 use Rattle.rules.specs.Item.{object}
 use Rattle.rules.specs.States.{collectedStates, statesOf}
 use Rattle.rules.specs.Collect.{takenOf, moves, fittedMoves, ownMoves, effectMoves, foundMoves, modifierMoves, testDomain, testProjectedDomain, projectedModifierMoves, projectedMoves}
-use Rattle.rules.specs.Dispatch.{Key, sourceType, sourceCategory, requires, inLocation, hit, entry, arrival, baseKeys, hitKeys, hitsOn, idsOf, rowOf, rows}
+use Rattle.rules.specs.Dispatch.{Key, sourceType, sourceCategory, requires, inLocation, hit, Numbered, numbered, entry, arrival, baseKeys, hitKeys, hitsOn, idsOf, rowOf, rows}
 use Rattle.rules.specs.Outcome.{collectedIn, rowsIn, worldOf}
 use Rattle.rules.specs.declared.Item.{Item}
 use Rattle.rules.specs.declared.Modifier.{Modifier}
@@ -54,9 +54,9 @@ module _ (k : Book) (f : Fit) (d : ℕ) where
       by (LocationRequiredSkillModifier s) e = rw (e, type-same (t .origin)) refl
       by (OwnerRequiredSkillModifier s) e = rw (e, type-same (t .origin)) refl
 
-  entry-same : (o : Item) (t : Pass2Effect) → entry k (withDepth d f) o t ≡ entry k f o t
+  entry-same : (o : Item) (n : Numbered) → entry k (withDepth d f) o n ≡ entry k f o n
   unfolding entry
-  entry-same o t = rw (category-same (t .origin)) refl
+  entry-same o n = rw (category-same (n .effect .origin)) refl
 
   module _ (ts : List Pass2Effect) where
     pub hits-same : hitKeys k (withDepth d f) ts ≡ hitKeys k f ts
@@ -68,7 +68,7 @@ module _ (k : Book) (f : Fit) (d : ℕ) where
 
     on-same : (o : Item) → hitsOn k (withDepth d f) ts o ≡ hitsOn k f ts o
     unfolding hitsOn
-    on-same o = keep-same (λ t. hit k (withDepth d f) t o) (λ t. hit k f t o) (λ t. hit-same t o) ts
+    on-same o = keep-same (λ n. hit k (withDepth d f) (n .effect) o) (λ n. hit k f (n .effect) o) (λ n. hit-same (n .effect) o) (numbered 0 ts)
 
     ids-same : (o : Item) → idsOf k (withDepth d f) ts o ≡ idsOf k f ts o
     unfolding idsOf
@@ -76,7 +76,7 @@ module _ (k : Book) (f : Fit) (d : ℕ) where
 
     row-same : (o : Item) (a : ℤ) → rowOf k (withDepth d f) ts o a ≡ rowOf k f ts o a
     unfolding rowOf getBase
-    row-same o a = rw (on-same o, map-same (entry k (withDepth d f) o) (entry k f o) (entry-same o) (keep (λ (t : Pass2Effect). eqZ (t .«target_attribute_id») a) (hitsOn k f ts o))) refl
+    row-same o a = rw (on-same o, map-same (entry k (withDepth d f) o) (entry k f o) (entry-same o) (keep (λ (n : Numbered). eqZ (n .effect .«target_attribute_id») a) (hitsOn k f ts o))) refl
 
     rows-of : rows k (withDepth d f) ts ≡ rows k f ts
     unfolding rows

@@ -25,7 +25,7 @@ use Rattle.rules.specs.Constants.{upgradeLoad}
 use Rattle.rules.specs.Item.{isItem, isCharge, isSkill, isProjected, isRig, hasCharge, itemOf, structureFit, passed, effectsOf, categoryOn}
 use Rattle.rules.specs.Collect.{Move, taken, plain, refuse, Test, go, over, bad, then, unless, testFunc, testOperation, testDomain, testProjectedDomain, modifierMoves, inUse, foundMoves, effectMoves, ownMoves, projectedModifierMoves, projectedMoves, buffModifierMoves, buffMoves, fittedMoves, moves, takenOf}
 use Rattle.rules.specs.Columns.{originValue}
-use Rattle.rules.specs.Dispatch.{Row, hit, entry, hitsOn, idsOf, rowOf, rows}
+use Rattle.rules.specs.Dispatch.{Row, hit, Numbered, numbered, entry, hitsOn, idsOf, rowOf, rows}
 use Rattle.rules.specs.declared.BaseAttribute.{BaseAttribute}
 use Rattle.rules.specs.declared.DbuffCollection.{DbuffCollection}
 use Rattle.rules.specs.declared.DogmaAttribute.{DogmaAttribute}
@@ -256,34 +256,41 @@ module _ (k : Book) (f : Fit) (fine : Fine k f) where
             every-first (λ x. finite (x .value)) (λ x. eqZ (x .«attribute_id») a) (basesOf f o) r
             (every-span (λ x. finite (x .value)) (o .«first_attribute») (o .attributes) (f .bases) (fine .bases)) e
 
-    hits-fine : (o : Item) → every? fineTaken (hitsOn k f ts o) ≡ true
-    unfolding hitsOn
-    hits-fine o = every-kept fineTaken (λ t. hit k f t o) ts h
+    abbrev fineHit : Numbered → Bool
+    fineHit n = fineTaken (n .effect)
 
-    entries-fine : (o : Item) (us : List Pass2Effect) → every? fineTaken us ≡ true → every? fineEntry (map (entry k f o) us) ≡ true
+    numbered-fine : (j : ℕ) (us : List Pass2Effect) → every? fineTaken us ≡ true → every? fineHit (numbered j us) ≡ true
+    numbered-fine j [] e = refl
+    numbered-fine j (t ∷ us) e = and-both (and-left (fineTaken t) (every? fineTaken us) e) (numbered-fine (suc j) us (and-right (fineTaken t) (every? fineTaken us) e))
+
+    hits-fine : (o : Item) → every? fineHit (hitsOn k f ts o) ≡ true
+    unfolding hitsOn
+    hits-fine o = every-kept fineHit (λ n. hit k f (n .effect) o) (numbered 0 ts) (numbered-fine 0 ts h)
+
+    entries-fine : (o : Item) (us : List Numbered) → every? fineHit us ≡ true → every? fineEntry (map (entry k f o) us) ≡ true
     unfolding entry
     entries-fine o [] e = refl
-    entries-fine o (t ∷ us) e =
-        and-both (and-left (finite (originValue (t .origin))) (held (t .«target_attribute_id»)) (and-left (fineTaken t) (every? fineTaken us) e))
-        (entries-fine o us (and-right (fineTaken t) (every? fineTaken us) e))
+    entries-fine o (n ∷ us) e =
+        and-both (and-left (finite (originValue (n .effect .origin))) (held (n .effect .«target_attribute_id»)) (and-left (fineHit n) (every? fineHit us) e))
+        (entries-fine o us (and-right (fineHit n) (every? fineHit us) e))
 
-    targets-held : (us : List Pass2Effect) → every? fineTaken us ≡ true → every? held (map (λ t. t .«target_attribute_id») us) ≡ true
+    targets-held : (us : List Numbered) → every? fineHit us ≡ true → every? held (map (λ n. n .effect .«target_attribute_id») us) ≡ true
     targets-held [] e = refl
-    targets-held (t ∷ us) e =
-        and-both (and-right (finite (originValue (t .origin))) (held (t .«target_attribute_id»)) (and-left (fineTaken t) (every? fineTaken us) e))
-        (targets-held us (and-right (fineTaken t) (every? fineTaken us) e))
+    targets-held (n ∷ us) e =
+        and-both (and-right (finite (originValue (n .effect .origin))) (held (n .effect .«target_attribute_id»)) (and-left (fineHit n) (every? fineHit us) e))
+        (targets-held us (and-right (fineHit n) (every? fineHit us) e))
 
     ids-held : (o : Item) → every? held (idsOf k f ts o) ≡ true
     unfolding idsOf
     ids-held o =
-        insertAll-every held (map (λ t. t .«target_attribute_id») (hitsOn k f ts o)) (map (λ r. r .«attribute_id») (basesOf f o)) (targets-held (hitsOn k f ts o) (hits-fine o))
+        insertAll-every held (map (λ n. n .effect .«target_attribute_id») (hitsOn k f ts o)) (map (λ r. r .«attribute_id») (basesOf f o)) (targets-held (hitsOn k f ts o) (hits-fine o))
         (every-map held (λ r. r .«attribute_id») (basesOf f o) ∙ every-span (λ r. held (r .«attribute_id»)) (o .«first_attribute») (o .attributes) (f .bases) (fine .ids))
 
     row-fine : (o : Item) (a : ℤ) → held a ≡ true → fineRow (rowOf k f ts o a) ≡ true
     unfolding rowOf
     row-fine o a e =
         and-both e (and-both (base-finite o a)
-        (entries-fine o (keep (λ t. eqZ (t .«target_attribute_id») a) (hitsOn k f ts o)) (every-kept fineTaken (λ t. eqZ (t .«target_attribute_id») a) (hitsOn k f ts o) (hits-fine o))))
+        (entries-fine o (keep (λ n. eqZ (n .effect .«target_attribute_id») a) (hitsOn k f ts o)) (every-kept fineHit (λ n. eqZ (n .effect .«target_attribute_id») a) (hitsOn k f ts o) (hits-fine o))))
 
     own-rows : (o : Item) (l : List ℤ) → every? held l ≡ true → every? fineRow (map (rowOf k f ts o) l) ≡ true
     own-rows o [] e = refl

@@ -14,7 +14,7 @@ use Rattle.laws.proofs.Every.{every-at}
 use Rattle.laws.proofs.Maps.{map-itself}
 use Rattle.rules.specs.Answer.{Res, ok, refused, number, place, answerOf}
 use Rattle.rules.specs.Bytes.{signed}
-use Rattle.rules.specs.Columns.{Counts, countsOf, collectedNumbers, rowsNumbers, entryNumbers, plainNumbers, sourceNumbers, sourceFloats, originValue, collectedList, rowList, valueList, entryList, plainList, sourceList, sourcesByRow, collectedColumn, collectedValueColumn, rowColumn, baseColumn, valueColumn, entryColumn, entryValueColumn, plainColumn, sourceColumn, sourceFloatColumn, stateColumn}
+use Rattle.rules.specs.Columns.{Counts, countsOf, collectedNumbers, rowsNumbers, entryNumbers, zeroEntry, plainNumbers, sourceNumbers, sourceFloats, originValue, collectedList, rowList, valueList, entryList, plainList, sourceList, sourcesByRow, collectedColumn, collectedValueColumn, rowColumn, baseColumn, valueColumn, entryColumn, entryValueColumn, plainColumn, sourceColumn, sourceFloatColumn, stateColumn}
 use Rattle.rules.specs.Dispatch.{Row}
 use Rattle.rules.specs.Fresh.{fresh}
 use Rattle.rules.specs.Outcome.{Lent, Done, roomsOf, outcome}
@@ -119,7 +119,7 @@ values-same b c l n r s m k d e h j rows values =
       rows = λ i q p. row-given b l r m d h i q ∙ ap (λ (x : List Row). cell (rowsNumbers 0 0 x (d .sources)) i q) rows ∙ rows-four 0 0 0 (e .rows) (d .sources) (e .sources) i q p ∙ sym (row-given c n s k e j i q);
       bases = columns-same zeroF baseColumn (λ o. map (λ x. x .base) (rowList o)) (λ o. column-place (λ x. x .base) zeroF (rowList o)) (outcome b l) (outcome c n) (l .bases) (n .bases) (m .by-bases) (k .by-bases) (ap (map (λ x. x .base)) listed);
       values = λ i. value-given b l r m d h i ∙ ap (λ (x : List (Option Float)). Option·getD (getD x i none) zeroF) values ∙ sym (value-given c n s k e j i);
-      entries = columns-same (replicate 11 0) entryColumn (λ o. map entryNumbers (entryList o)) (λ o. column-place entryNumbers (replicate 11 0) (entryList o)) (outcome b l) (outcome c n) (l .entries) (n .entries) (m .by-entries) (k .by-entries) (ap (map entryNumbers) entries);
+      entries = columns-same zeroEntry entryColumn (λ o. map entryNumbers (entryList o)) (λ o. column-place entryNumbers zeroEntry (entryList o)) (outcome b l) (outcome c n) (l .entries) (n .entries) (m .by-entries) (k .by-entries) (ap (map entryNumbers) entries);
       entryValues = columns-same zeroF entryValueColumn (λ o. map (λ x. originValue (x .origin)) (entryList o)) (λ o. column-place (λ x. originValue (x .origin)) zeroF (entryList o)) (outcome b l) (outcome c n) (l .entryValues) (n .entryValues) (m .by-entryValues) (k .by-entryValues) (ap (map (λ x. originValue (x .origin))) entries);
     }
   where
@@ -170,7 +170,7 @@ more-room-given b l k r s w m n h =
       rows = columns-same (replicate 6 0) rowColumn (λ x. map (λ y. y) (rowsNumbers 0 0 (rowList x) (sourcesByRow x))) (λ x. column-place (λ y. y) (replicate 6 0) (rowsNumbers 0 0 (rowList x) (sourcesByRow x))) o p (l .rows) (k .rows) (m .by-rows) (n .by-rows) (ap (λ (x : Res Done). map (λ y. y) (rowsNumbers 0 0 (rowList x) (sourcesByRow x))) same);
       bases = columns-same zeroF baseColumn (λ x. map (λ y. y .base) (rowList x)) (λ x. column-place (λ y. y .base) zeroF (rowList x)) o p (l .bases) (k .bases) (m .by-bases) (n .by-bases) (ap (λ (x : Res Done). map (λ y. y .base) (rowList x)) same);
       values = columns-same zeroF valueColumn (λ x. map (λ y. y) (valueList x)) (λ x. column-place (λ y. y) zeroF (valueList x)) o p (l .values) (k .values) (m .by-values) (n .by-values) (ap (λ (x : Res Done). map (λ y. y) (valueList x)) same);
-      entries = columns-same (replicate 11 0) entryColumn (λ x. map entryNumbers (entryList x)) (λ x. column-place entryNumbers (replicate 11 0) (entryList x)) o p (l .entries) (k .entries) (m .by-entries) (n .by-entries) (ap (λ (x : Res Done). map entryNumbers (entryList x)) same);
+      entries = columns-same zeroEntry entryColumn (λ x. map entryNumbers (entryList x)) (λ x. column-place entryNumbers zeroEntry (entryList x)) o p (l .entries) (k .entries) (m .by-entries) (n .by-entries) (ap (λ (x : Res Done). map entryNumbers (entryList x)) same);
       entryValues = columns-same zeroF entryValueColumn (λ x. map (λ y. originValue (y .origin)) (entryList x)) (λ x. column-place (λ y. originValue (y .origin)) zeroF (entryList x)) o p (l .entryValues) (k .entryValues) (m .by-entryValues) (n .by-entryValues) (ap (λ (x : Res Done). map (λ y. originValue (y .origin)) (entryList x)) same);
       plain = columns-same (replicate 2 0) plainColumn (λ x. map plainNumbers (plainList x)) (λ x. column-place plainNumbers (replicate 2 0) (plainList x)) o p (l .plain) (k .plain) (m .by-plain) (n .by-plain) (ap (λ (x : Res Done). map plainNumbers (plainList x)) same);
       sources = columns-same (replicate 10 0) sourceColumn (λ x. map sourceNumbers (sourceList x)) (λ x. column-place sourceNumbers (replicate 10 0) (sourceList x)) o p (l .sources) (k .sources) (m .by-sources) (n .by-sources) (ap (λ (x : Res Done). map sourceNumbers (sourceList x)) same);

@@ -29,4 +29,5 @@ pub mod Ends
 pub mod Asking
 pub mod Given
 pub mod Floats
+pub mod Numbers
 pub mod Unused

@@ -104,7 +104,7 @@ module _ (k : Book) (f : Fit) (ts : List Pass2Effect) where
   all-distinct s [] n b = tt
   all-distinct s (o ∷ os) n b =
       distinct-append (own o) (flat own os)
-      (ids-distinct o (idsOf k f ts o) (ascends-insertAll (map (λ t. t .«target_attribute_id») (hitsOn k f ts o)) (map (λ r. r .«attribute_id») (basesOf f o)) (and-left (ordered f o) (every? (ordered f) os) b)))
+      (ids-distinct o (idsOf k f ts o) (ascends-insertAll (map (λ n. n .effect .«target_attribute_id») (hitsOn k f ts o)) (map (λ r. r .«attribute_id») (basesOf f o)) (and-left (ordered f o) (every? (ordered f) os) b)))
       (all-distinct (suc s) os (λ j l. n (suc j) (suc-le-suc l) ∙ omega arith) (and-right (ordered f o) (every? (ordered f) os) b))
       (λ j l. absent (keyOf (getD (own o) j noRow)) os (none-by (λ p. eqb (getD (own o) j noRow .object) (p .number)) os noItem (λ i h. ne-eqb _ _ (λ e. apart j l i h e))))
     where

@@ -14,7 +14,7 @@ use Rattle.laws.proofs.Keep.{keep-same}
 use Rattle.rules.specs.Answer.{Res, ok, _>>=_}
 use Rattle.rules.specs.Sheet.{Book, Fit, basesOf}
 use Rattle.rules.specs.Shape.{objectGood, objectsGood, basesGood}
-use Rattle.rules.specs.Dispatch.{Row, Key, sameKey, requires, inLocation, hit, entry, hitsOn, idsOf, rowOf, rows}
+use Rattle.rules.specs.Dispatch.{Row, Key, sameKey, requires, inLocation, hit, Numbered, numbered, entry, hitsOn, idsOf, rowOf, rows}
 use Rattle.rules.specs.Collect.{Move, takenOf, testDomain, testProjectedDomain, modifierMoves, foundMoves, effectMoves, ownMoves, projectedModifierMoves, projectedMoves, fittedMoves, moves}
 use Rattle.rules.specs.Info.{getDogmaAttribute, getBase}
 use Rattle.rules.specs.States.{collectedStates, statesOf}
@@ -103,30 +103,33 @@ module _ (k : Book) (f : Fit) (d r : ℕ) (s : List Ask) where
       by (OwnerRequiredSkillModifier x) (origin.Effect e p c a) = refl
       by (OwnerRequiredSkillModifier x) (origin.Buff b v) = refl
 
-  entry-asking : (o : Item) (t : Pass2Effect) → entry k f o t ≡ entry k (asking d r s f) o t
+  entry-asking : (o : Item) (n : Numbered) → entry k f o n ≡ entry k (asking d r s f) o n
   unfolding entry
-  entry-asking o t = by (t .origin)
+  entry-asking o n = by (n .effect .origin)
     where
-      by : (g : Origin) → entry k f o (under t (t .modifier) g) ≡ entry k (asking d r s f) o (under t (t .modifier) g)
+      of : Origin → Numbered
+      of g = record { number = n .number; effect = under (n .effect) (n .effect .modifier) g }
+
+      by : (g : Origin) → entry k f o (of g) ≡ entry k (asking d r s f) o (of g)
       by (origin.Effect e p c a) = refl
       by (origin.Buff b v) = refl
 
   -- an object's rows, of what hits it
-  abbrev made : Item → List Pass2Effect → (Pass2Effect → Effect) → List Row
+  abbrev made : Item → List Numbered → (Numbered → Effect) → List Row
   made o hs e =
       map
       (λ a. record {
         object = o .number;
         id = a;
         base = elim (getBase f o a) [ none ↦ getDogmaAttribute k a .«default_value» | some x ↦ x .value ];
-        entries = map e (keep (λ t. eqZ (t .«target_attribute_id») a) hs);
+        entries = map e (keep (λ n. eqZ (n .effect .«target_attribute_id») a) hs);
       })
-      (insertAll (map (λ t. t .«target_attribute_id») hs) (map (λ x. x .«attribute_id») (basesOf f o)))
+      (insertAll (map (λ n. n .effect .«target_attribute_id») hs) (map (λ x. x .«attribute_id») (basesOf f o)))
 
   own-asking : (ts : List Pass2Effect) (o : Item) → map (rowOf k f ts o) (idsOf k f ts o) ≡ map (rowOf k (asking d r s f) ts o) (idsOf k (asking d r s f) ts o)
   unfolding getBase hitsOn idsOf rowOf
   own-asking ts o =
-      ap₂ (made o) (keep-same (λ t. hit k f t o) (λ t. hit k (asking d r s f) t o) (λ t. hit-asking t o) ts) (fun-ext λ t. entry-asking o t)
+      ap₂ (made o) (keep-same (λ n. hit k f (n .effect) o) (λ n. hit k (asking d r s f) (n .effect) o) (λ n. hit-asking (n .effect) o) (numbered 0 ts)) (fun-ext λ n. entry-asking o n)
 
   rows-asking : rowsIn k f ≡ rowsIn k (asking d r s f)
   unfolding rows collectedIn rowsIn

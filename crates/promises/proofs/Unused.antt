@@ -7,7 +7,7 @@ use lib.Ieee.{Float}
 use lib.ListN.{length, getD, replicate, length-map, List·getD-eq-default}
 use Rattle.laws.specs.Floats.{zeroF}
 use Rattle.rules.specs.Answer.{Res, ok, refused}
-use Rattle.rules.specs.Columns.{Counts, collectedNumbers, rowsNumbers, entryNumbers, plainNumbers, sourceNumbers, sourceFloats, originValue, collectedList, rowList, valueList, entryList, plainList, sourceList, sourcesByRow, collectedColumn, collectedValueColumn, rowColumn, baseColumn, valueColumn, entryColumn, entryValueColumn, plainColumn, sourceColumn, sourceFloatColumn}
+use Rattle.rules.specs.Columns.{Counts, collectedNumbers, rowsNumbers, entryNumbers, zeroEntry, plainNumbers, sourceNumbers, sourceFloats, originValue, collectedList, rowList, valueList, entryList, plainList, sourceList, sourcesByRow, collectedColumn, collectedValueColumn, rowColumn, baseColumn, valueColumn, entryColumn, entryValueColumn, plainColumn, sourceColumn, sourceFloatColumn}
 use Rattle.rules.specs.Outcome.{Lent, Done, roomsOf, outcome}
 use Rattle.promises.specs.Given.{ZeroEnds}
 use Rattle.promises.specs.NoMemory.{bookIn, fitIn}
@@ -49,8 +49,8 @@ unused-ends-zero b l r m =
       values = behind zeroF (map (λ x. x) (valueList o)) (r .values) (r .counts .rows)
           (λ i. ap (λ (c : List Float). getD c i zeroF) (m .by-values) ∙ column-place (λ x. x) zeroF (valueList o) (l .values) i)
           (ap (λ (c : Counts). c .rows) (m .by-counts) ∙ sym (length-map (valueList o) (λ x. x) ∙ values-long b l));
-      entries = behind (replicate 11 0) (map entryNumbers (entryList o)) (r .entries) (r .counts .entries)
-          (λ i. ap (λ (c : List (List ℕ)). getD c i (replicate 11 0)) (m .by-entries) ∙ column-place entryNumbers (replicate 11 0) (entryList o) (l .entries) i)
+      entries = behind zeroEntry (map entryNumbers (entryList o)) (r .entries) (r .counts .entries)
+          (λ i. ap (λ (c : List (List ℕ)). getD c i zeroEntry) (m .by-entries) ∙ column-place entryNumbers zeroEntry (entryList o) (l .entries) i)
           (ap (λ (c : Counts). c .entries) (m .by-counts) ∙ sym (length-map (entryList o) entryNumbers));
       entryValues = behind zeroF (map (λ x. originValue (x .origin)) (entryList o)) (r .entryValues) (r .counts .entries)
           (λ i. ap (λ (c : List Float). getD c i zeroF) (m .by-entryValues) ∙ column-place (λ x. originValue (x .origin)) zeroF (entryList o) (l .entryValues) i)

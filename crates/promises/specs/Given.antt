@@ -9,6 +9,7 @@ use lib.ListN.{getD, replicate}
 use Rattle.laws.specs.Lists.{every?}
 use Rattle.laws.specs.Floats.{finite, zeroF}
 use Rattle.rules.specs.Answer.{ok}
+use Rattle.rules.specs.Columns.{zeroEntry}
 use Rattle.rules.specs.Outcome.{Lent, Done, outcome}
 use Rattle.promises.specs.Result.{Result}
 
@@ -31,7 +32,7 @@ pub record SameResult (r s : Result) : Type 0 where
   pub rows : Same (replicate 6 0) (r .rows) (s .rows)
   pub bases : Same zeroF (r .bases) (s .bases)
   pub values : Same zeroF (r .values) (s .values)
-  pub entries : Same (replicate 11 0) (r .entries) (s .entries)
+  pub entries : Same zeroEntry (r .entries) (s .entries)
   pub entryValues : Same zeroF (r .entryValues) (s .entryValues)
   pub plain : Same (replicate 2 0) (r .plain) (s .plain)
   pub sources : Same (replicate 10 0) (r .sources) (s .sources)
@@ -44,7 +45,7 @@ pub record SameValues (r s : Result) : Type 0 where
   pub rows : (i j : ℕ) → j < 4 → cell (r .rows) i j ≡ cell (s .rows) i j
   pub bases : Same zeroF (r .bases) (s .bases)
   pub values : Same zeroF (r .values) (s .values)
-  pub entries : Same (replicate 11 0) (r .entries) (s .entries)
+  pub entries : Same zeroEntry (r .entries) (s .entries)
   pub entryValues : Same zeroF (r .entryValues) (s .entryValues)
 
 -- nothing but zeros behind the count of each list
@@ -54,7 +55,7 @@ pub record ZeroEnds (r : Result) : Type 0 where
   pub rows : (i : ℕ) → r .counts .rows ≤ i → getD (r .rows) i (replicate 6 0) ≡ replicate 6 0
   pub bases : (i : ℕ) → r .counts .rows ≤ i → getD (r .bases) i zeroF ≡ zeroF
   pub values : (i : ℕ) → r .counts .rows ≤ i → getD (r .values) i zeroF ≡ zeroF
-  pub entries : (i : ℕ) → r .counts .entries ≤ i → getD (r .entries) i (replicate 11 0) ≡ replicate 11 0
+  pub entries : (i : ℕ) → r .counts .entries ≤ i → getD (r .entries) i zeroEntry ≡ zeroEntry
   pub entryValues : (i : ℕ) → r .counts .entries ≤ i → getD (r .entryValues) i zeroF ≡ zeroF
   pub plain : (i : ℕ) → r .counts .plain ≤ i → getD (r .plain) i (replicate 2 0) ≡ replicate 2 0
   pub sources : (i : ℕ) → r .counts .sources ≤ i → getD (r .sources) i (replicate 10 0) ≡ replicate 10 0

@@ -5,3 +5,4 @@ pub mod Sheets
 pub mod Result
 pub mod NoMemory
 pub mod Given
+pub mod Numbers

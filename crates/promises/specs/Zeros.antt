@@ -2,6 +2,7 @@
 use mathlib.Core.Path.{_≡_}
 use lib.ListN.{replicate}
 use Rattle.laws.specs.Floats.{zeroF}
+use Rattle.rules.specs.Columns.{zeroEntry}
 use Rattle.rules.specs.Outcome.{Lent}
 use Rattle.promises.specs.Result.{Result}
 
@@ -14,7 +15,7 @@ pub record Empty (l : Lent) (r : Result) : Type 0 where
   pub rows : r .rows ≡ replicate (l .rows) (replicate 6 0)
   pub bases : r .bases ≡ replicate (l .bases) zeroF
   pub values : r .values ≡ replicate (l .values) zeroF
-  pub entries : r .entries ≡ replicate (l .entries) (replicate 11 0)
+  pub entries : r .entries ≡ replicate (l .entries) zeroEntry
   pub entryValues : r .entryValues ≡ replicate (l .entryValues) zeroF
   pub plain : r .plain ≡ replicate (l .plain) (replicate 2 0)
   pub sources : r .sources ≡ replicate (l .sources) (replicate 10 0)

@@ -94,4 +94,4 @@ module _ (k : Book) (f : Fit) (ts : List Pass2Effect) (number : (i : ℕ) → i 
       all-ascend (λ o. map (rowOf k f ts o) (idsOf k f ts o)) (λ o. all-own (rowOf k f ts o) (o .number) (λ x. refl) (λ x. refl) (idsOf k f ts o)) (f .objects) 0 numbers
       (every-by (λ o. ascending (map (rowOf k f ts o) (idsOf k f ts o))) (f .objects) noItem (λ i h.
       one-ascends (rowOf k f ts (object f i)) (object f i .number) (λ x. refl) (λ x. refl) (idsOf k f ts (object f i))
-      (ascends-insertAll (map (λ t. t .«target_attribute_id») (hitsOn k f ts (object f i))) (map (λ r. r .«attribute_id») (basesOf f (object f i))) (bases i h))))
+      (ascends-insertAll (map (λ n. n .effect .«target_attribute_id») (hitsOn k f ts (object f i))) (map (λ r. r .«attribute_id») (basesOf f (object f i))) (bases i h))))

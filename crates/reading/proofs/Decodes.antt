@@ -91,21 +91,34 @@ flagged true = refl
 flagged false = refl
 
 abbrev tail : Effect → List ℕ
-tail e = operatorCode (e .operator) ∷ yes1 (e .penalty) ∷ e .quantity ∷ optionalNumbers (e .resistance)
+tail e = operatorCode (e .operator) ∷ yes1 (e .penalty) ∷ e .quantity ∷ (optionalNumbers (e .resistance) ++ (e .number ∷ []))
 
-made : (e : Effect) {o : Origin} {p : EffectOperator} {t : Bool} {q : ℕ} {i : OptionalId} → o ≡ e .origin → p ≡ e .operator → t ≡ e .penalty → q ≡ e .quantity → i ≡ e .resistance
-    → record { origin = o; operator = p; penalty = t; quantity = q; resistance = i } ≡ e
-made e a b c d f = rw (a, b, c, d, f)
+-- an id's two numbers, and what stands behind them
+id-flag : (i : OptionalId) (n : ℕ) → getD (optionalNumbers i ++ (n ∷ [])) 0 0 ≡ getD (optionalNumbers i) 0 0
+id-flag Absent n = refl
+id-flag (Given a) n = refl
+
+id-bits : (i : OptionalId) (n : ℕ) → getD (optionalNumbers i ++ (n ∷ [])) 1 0 ≡ getD (optionalNumbers i) 1 0
+id-bits Absent n = refl
+id-bits (Given a) n = refl
+
+past-id : (i : OptionalId) (n : ℕ) → getD (optionalNumbers i ++ (n ∷ [])) 2 0 ≡ n
+past-id Absent n = refl
+past-id (Given a) n = refl
+
+made : (e : Effect) {o : Origin} {p : EffectOperator} {t : Bool} {q : ℕ} {i : OptionalId} {n : ℕ} → o ≡ e .origin → p ≡ e .operator → t ≡ e .penalty → q ≡ e .quantity → i ≡ e .resistance → n ≡ e .number
+    → record { origin = o; operator = p; penalty = t; quantity = q; resistance = i; number = n } ≡ e
+made e a b c d f g = rw (a, b, c, d, f, g)
 
 module _ {e : List ℕ} {value : Float} where
   pub entry-read : {o : Origin} {p : EffectOperator} {i : OptionalId}
       → ((g : Origin) (rest : List ℕ) → NarrowOrigin g → e ≡ originNumbers g ++ rest → value ≡ originValue g → o ≡ g)
       → ((k : EffectOperator) → getD e 6 0 ≡ operatorCode k → p ≡ k)
       → ((k : OptionalId) → NarrowId k → getD e 9 0 ≡ getD (optionalNumbers k) 0 0 → getD e 10 0 ≡ getD (optionalNumbers k) 1 0 → i ≡ k)
-      → (x : Effect) → EntryHeld x e value → record { origin = o; operator = p; penalty = eqb (getD e 7 0) 1; quantity = getD e 8 0; resistance = i } ≡ x
+      → (x : Effect) → EntryHeld x e value → record { origin = o; operator = p; penalty = eqb (getD e 7 0) 1; quantity = getD e 8 0; resistance = i; number = getD e 11 0 } ≡ x
   entry-read fo fp fi x h =
       made x (fo (x .origin) (tail x) (h .origin) (h .numbers) (h .value)) (fp (x .operator) (at 0)) (ap (λ (n : ℕ). eqb n 1) (at 1) ∙ flagged (x .penalty)) (at 2)
-      (fi (x .resistance) (h .resistance) (at 3) (at 4))
+      (fi (x .resistance) (h .resistance) (at 3 ∙ id-flag (x .resistance) (x .number)) (at 4 ∙ id-bits (x .resistance) (x .number))) (at 5 ∙ past-id (x .resistance) (x .number))
     where
       at : (k : ℕ) → getD e (suc (suc (suc (suc (suc (suc k)))))) 0 ≡ getD (tail x) k 0
       at k = ap (λ (l : List ℕ). getD l (suc (suc (suc (suc (suc (suc k)))))) 0) (h .numbers) ∙ past-origin (x .origin) (tail x) k

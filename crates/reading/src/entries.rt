@@ -1,5 +1,6 @@
 // Entries by value, and what is asked of them.
 use columns::ENTRY_BUFF;
+use columns::ENTRY_COLLECTED;
 use columns::ENTRY_EFFECT;
 use columns::ENTRY_MODIFYING_ATTRIBUTE;
 use columns::ENTRY_OPERATOR;
@@ -104,6 +105,7 @@ pub fn entry_at(entries: &[EntryRow], values: &[f64], i: usize) -> Effect
         penalty: row[ENTRY_PENALTY] == 1,
         quantity: row[ENTRY_QUANTITY],
         resistance: optional_id(row[ENTRY_RESISTANCE_GIVEN], row[ENTRY_RESISTANCE]),
+        number: row[ENTRY_COLLECTED],
     }
 }
 

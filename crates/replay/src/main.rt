@@ -4,6 +4,7 @@ use calculate::Outcome;
 use calculate::dogma_calculate;
 use columns::AttributeRow;
 use columns::CollectedRow;
+use columns::ENTRY_WIDTH;
 use columns::EntryRow;
 use columns::PlainRow;
 use columns::SourceFloats;
@@ -126,61 +127,61 @@ fn see_2(seen: Seen, data: &[u8], column: &[[u32; 2]], count: usize) -> Seen {
     so_far
 }
 
-fn see_row_6(seen: Seen, data: &[u8], row: AttributeRow, kept: bool) -> Seen {
+fn see_attribute_row(seen: Seen, data: &[u8], row: AttributeRow, kept: bool) -> Seen {
     see_row(seen, data, &row, kept)
 }
 
-fn see_6(seen: Seen, data: &[u8], column: &[AttributeRow], count: usize) -> Seen {
+fn see_rows(seen: Seen, data: &[u8], column: &[AttributeRow], count: usize) -> Seen {
     let mut so_far = seen;
     let mut i = 0;
     while i < column.len() {
         let row = column[i];
-        so_far = see_row_6(so_far, data, row, i < count);
+        so_far = see_attribute_row(so_far, data, row, i < count);
         i += 1;
     }
     so_far
 }
 
-fn see_row_10(seen: Seen, data: &[u8], row: SourceRow, kept: bool) -> Seen {
+fn see_source_row(seen: Seen, data: &[u8], row: SourceRow, kept: bool) -> Seen {
     see_row(seen, data, &row, kept)
 }
 
-fn see_10(seen: Seen, data: &[u8], column: &[SourceRow], count: usize) -> Seen {
+fn see_sources(seen: Seen, data: &[u8], column: &[SourceRow], count: usize) -> Seen {
     let mut so_far = seen;
     let mut i = 0;
     while i < column.len() {
         let row = column[i];
-        so_far = see_row_10(so_far, data, row, i < count);
+        so_far = see_source_row(so_far, data, row, i < count);
         i += 1;
     }
     so_far
 }
 
-fn see_row_11(seen: Seen, data: &[u8], row: EntryRow, kept: bool) -> Seen {
+fn see_entry_row(seen: Seen, data: &[u8], row: EntryRow, kept: bool) -> Seen {
     see_row(seen, data, &row, kept)
 }
 
-fn see_11(seen: Seen, data: &[u8], column: &[EntryRow], count: usize) -> Seen {
+fn see_entries(seen: Seen, data: &[u8], column: &[EntryRow], count: usize) -> Seen {
     let mut so_far = seen;
     let mut i = 0;
     while i < column.len() {
         let row = column[i];
-        so_far = see_row_11(so_far, data, row, i < count);
+        so_far = see_entry_row(so_far, data, row, i < count);
         i += 1;
     }
     so_far
 }
 
-fn see_row_14(seen: Seen, data: &[u8], row: CollectedRow, kept: bool) -> Seen {
+fn see_collected_row(seen: Seen, data: &[u8], row: CollectedRow, kept: bool) -> Seen {
     see_row(seen, data, &row, kept)
 }
 
-fn see_14(seen: Seen, data: &[u8], column: &[CollectedRow], count: usize) -> Seen {
+fn see_collected(seen: Seen, data: &[u8], column: &[CollectedRow], count: usize) -> Seen {
     let mut so_far = seen;
     let mut i = 0;
     while i < column.len() {
         let row = column[i];
-        so_far = see_row_14(so_far, data, row, i < count);
+        so_far = see_collected_row(so_far, data, row, i < count);
         i += 1;
     }
     so_far
@@ -276,15 +277,15 @@ fn see_columns(
     let n2 = head(data, at, 14);
     let n3 = head(data, at, 15);
     let n5 = head(data, at, 17);
-    let c = see_14(seen, data, collected, n1);
+    let c = see_collected(seen, data, collected, n1);
     let cv = see_floats(c, data, collected_values, n1);
-    let r = see_6(cv, data, rows, n2);
+    let r = see_rows(cv, data, rows, n2);
     let b = see_floats(r, data, bases, n2);
     let v = see_floats(b, data, values, n2);
-    let e = see_11(v, data, entries, n3);
+    let e = see_entries(v, data, entries, n3);
     let ev = see_floats(e, data, entry_values, n3);
     let p = see_2(ev, data, plain, head(data, at, 16));
-    let s = see_10(p, data, sources, n5);
+    let s = see_sources(p, data, sources, n5);
     see_pairs(s, data, source_values, n5)
 }
 
@@ -473,7 +474,7 @@ fn replayed(data: &[u8], at: usize) -> Seen {
     let mut rows = [[RUBBISH; 6]; 128];
     let mut bases = [1.5; 128];
     let mut values = [1.5; 128];
-    let mut entries = [[RUBBISH; 11]; 128];
+    let mut entries = [[RUBBISH; ENTRY_WIDTH]; 128];
     let mut entry_values = [1.5; 128];
     let mut plain = [[RUBBISH; 2]; 128];
     let mut sources = [[RUBBISH; 10]; 128];

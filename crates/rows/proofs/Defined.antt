@@ -18,7 +18,7 @@ use Rattle.laws.proofs.Flat.{flat-same, flat-map, map-flat}
 use Rattle.rules.specs.Bytes.{bits}
 use Rattle.rules.specs.Sheet.{Book, Fit, basesOf}
 use Rattle.rules.specs.Info.{getBase}
-use Rattle.rules.specs.Dispatch.{Row, entry, hitsOn, idsOf, rowOf}
+use Rattle.rules.specs.Dispatch.{Row, Numbered, entry, hitsOn, idsOf, rowOf}
 use Rattle.rules.specs.Columns.{originNumbers, modifierNumbers, collectedNumbers, entryNumbers, rowsNumbers}
 use Rattle.rules.specs.declared.Item.{Item}
 use Rattle.rules.specs.declared.Effect.{Effect}
@@ -27,8 +27,8 @@ use Rattle.rules.specs.declared.Origin.{Origin}
 use Rattle.rules.specs.declared.Origin.the-variants as origin
 use Rattle.rules.specs.declared.Modifier.{Modifier}
 use Rattle.rules.specs.declared.Modifier.the-variants.{LocationRequiredSkillModifier, LocationGroupModifier, LocationModifier, OwnerRequiredSkillModifier, ItemModifier}
+use Rattle.info.specs.Stands.{effectAt, numberedAt}
 use Rattle.rows.specs.Tallies.{Tally, baseOf, tallyNumbers, tallyOf, hitNumber, hitId}
-use Rattle.info.specs.Stands.{effectAt}
 use Rattle.rows.specs.Entries.{times, rowsFrom, started, hitsAt, spreadOver, Collected, hitsIn, rowFor, rowsFor}
 
 -- with the definition's hits they are the definition's rows
@@ -36,8 +36,8 @@ pub rows-defined : (k : Book) (f : Fit) (ts : List Pass2Effect) (o : Item) → r
 unfolding rowsFor rowFor rowOf idsOf
 rows-defined k f ts o = refl
 
-abbrev targetOf : Pass2Effect → ℤ
-targetOf t = t .«target_attribute_id»
+abbrev targetOf : Numbered → ℤ
+targetOf n = n .effect .«target_attribute_id»
 
 -- ---- the numbers of a row of list 1
 
@@ -62,7 +62,7 @@ pub quantity-number : (t : Pass2Effect) → getD (collectedNumbers t) 9 0 ≡ t 
 quantity-number t = sym (getD-drop 8 (collectedNumbers t) 1 0) ∙ ap (λ (l : List ℕ). getD l 1 0) (behind (t .origin) (t .modifier) _)
 
 module _ (es : List Pass2Effect) (c : List (List ℕ)) (v : List Float) (C : Collected es c v) where
-  pub hit-target : (e : List ℕ) → hitNumber e < length es → hitId c e ≡ targetOf (effectAt es (hitNumber e))
+  pub hit-target : (e : List ℕ) → hitNumber e < length es → hitId c e ≡ targetOf (numberedAt es (hitNumber e))
   hit-target e h =
       ap (λ (r : List ℕ). toZ w32 (getD r 11 0)) (C .numbers (hitNumber e) h) ∙ ap (toZ w32) (target-number (effectAt es (hitNumber e)))
       ∙ toZ-ofZ (C .narrow (hitNumber e) h)
@@ -76,37 +76,37 @@ module _ (es : List Pass2Effect) (c : List (List ℕ)) (v : List Float) (C : Col
 
   pub hits-targets : (segment : List (List ℕ)) → Among segment → map (hitId c) segment ≡ map targetOf (hitsIn es segment)
   hits-targets [] n = refl
-  hits-targets (x ∷ r) n = ap (λ (a : ℤ). a ∷ map (hitId c) r) (hit-target x (n 0 (omega arith))) ∙ ap (λ (l : List ℤ). targetOf (effectAt es (hitNumber x)) ∷ l) (hits-targets r (later x r n))
+  hits-targets (x ∷ r) n = ap (λ (a : ℤ). a ∷ map (hitId c) r) (hit-target x (n 0 (omega arith))) ∙ ap (λ (l : List ℤ). targetOf (numberedAt es (hitNumber x)) ∷ l) (hits-targets r (later x r n))
 
   -- the hits on a, as effects
-  hits-at : (segment : List (List ℕ)) → Among segment → (a : ℤ) → map (λ e. effectAt es (hitNumber e)) (hitsAt c segment a) ≡ keep (λ t. eqZ (t .«target_attribute_id») a) (hitsIn es segment)
+  hits-at : (segment : List (List ℕ)) → Among segment → (a : ℤ) → map (λ e. numberedAt es (hitNumber e)) (hitsAt c segment a) ≡ keep (λ n. eqZ (n .effect .«target_attribute_id») a) (hitsIn es segment)
   hits-at [] n a = refl
   hits-at (x ∷ r) n a =
-      ap (λ (i : ℤ). map (λ e. effectAt es (hitNumber e)) (put (eqZ i a) x (hitsAt c r a))) (hit-target x (n 0 (omega arith)))
-      ∙ put-mapped (eqZ (targetOf (effectAt es (hitNumber x))) a)
-      ∙ ap (put (eqZ (targetOf (effectAt es (hitNumber x))) a) (effectAt es (hitNumber x))) (hits-at r (later x r n) a)
+      ap (λ (i : ℤ). map (λ e. numberedAt es (hitNumber e)) (put (eqZ i a) x (hitsAt c r a))) (hit-target x (n 0 (omega arith)))
+      ∙ put-mapped (eqZ (targetOf (numberedAt es (hitNumber x))) a)
+      ∙ ap (put (eqZ (targetOf (numberedAt es (hitNumber x))) a) (numberedAt es (hitNumber x))) (hits-at r (later x r n) a)
     where
-      put-mapped : (t : Bool) → map (λ e. effectAt es (hitNumber e)) (put t x (hitsAt c r a)) ≡ put t (effectAt es (hitNumber x)) (map (λ e. effectAt es (hitNumber e)) (hitsAt c r a))
+      put-mapped : (t : Bool) → map (λ e. numberedAt es (hitNumber e)) (put t x (hitsAt c r a)) ≡ put t (numberedAt es (hitNumber x)) (map (λ e. numberedAt es (hitNumber e)) (hitsAt c r a))
       put-mapped true = refl
       put-mapped false = refl
 
   -- what g gives of the effects that are spread is what it gives of the entries, row by row
-  pub spread-entries : {B : Type 0} (g : Pass2Effect → B) (segment : List (List ℕ)) → Among segment → (ids : List ℤ)
-      → map (λ j. g (effectAt es j)) (spreadOver c segment ids) ≡ flat (λ a. map g (keep (λ t. eqZ (t .«target_attribute_id») a) (hitsIn es segment))) ids
+  pub spread-entries : {B : Type 0} (g : Numbered → B) (segment : List (List ℕ)) → Among segment → (ids : List ℤ)
+      → map (λ j. g (numberedAt es j)) (spreadOver c segment ids) ≡ flat (λ a. map g (keep (λ n. eqZ (n .effect .«target_attribute_id») a) (hitsIn es segment))) ids
   spread-entries {B} g segment n ids =
-      map-flat (λ j. g (effectAt es j)) (λ a. map hitNumber (hitsAt c segment a)) ids
-      ∙ flat-same (λ a. map (λ j. g (effectAt es j)) (map hitNumber (hitsAt c segment a))) (λ a. map g (keep (λ t. eqZ (t .«target_attribute_id») a) (hitsIn es segment)))
-      (λ a. map-map (λ j. g (effectAt es j)) hitNumber (hitsAt c segment a) ∙ sym (map-map g (λ e. effectAt es (hitNumber e)) (hitsAt c segment a)) ∙ ap (map g) (hits-at segment n a)) ids
+      map-flat (λ j. g (numberedAt es j)) (λ a. map hitNumber (hitsAt c segment a)) ids
+      ∙ flat-same (λ a. map (λ j. g (numberedAt es j)) (map hitNumber (hitsAt c segment a))) (λ a. map g (keep (λ n. eqZ (n .effect .«target_attribute_id») a) (hitsIn es segment)))
+      (λ a. map-map (λ j. g (numberedAt es j)) hitNumber (hitsAt c segment a) ∙ sym (map-map g (λ e. numberedAt es (hitNumber e)) (hitsAt c segment a)) ∙ ap (map g) (hits-at segment n a)) ids
 
 -- ---- the rows
 
-module _ (k : Book) (f : Fit) (o : Item) (hits : List Pass2Effect) where
+module _ (k : Book) (f : Fit) (o : Item) (hits : List Numbered) where
   -- as many entries as hits
   entries-count : (a : ℤ) → length (rowFor k f o hits a .entries) ≡ times (map targetOf hits) a
   unfolding rowFor
   entries-count a =
-      length-map (keep (λ t. eqZ (t .«target_attribute_id») a) hits) (entry k f o)
-      ∙ sym (ap length (keep-map (λ b. eqZ b a) targetOf hits) ∙ length-map (keep (λ t. eqZ (t .«target_attribute_id») a) hits) targetOf)
+      length-map (keep (λ n. eqZ (n .effect .«target_attribute_id») a) hits) (entry k f o)
+      ∙ sym (ap length (keep-map (λ b. eqZ b a) targetOf hits) ∙ length-map (keep (λ n. eqZ (n .effect .«target_attribute_id») a) hits) targetOf)
 
   pub rows-numbers : (e : ℕ) (ids : List ℤ) → rowsFrom (o .number) (times (map targetOf hits)) (times (map targetOf hits)) e ids ≡ rowsNumbers e 0 (map (rowFor k f o hits) ids) []
   unfolding rowFor

@@ -20,15 +20,15 @@ use Rattle.laws.proofs.Flat.{total, flat-same, flat-map, map-flat}
 use Rattle.laws.proofs.Laid.{laid-length, drop-laid}
 use Rattle.rules.specs.Bytes.{bits}
 use Rattle.rules.specs.Sheet.{Book, Fit, basesOf}
-use Rattle.rules.specs.Dispatch.{Row, entry}
+use Rattle.rules.specs.Dispatch.{Row, Numbered, entry}
 use Rattle.rules.specs.Columns.{originValue, rowsNumbers, entryNumbers}
 use Rattle.rules.specs.declared.Item.{Item}
 use Rattle.rules.specs.declared.Effect.{Effect}
 use Rattle.rules.specs.declared.Pass2Effect.{Pass2Effect}
-use Rattle.rows.specs.Tallies.{Tally, idOf, baseOf, tallyNumbers, narrow?, rowKey, hitNumber, hitId, Numbered, tallied, tallyOf, Stretch, Answered}
+use Rattle.info.specs.Stands.{numberedAt}
+use Rattle.rows.specs.Tallies.{Tally, idOf, baseOf, tallyNumbers, narrow?, rowKey, hitNumber, hitId, OfCollected, tallied, tallyOf, Stretch, Answered}
 use Rattle.rows.specs.declared.rows.Laid.{Laid}
 use Rattle.rows.specs.declared.rows.Laid.the-variants.{Rows, Full}
-use Rattle.info.specs.Stands.{effectAt}
 use Rattle.rows.specs.Entries.{times, rowsFrom, rowCount, started, effectNumber, hitsAt, spreadOver, hitsIn, rowFor, rowsFor, Counted, Spreading}
 use Rattle.rows.proofs.Defined.{hits-targets, spread-entries, rows-numbers}
 use Rattle.rows.proofs.Begins.{tallied-counted, spreading, begun-keys}
@@ -74,7 +74,7 @@ module _ (k : Book) (f : Fit) (o : Item) (i : ℕ) (segment c : List (List ℕ))
 
   -- ---- the hits are spread
 
-  module _ (N : Numbered segment c) (spreaded : List (List ℕ)) (s : map effectNumber spreaded ≡ spreadOver c segment ids) where
+  module _ (N : OfCollected segment c) (spreaded : List (List ℕ)) (s : map effectNumber spreaded ≡ spreadOver c segment ids) where
     abbrev below : ℕ → Bool
     below n = ltb n (length c)
 
@@ -99,11 +99,11 @@ module _ (k : Book) (f : Fit) (o : Item) (i : ℕ) (segment c : List (List ℕ))
 
   -- ---- the definition's rows
 
-  module _ {v : List Float} {n : ℕ} (N : Numbered segment c) (es : List Pass2Effect) (E : Effects es c v n) where
+  module _ {v : List Float} {n : ℕ} (N : OfCollected segment c) (es : List Pass2Effect) (E : Effects es c v n) where
     among : (j : ℕ) → j < length segment → hitNumber (getD segment j []) < length es
     among j h = rw (E .count) (N j h)
 
-    targets : map (hitId c) segment ≡ map (λ t. t .«target_attribute_id») (hitsIn es segment)
+    targets : map (hitId c) segment ≡ map (λ n. n .effect .«target_attribute_id») (hitsIn es segment)
     targets = hits-targets es c v (E .held) segment among
 
     pub owned-rows : rowsFor k f o (hitsIn es segment) ≡ map (rowFor k f o (hitsIn es segment)) ids
@@ -118,15 +118,15 @@ module _ (k : Book) (f : Fit) (o : Item) (i : ℕ) (segment c : List (List ℕ))
         ∙ ap (λ (l : List Row). rowsNumbers e 0 l []) (sym owned-rows)
 
     -- what g gives of the entries, one after another
-    entries-by : {B : Type 0} (g : Effect → B) → map (λ j. g (entry k f o (effectAt es j))) (spreadOver c segment ids) ≡ map g (entriesOf (rowsFor k f o (hitsIn es segment)))
+    entries-by : {B : Type 0} (g : Effect → B) → map (λ j. g (entry k f o (numberedAt es j))) (spreadOver c segment ids) ≡ map g (entriesOf (rowsFor k f o (hitsIn es segment)))
     unfolding rowFor
     entries-by g =
-        spread-entries es c v (E .held) (λ t. g (entry k f o t)) segment among ids
+        spread-entries es c v (E .held) (λ (x : Numbered). g (entry k f o x)) segment among ids
         ∙ sym (ap (λ (l : List Row). map g (entriesOf l)) owned-rows
         ∙ ap (map g) (flat-map (λ r. r .entries) (rowFor k f o (hitsIn es segment)) ids)
         ∙ map-flat g (λ a. rowFor k f o (hitsIn es segment) a .entries) ids
-        ∙ flat-same (λ a. map g (rowFor k f o (hitsIn es segment) a .entries)) (λ a. map (λ t. g (entry k f o t)) (keep (λ t. eqZ (t .«target_attribute_id») a) (hitsIn es segment)))
-        (λ a. map-map g (entry k f o) (keep (λ t. eqZ (t .«target_attribute_id») a) (hitsIn es segment))) ids)
+        ∙ flat-same (λ a. map g (rowFor k f o (hitsIn es segment) a .entries)) (λ a. map (λ (x : Numbered). g (entry k f o x)) (keep (λ (x : Numbered). eqZ (x .effect .«target_attribute_id») a) (hitsIn es segment)))
+        (λ a. map-map g (entry k f o) (keep (λ (x : Numbered). eqZ (x .effect .«target_attribute_id») a) (hitsIn es segment))) ids)
 
     pub owned-entries : (spreaded : List (List ℕ)) {segment′ : List (List ℕ)} {values′ : List Float} → map effectNumber spreaded ≡ spreadOver c segment ids
         → (segment′ ≡ map (entryOf k f o es) spreaded) × (values′ ≡ map (valueOf es) spreaded) → EntriesLaid (rowsFor k f o (hitsIn es segment)) segment′ values′
@@ -134,11 +134,11 @@ module _ (k : Book) (f : Fit) (o : Item) (i : ℕ) (segment c : List (List ℕ))
     owned-entries spreaded s w =
         record {
           entries =
-              w .0 ∙ sym (map-map (λ j. entryNumbers (entry k f o (effectAt es j))) effectNumber spreaded)
-              ∙ ap (map (λ j. entryNumbers (entry k f o (effectAt es j)))) s ∙ entries-by entryNumbers;
+              w .0 ∙ sym (map-map (λ j. entryNumbers (entry k f o (numberedAt es j))) effectNumber spreaded)
+              ∙ ap (map (λ j. entryNumbers (entry k f o (numberedAt es j)))) s ∙ entries-by entryNumbers;
           values =
-              w .1 ∙ sym (map-map (λ j. originValue (entry k f o (effectAt es j) .origin)) effectNumber spreaded)
-              ∙ ap (map (λ j. originValue (entry k f o (effectAt es j) .origin))) s ∙ entries-by (λ x. originValue (x .origin));
+              w .1 ∙ sym (map-map (λ j. originValue (entry k f o (numberedAt es j) .origin)) effectNumber spreaded)
+              ∙ ap (map (λ j. originValue (entry k f o (numberedAt es j) .origin))) s ∙ entries-by (λ x. originValue (x .origin));
         }
 
     module _ (h : ascends (map (λ r. r .«attribute_id») (basesOf f o)) ≡ true) where

@@ -17,7 +17,7 @@ use Rattle.rules.specs.Constants.{exemptCategories}
 use Rattle.rules.specs.Sheet.{Book, Fit, fitOf, basesOf}
 use Rattle.rules.specs.Info.{getDogmaAttribute, stackable}
 use Rattle.rules.specs.Item.{object}
-use Rattle.rules.specs.Dispatch.{sourceCategory, isSource, entry}
+use Rattle.rules.specs.Dispatch.{sourceCategory, isSource, Numbered, entry}
 use Rattle.rules.specs.Columns.{yes1, originNumbers, collectedNumbers, entryNumbers}
 use Rattle.rules.specs.declared.Item.{Item}
 use Rattle.rules.specs.declared.DogmaAttribute.{DogmaAttribute}
@@ -73,17 +73,20 @@ module _ (t : Pass2Effect) (row : List ℕ) (e : row ≡ collectedNumbers t) whe
 
   -- ---- the penalty
 
-  module _ (k : Book) (f : Fit) (o : Item) (x : Bool) (c : ℤ) (s : x ≡ some? (eqZ c) exemptCategories) (u : c ≡ sourceCategory f (t .origin)) where
+  module _ (k : Book) (f : Fit) (o : Item) (n : ℕ) (x : Bool) (c : ℤ) (s : x ≡ some? (eqZ c) exemptCategories) (u : c ≡ sourceCategory f (t .origin)) where
+    abbrev one : Numbered
+    one = record { number = n; effect = t }
+
     exempt-is : x ≡ some? (eqZ (sourceCategory f (t .origin))) exemptCategories
     exempt-is = s ∙ ap (λ (z : ℤ). some? (eqZ z) exemptCategories) u
 
-    pub penalty-exempt : x ≡ true → false ≡ entry k f o t .penalty
+    pub penalty-exempt : x ≡ true → false ≡ entry k f o one .penalty
     unfolding entry
     penalty-exempt h =
         sym (ap (λ (b : Bool). not (stackable (getDogmaAttribute k (t .«target_attribute_id»))) && not b) (sym exempt-is ∙ h)
         ∙ and-false-right (not (stackable (getDogmaAttribute k (t .«target_attribute_id»)))))
 
-    pub penalty-else : x ≡ false → SFits w32 (t .«target_attribute_id») → (r : DogmaAttribute) (a : ℤ) → r ≡ getDogmaAttribute k a → a ≡ toZ w32 (getD row 11 0) → not (eqb (r .flags % 2) 1) ≡ entry k f o t .penalty
+    pub penalty-else : x ≡ false → SFits w32 (t .«target_attribute_id») → (r : DogmaAttribute) (a : ℤ) → r ≡ getDogmaAttribute k a → a ≡ toZ w32 (getD row 11 0) → not (eqb (r .flags % 2) 1) ≡ entry k f o one .penalty
     unfolding entry
     penalty-else h w r a p q =
         ap (λ (d : DogmaAttribute). not (stackable d)) (p ∙ ap (getDogmaAttribute k) (q ∙ attribute-in w))
@@ -105,9 +108,9 @@ module _ (t : Pass2Effect) (row : List ℕ) (e : row ≡ collectedNumbers t) whe
     quantity-other h = quantity-in ∙ ap (λ (b : Bool). cond b 1 (t .«source_quantity»)) (sym (sym own ∙ h))
 
 -- the quantity of the entry on object o
-pub quantity-entry : (k : Book) (f : Fit) (o : Item) (t : Pass2Effect) (n q : ℕ) → o .number ≡ n → q ≡ cond (isSource (t .origin) n) 1 (t .«source_quantity») → q ≡ entry k f o t .quantity
+pub quantity-entry : (k : Book) (f : Fit) (o : Item) (x : Numbered) (n q : ℕ) → o .number ≡ n → q ≡ cond (isSource (x .effect .origin) n) 1 (x .effect .«source_quantity») → q ≡ entry k f o x .quantity
 unfolding entry
-quantity-entry k f o t n q e h = h ∙ ap (λ (m : ℕ). cond (isSource (t .origin) m) 1 (t .«source_quantity»)) (sym e)
+quantity-entry k f o x n q e h = h ∙ ap (λ (m : ℕ). cond (isSource (x .effect .origin) m) 1 (x .effect .«source_quantity»)) (sym e)
 
 -- an object's number is its place
 module _ (b : List ℕ) (pairs : List (List ℕ)) where
@@ -119,5 +122,5 @@ module _ (b : List ℕ) (pairs : List (List ℕ)) where
   bases-ascend S i h = sized b pairs (S .good) .bases i (rw (objects-length b pairs) h)
 
 -- the whole row, whose penalty is a number
-pub entry-written : (k : Book) (f : Fit) (o : Item) (t : Pass2Effect) (c : List ℕ) (p : Bool) (x q : ℕ) → c ≡ collectedNumbers t → x ≡ yes1 p → p ≡ entry k f o t .penalty → q ≡ entry k f o t .quantity → entryRow c x q ≡ entryNumbers (entry k f o t)
-entry-written k f o t c p x q e u s h = ap (λ (y : ℕ). entryRow c y q) u ∙ written k f o t c p q e s h
+pub entry-written : (k : Book) (f : Fit) (o : Item) (x : Numbered) (c : List ℕ) (p : Bool) (y q n : ℕ) → c ≡ collectedNumbers (x .effect) → y ≡ yes1 p → p ≡ entry k f o x .penalty → q ≡ entry k f o x .quantity → x .number ≡ n → entryRow c y q n ≡ entryNumbers (entry k f o x)
+entry-written k f o x c p y q n e u s h w = ap (λ (z : ℕ). entryRow c z q n) u ∙ written k f o x c p q n e s h w

@@ -25,8 +25,8 @@ use Rattle.rules.specs.Item.{object}
 use Rattle.rules.specs.Dispatch.{Row}
 use Rattle.rules.specs.Columns.{originValue, rowsNumbers, entryNumbers}
 use Rattle.rules.specs.declared.Pass2Effect.{Pass2Effect}
-use Rattle.rows.specs.Tallies.{hitNumber, Numbered}
-use Rattle.info.specs.Stands.{effectAt}
+use Rattle.info.specs.Stands.{numberedAt}
+use Rattle.rows.specs.Tallies.{hitNumber, OfCollected}
 use Rattle.rows.specs.Entries.{hitsIn, rowsFor}
 use Rattle.rows.specs.declared.rows.Laid.{Laid}
 use Rattle.rows.specs.declared.rows.Laid.the-variants.{Rows, Full}
@@ -214,7 +214,7 @@ module _ (k : Book) (f : Fit) (c : List (List ℕ)) (v : List Float) (objects : 
           ∙ ap (λ (m : ℕ). span m (length (part i)) (flat part (from 0 objects))) (K .start)
           ∙ to-part part i objects h
 
-      pub turn-numbered : Numbered segment c
+      pub turn-numbered : OfCollected segment c
       turn-numbered j l =
           ltb-true (hitNumber (getD segment j [])) (length c)
           (sym (ap (λ (m : ℕ). ltb m (length c)) (map-at hitNumber segment j [] 0 l))
@@ -226,7 +226,7 @@ module _ (k : Book) (f : Fit) (c : List (List ℕ)) (v : List Float) (objects : 
       -- the rows of object i
       turn-rows : (es : List Pass2Effect) (part : ℕ → List ℕ) → Parts part objects entries₀ ends → rowsFor k f (object f i) (hitsIn es segment) ≡ partRows k f es part i
       turn-rows es part Q =
-          ap (rowsFor k f (object f i)) (sym (map-map (effectAt es) hitNumber segment) ∙ ap (map (effectAt es)) (turn-hits part Q))
+          ap (rowsFor k f (object f i)) (sym (map-map (numberedAt es) hitNumber segment) ∙ ap (map (numberedAt es)) (turn-hits part Q))
 
       module _ (pr : room ≤ length rows₀) (pb : room ≤ length bases₀) where
         stretch-long : length (take (room - n) (drop n rows)) ≡ room - n

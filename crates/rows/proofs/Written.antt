@@ -16,7 +16,7 @@ use Rattle.rules.specs.Codes.{operatorCode}
 use Rattle.rules.specs.Constants.{exemptCategories}
 use Rattle.rules.specs.Sheet.{Book, Fit}
 use Rattle.rules.specs.Info.{getDogmaAttribute, stackable}
-use Rattle.rules.specs.Dispatch.{sourceCategory, isSource, entry}
+use Rattle.rules.specs.Dispatch.{sourceCategory, isSource, Numbered, entry}
 use Rattle.rules.specs.Columns.{yes1, originNumbers, modifierNumbers, optionalNumbers, collectedNumbers, entryNumbers}
 use Rattle.rules.specs.declared.Item.{Item}
 use Rattle.rules.specs.declared.Pass2Effect.{Pass2Effect}
@@ -57,19 +57,26 @@ two ItemModifier = record { x = 4; y = 0; is = refl }
 abbrev row : Origin → List ℕ → OptionalId → ℕ → ℕ → ℕ → ℕ → List ℕ
 row g m r op quantity target a = originNumbers g ++ m ++ (op ∷ quantity ∷ target ∷ a ∷ optionalNumbers r)
 
-written-by : (g : Origin) (r : OptionalId) (x y op quantity target a p q : ℕ) → entryRow (row g (x ∷ y ∷ []) r op quantity target a) p q ≡ originNumbers g ++ (op ∷ p ∷ q ∷ optionalNumbers r)
-written-by (origin.Effect e o c i) Absent x y op quantity target a p q = refl
-written-by (origin.Effect e o c i) (Given b) x y op quantity target a p q = refl
-written-by (origin.Buff b v) Absent x y op quantity target a p q = refl
-written-by (origin.Buff b v) (Given d) x y op quantity target a p q = refl
+written-by : (g : Origin) (r : OptionalId) (x y op quantity target a p q n : ℕ) → entryRow (row g (x ∷ y ∷ []) r op quantity target a) p q n ≡ originNumbers g ++ (op ∷ p ∷ q ∷ (optionalNumbers r ++ (n ∷ [])))
+written-by (origin.Effect e o c i) Absent x y op quantity target a p q n = refl
+written-by (origin.Effect e o c i) (Given b) x y op quantity target a p q n = refl
+written-by (origin.Buff b v) Absent x y op quantity target a p q n = refl
+written-by (origin.Buff b v) (Given d) x y op quantity target a p q n = refl
 
-module _ (k : Book) (f : Fit) (o : Item) (t : Pass2Effect) where
-  -- what is read, with the penalty and the quantity, is the entry
-  pub written : (c : List ℕ) (p : Bool) (q : ℕ) → c ≡ collectedNumbers t → p ≡ entry k f o t .penalty → q ≡ entry k f o t .quantity → entryRow c (yes1 p) q ≡ entryNumbers (entry k f o t)
+module _ (k : Book) (f : Fit) (o : Item) (x : Numbered) where
+  abbrev t : Pass2Effect
+  t = x .effect
+
+  abbrev made : Bool → ℕ → ℕ → List ℕ
+  made p q n = originNumbers (t .origin) ++ (operatorCode (t .operator) ∷ yes1 p ∷ q ∷ (optionalNumbers (t .resistance) ++ (n ∷ [])))
+
+  -- what is read, with the penalty, the quantity and the number, is the entry
+  pub written : (c : List ℕ) (p : Bool) (q n : ℕ) → c ≡ collectedNumbers t → p ≡ entry k f o x .penalty → q ≡ entry k f o x .quantity → x .number ≡ n → entryRow c (yes1 p) q n ≡ entryNumbers (entry k f o x)
   unfolding entry
-  written c p q e s u =
+  written c p q n e s u w =
       let m = two (t .modifier) in
-      ap (λ (l : List ℕ). entryRow l (yes1 p) q) (e ∙ ap (λ (l : List ℕ). row (t .origin) l (t .resistance) (operatorCode (t .operator)) (t .«source_quantity») (t .target) (bits (t .«target_attribute_id»))) (m .is))
-      ∙ written-by (t .origin) (t .resistance) (m .x) (m .y) (operatorCode (t .operator)) (t .«source_quantity») (t .target) (bits (t .«target_attribute_id»)) (yes1 p) q
-      ∙ ap (λ (b : Bool). originNumbers (t .origin) ++ (operatorCode (t .operator) ∷ yes1 b ∷ q ∷ optionalNumbers (t .resistance))) s
-      ∙ ap (λ (n : ℕ). originNumbers (t .origin) ++ (operatorCode (t .operator) ∷ yes1 (entry k f o t .penalty) ∷ n ∷ optionalNumbers (t .resistance))) u
+      ap (λ (l : List ℕ). entryRow l (yes1 p) q n) (e ∙ ap (λ (l : List ℕ). row (t .origin) l (t .resistance) (operatorCode (t .operator)) (t .«source_quantity») (t .target) (bits (t .«target_attribute_id»))) (m .is))
+      ∙ written-by (t .origin) (t .resistance) (m .x) (m .y) (operatorCode (t .operator)) (t .«source_quantity») (t .target) (bits (t .«target_attribute_id»)) (yes1 p) q n
+      ∙ ap (λ (b : Bool). made b q n) s
+      ∙ ap (λ (c : ℕ). made (entry k f o x .penalty) c n) u
+      ∙ ap (λ (c : ℕ). made (entry k f o x .penalty) (entry k f o x .quantity) c) (sym w)

@@ -9,7 +9,7 @@ use Rattle.rules.specs.Dispatch.{entry}
 use Rattle.rules.specs.Columns.{originValue, entryNumbers}
 use Rattle.rules.specs.declared.Item.{Item}
 use Rattle.rules.specs.declared.Pass2Effect.{Pass2Effect}
-use Rattle.info.specs.Stands.{Pointing, effectAt}
+use Rattle.info.specs.Stands.{Pointing, effectAt, numberedAt}
 use Rattle.rows.specs.Entries.{effectNumber, Collected}
 
 -- the columns of list 1 hold these effects and nothing more; their sources are among n objects
@@ -30,7 +30,7 @@ Taken segment c = (k : ℕ) → k < length segment → effectNumber (getD segmen
 
 -- an entry on object o, and its value, from the number of its effect
 abbrev pub entryOf : Book → Fit → Item → List Pass2Effect → List ℕ → List ℕ
-entryOf k f o es e = entryNumbers (entry k f o (effectAt es (effectNumber e)))
+entryOf k f o es e = entryNumbers (entry k f o (numberedAt es (effectNumber e)))
 
 abbrev pub valueOf : List Pass2Effect → List ℕ → Float
 valueOf es e = originValue (effectAt es (effectNumber e) .origin)

@@ -13,8 +13,8 @@ use Rattle.rules.specs.Item.{object}
 use Rattle.rules.specs.Dispatch.{Row}
 use Rattle.rules.specs.Columns.{originValue, rowsNumbers, entryNumbers}
 use Rattle.rules.specs.declared.Pass2Effect.{Pass2Effect}
+use Rattle.info.specs.Stands.{numberedAt}
 use Rattle.rows.specs.Tallies.{hitNumber}
-use Rattle.info.specs.Stands.{effectAt}
 use Rattle.rows.specs.Entries.{rowsFor}
 use Rattle.rows.specs.declared.rows.Laid.{Laid}
 use Rattle.rows.specs.declared.rows.Laid.the-variants.{Rows, Full}
@@ -40,7 +40,7 @@ pub record Parting (objects : ℕ) (entries : List (List ℕ)) (values : List Fl
 
 -- the rows of object i, and those of the first n objects
 abbrev pub partRows : Book → Fit → List Pass2Effect → (ℕ → List ℕ) → ℕ → List Row
-partRows k f es part i = rowsFor k f (object f i) (map (effectAt es) (part i))
+partRows k f es part i = rowsFor k f (object f i) (map (numberedAt es) (part i))
 
 abbrev pub rowsTo : Book → Fit → List Pass2Effect → (ℕ → List ℕ) → ℕ → List Row
 rowsTo k f es part n = flat (partRows k f es part) (from 0 n)

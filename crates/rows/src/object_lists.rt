@@ -23,7 +23,7 @@ ghost use Rattle.rules.specs.Columns.{rowsNumbers};
 ghost use Rattle.rules.specs.declared.Pass2Effect.{Pass2Effect};
 ghost use Rattle.info.specs.At.{bookAt, fitAt, objectsAt};
 ghost use Rattle.info.specs.Sound.{SoundBook, SoundFit};
-ghost use Rattle.rows.specs.Tallies.{hitId, Numbered, tallied};
+ghost use Rattle.rows.specs.Tallies.{hitId, OfCollected, tallied};
 ghost use Rattle.rows.specs.Effects.{Listing};
 ghost use Rattle.rows.specs.At.{rowsOf, Holding, ObjectLaidAt, AllLaidAt};
 ghost use Rattle.rows.specs.Laying.{Tallied, EntriesLaid};
@@ -47,7 +47,7 @@ fn object_entries(
     requires an_object { ⌜ i < countOf (now pairs) 6 ⌝ }
     requires listed { ⌜ Listing (now collected) (now «collected_values») (countOf (now pairs) 6) ⌝ }
     requires even { ⌜ length (now segment) ≡ length (now values) ⌝ }
-    requires numbered { ⌜ (Numbered (now segment) (now collected)) × (from + length (now segment) < 2 ^ 32) ⌝ }
+    requires numbered { ⌜ (OfCollected (now segment) (now collected)) × (from + length (now segment) < 2 ^ 32) ⌝ }
     requires raised { let f = fitOf (now fit) (now pairs) in
         ⌜ Tallied i (tallied (bookOf (now book) (now pairs)) f (items.object f i) (map (hitId (now collected)) (now segment))) (now rows) ⌝ }
     ensures laid { λ _.
@@ -88,7 +88,7 @@ pub fn object_lists(
     requires an_object { ⌜ i < countOf (now pairs) 6 ⌝ }
     requires listed { ⌜ Listing (now collected) (now «collected_values») (countOf (now pairs) 6) ⌝ }
     requires even { ⌜ (length (now rows) ≡ length (now bases)) × (length (now segment) ≡ length (now values)) ⌝ }
-    requires numbered { ⌜ (Numbered (now segment) (now collected)) × (from + length (now segment) < 2 ^ 32) ⌝ }
+    requires numbered { ⌜ (OfCollected (now segment) (now collected)) × (from + length (now segment) < 2 ^ 32) ⌝ }
     ensures laid { λ r.
         ⌜ ((es : List Pass2Effect) → Holding es collected «collected_values» pairs
         → ObjectLaidAt r from (rowsOf book fit pairs i segment es) rows bases segment values) ⌝ }

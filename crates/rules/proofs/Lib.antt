@@ -3,6 +3,7 @@ pub mod Everything
 pub mod Written
 pub mod Marked
 pub mod Slips
+pub mod Numbers
 pub mod Tables
 pub mod Verdicts
 pub mod Ranked

@@ -72,7 +72,13 @@ rowsNumbers e s (r ∷ rs) (q ∷ qs) =
 
 -- list 3: `Effect`; "3 those of `Effect`"
 abbrev pub entryNumbers : Effect → List ℕ
-entryNumbers e = originNumbers (e .origin) ++ (operatorCode (e .operator) ∷ yes1 (e .penalty) ∷ e .quantity ∷ optionalNumbers (e .resistance))
+entryNumbers e =
+    originNumbers (e .origin)
+    ++ (operatorCode (e .operator) ∷ yes1 (e .penalty) ∷ e .quantity ∷ (optionalNumbers (e .resistance) ++ (e .number ∷ [])))
+
+-- an entry of zeros
+abbrev pub zeroEntry : List ℕ
+zeroEntry = replicate 12 0
 
 -- list 4; "4 object and effect id"
 abbrev pub plainNumbers : Plain → List ℕ
@@ -175,7 +181,7 @@ valueColumn r n = column (λ x. x) zeroF (valueList r) n
 
 -- "3 entries"
 unfoldable pub entryColumn : Res Done → ℕ → List (List ℕ)
-entryColumn r n = column entryNumbers (replicate 11 0) (entryList r) n
+entryColumn r n = column entryNumbers zeroEntry (entryList r) n
 
 unfoldable pub entryValueColumn : Res Done → ℕ → List Float
 entryValueColumn r n = column (λ e. originValue (e .origin)) zeroF (entryList r) n

@@ -71,16 +71,28 @@ hit k f t o = hitBy (t .modifier)
     hitBy (LocationRequiredSkillModifier s) = inSkillLocation k f (t .target) o && requires f o (meant f (t .origin) s)
     hitBy (OwnerRequiredSkillModifier s) = (isCharge o || isItem o && isOwnerModifiable o) && requires f o (meant f (t .origin) s)
 
--- ---- entries: `add_effect`
+-- ---- what is collected, numbered once: an effect's number is its row in list 1, from 0
 
-unfoldable pub entry : Book → Fit → Item → Pass2Effect → Effect
-entry k f o t =
+pub record Numbered : Type 0 where
+  pub number : ℕ
+  pub effect : Pass2Effect
+
+abbrev pub numbered : ℕ → List Pass2Effect → List Numbered
+numbered n [] = []
+numbered n (t ∷ r) = record { number = n; effect = t } ∷ numbered (suc n) r
+
+-- ---- entries: `add_effect`. "Entries keep their collection number"
+
+unfoldable pub entry : Book → Fit → Item → Numbered → Effect
+entry k f o n =
+    let t = n .effect in
     record {
       origin = t .origin;
       operator = t .operator;
       penalty = not (stackable (getDogmaAttribute k (t .«target_attribute_id»))) && not (some? (eqZ (sourceCategory f (t .origin))) exemptCategories);
       quantity = cond (isSource (t .origin) (o .number)) 1 (t .«source_quantity»);
       resistance = t .resistance;
+      number = n .number;
     }
 
 -- ---- rows: "by object, then attribute id; entries .. by row, then arrival"
@@ -94,12 +106,12 @@ pub record Row : Type 0 where
 
 module _ (k : Book) (f : Fit) (ts : List Pass2Effect) where
   -- what hits an object, in the order of collection
-  unfoldable pub hitsOn : Item → List Pass2Effect
-  hitsOn o = keep (λ t. hit k f t o) ts
+  unfoldable pub hitsOn : Item → List Numbered
+  hitsOn o = keep (λ n. hit k f (n .effect) o) (numbered 0 ts)
 
   -- its base attributes, and those that its hits are on; "`BTreeMap`, `BTreeSet`, `Vec` become ordered columns"
   unfoldable pub idsOf : Item → List ℤ
-  idsOf o = insertAll (map (λ t. t .«target_attribute_id») (hitsOn o)) (map (λ r. r .«attribute_id») (basesOf f o))
+  idsOf o = insertAll (map (λ n. n .effect .«target_attribute_id») (hitsOn o)) (map (λ r. r .«attribute_id») (basesOf f o))
 
   -- a new row starts at the attribute's default
   unfoldable pub rowOf : Item → ℤ → Row
@@ -108,7 +120,7 @@ module _ (k : Book) (f : Fit) (ts : List Pass2Effect) where
         object = o .number;
         id = a;
         base = elim (getBase f o a) [ none ↦ getDogmaAttribute k a .«default_value» | some r ↦ r .value ];
-        entries = map (entry k f o) (keep (λ t. eqZ (t .«target_attribute_id») a) (hitsOn o));
+        entries = map (entry k f o) (keep (λ n. eqZ (n .effect .«target_attribute_id») a) (hitsOn o));
       }
 
   -- "Rows run by object, then attribute id"

@@ -130,13 +130,14 @@ pub struct Pass2Effect {
     pub resistance: OptionalId,
 }
 
-// An entry of an attribute row: a row of list 3.
+// An entry of an attribute row: a row of list 3. Its number is its effect's row in list 1, from 0.
 pub struct Effect {
     pub origin: Origin,
     pub operator: EffectOperator,
     pub penalty: bool,
     pub quantity: u32,
     pub resistance: OptionalId,
+    pub number: u32,
 }
 
 // What a source row is from.

@@ -1,5 +1,6 @@
 // The text of a sheet: from the bytes that were read to the bytes that are to be written (01, "The listing").
 use calculate::dogma_calculate;
+use columns::ENTRY_WIDTH;
 use columns::OBJECTS;
 use listing::refusal;
 use listing::result_text;
@@ -33,7 +34,7 @@ fn calculated_text(text: &mut [u8; TEXT_BYTES], sheet: &[u8]) -> usize
     let mut rows = [[0u32; 6]; ROWS];
     let mut bases = [0.0; ROWS];
     let mut values = [0.0; ROWS];
-    let mut entries = [[0u32; 11]; ROWS];
+    let mut entries = [[0u32; ENTRY_WIDTH]; ROWS];
     let mut entry_values = [0.0; ROWS];
     let mut plain = [[0u32; 2]; ROWS];
     let mut sources = [[0u32; 10]; ROWS];

@@ -7,6 +7,8 @@ use lib.IntN.{ℤ}
 use lib.ListN.{length, getD, take, drop}
 use lib.Signed.{ltZ}
 use Rattle.laws.specs.Lists.{eqZ, put, keep, flat, insert, insertAll}
+use Rattle.rules.specs.Dispatch.{Numbered, numbered}
+use Rattle.rules.specs.declared.Pass2Effect.{Pass2Effect}
 use Rattle.values.specs.SoundRows.{AllAre}
 
 module _ {A : Type 0} (P : A → Type 0) where
@@ -72,3 +74,8 @@ module _ (P : ℤ → Type 0) where
   pub all-inserted : (xs l : List ℤ) → AllAre P xs → AllAre P l → AllAre P (insertAll xs l)
   all-inserted [] l a h = h
   all-inserted (x ∷ xs) l a h = all-inserted xs (insert x l) (a .1) (all-insert x l (a .0) h)
+
+-- what holds of the effects holds of them numbered
+pub all-numbered : (P : Pass2Effect → Type 0) (k : ℕ) (ts : List Pass2Effect) → AllAre P ts → AllAre (λ (n : Numbered). P (n .effect)) (numbered k ts)
+all-numbered P k [] a = tt
+all-numbered P k (t ∷ ts) a = (a .0, all-numbered P (suc k) ts (a .1))

@@ -19,7 +19,7 @@ use Rattle.rules.specs.Bytes.{u32At, countOf, recordAt}
 use Rattle.rules.specs.Sheet.{Book, Fit, bookOf, fitOf, baseFrom, basesOf}
 use Rattle.rules.specs.Info.{getDogmaAttribute, getBase}
 use Rattle.rules.specs.Shape.{basesGood}
-use Rattle.rules.specs.Dispatch.{Row, hitsOn, idsOf, rowOf, rows}
+use Rattle.rules.specs.Dispatch.{Row, Numbered, numbered, hitsOn, idsOf, rowOf, rows}
 use Rattle.rules.specs.declared.Item.{Item}
 use Rattle.rules.specs.declared.BaseAttribute.{BaseAttribute}
 use Rattle.rules.specs.declared.Pass2Effect.{Pass2Effect}
@@ -29,7 +29,7 @@ use Rattle.info.proofs.Defaults.{first-or-passes, defaults-finite}
 use Rattle.info.proofs.Narrow.{signed-narrow}
 use Rattle.reading.specs.Held.{noRow}
 use Rattle.values.specs.SoundRows.{AllAre}
-use Rattle.values.proofs.All.{all-at, all-each, all-keep, all-take, all-drop, all-map, all-flat, all-inserted}
+use Rattle.values.proofs.All.{all-at, all-each, all-keep, all-take, all-drop, all-map, all-flat, all-inserted, all-numbered}
 
 -- what holds of each row that an object may have
 module _ (P : Row → Type 0) (k : Book) (f : Fit) (ts : List Pass2Effect) where
@@ -82,8 +82,9 @@ module _ (b : List ℕ) (pairs : List (List ℕ)) where
     ids-narrow : (o : Item) → AllAre Narrow (idsOf k (fitOf b pairs) ts o)
     unfolding idsOf hitsOn
     ids-narrow o =
-        all-inserted Narrow (map (λ t. t .«target_attribute_id») (hitsOn k (fitOf b pairs) ts o)) (map (λ r. r .«attribute_id») (basesOf (fitOf b pairs) o))
-        (all-map Narrow (λ t. t .«target_attribute_id») (hitsOn k (fitOf b pairs) ts o) (all-keep (λ (t : Pass2Effect). Narrow (t .«target_attribute_id»)) _ ts h))
+        all-inserted Narrow (map (λ n. n .effect .«target_attribute_id») (hitsOn k (fitOf b pairs) ts o)) (map (λ r. r .«attribute_id») (basesOf (fitOf b pairs) o))
+        (all-map Narrow (λ n. n .effect .«target_attribute_id») (hitsOn k (fitOf b pairs) ts o)
+        (all-keep (λ (n : Numbered). Narrow (n .effect .«target_attribute_id»)) _ (numbered 0 ts) (all-numbered (λ (t : Pass2Effect). Narrow (t .«target_attribute_id»)) 0 ts h)))
         (own-narrow o)
 
     pub rows-narrow : (i : ℕ) → i < length (rows k (fitOf b pairs) ts) → SFits w32 (getD (rows k (fitOf b pairs) ts) i noRow .id)

@@ -10,27 +10,29 @@ use lib.Seq.{getD-append-add}
 use Rattle.laws.specs.Lists.{eqZ, keep, flat}
 use Rattle.laws.proofs.Flat.{total}
 use Rattle.rules.specs.Sheet.{Book, Fit}
-use Rattle.rules.specs.Dispatch.{Row, entry, hit, hitsOn, idsOf, rowOf, rows}
+use Rattle.rules.specs.Dispatch.{Row, Numbered, numbered, entry, hit, hitsOn, idsOf, rowOf, rows}
 use Rattle.rules.specs.declared.Effect.{Effect}
 use Rattle.rules.specs.declared.Item.{Item}
 use Rattle.rules.specs.declared.Pass2Effect.{Pass2Effect}
 use Rattle.reading.specs.Held.{noRow}
 use Rattle.values.specs.SoundRows.{AllAre, Fair, Readable}
-use Rattle.values.proofs.All.{all-at, all-each, all-append, all-keep, all-map, all-weaker}
+use Rattle.values.proofs.All.{all-at, all-each, all-append, all-keep, all-map, all-weaker, all-numbered}
 use Rattle.values.proofs.Bases.{all-rows}
 
 module _ (k : Book) (f : Fit) (ts : List Pass2Effect) (h : AllAre Fair ts) where
-  entry-readable : (o : Item) (t : Pass2Effect) → Fair t → Readable (entry k f o t)
+  entry-readable : (o : Item) (n : Numbered) → Fair (n .effect) → Readable (entry k f o n)
   unfolding entry
-  entry-readable o t q = record { good = record { sourced = q .sourced; valued = q .valued }; origin = q .origin; resistance = q .resistance }
+  entry-readable o n q = record { good = record { sourced = q .sourced; valued = q .valued }; origin = q .origin; resistance = q .resistance }
 
   row-readable : (o : Item) (a : ℤ) → AllAre Readable (rowOf k f ts o a .entries)
   unfolding rowOf hitsOn
   row-readable o a =
-      let hits = keep (λ t. hit k f t o) ts in
-      let own = keep (λ t. eqZ (t .«target_attribute_id») a) hits in
+      let hits = keep (λ n. hit k f (n .effect) o) (numbered 0 ts) in
+      let own = keep (λ n. eqZ (n .effect .«target_attribute_id») a) hits in
+      let fair : Numbered → Type 0 = λ n. Fair (n .effect) in
       all-map Readable (entry k f o) own
-      (all-weaker Fair (λ (t : Pass2Effect). Readable (entry k f o t)) (entry-readable o) own (all-keep Fair (λ t. eqZ (t .«target_attribute_id») a) hits (all-keep Fair (λ t. hit k f t o) ts h)))
+      (all-weaker fair (λ (n : Numbered). Readable (entry k f o n)) (entry-readable o) own
+      (all-keep fair (λ n. eqZ (n .effect .«target_attribute_id») a) hits (all-keep fair (λ n. hit k f (n .effect) o) (numbered 0 ts) (all-numbered Fair 0 ts h))))
 
   pub rows-readable : AllAre (λ (r : Row). AllAre Readable (r .entries)) (rows k f ts)
   rows-readable = all-rows (λ (r : Row). AllAre Readable (r .entries)) k f ts (λ o. all-each (λ (a : ℤ). AllAre Readable (rowOf k f ts o a .entries)) (row-readable o) (idsOf k f ts o))

@@ -9,7 +9,7 @@ use lib.ListN.{replicate}
 use Rattle.clear.proofs.Zeros.{Clearing, clearing-none, clearing-next, clearing-end}
 
 abbrev Inv-loop : tie.InvT-loop
-Inv-loop entries₀ from n i₀ entries i = Clearing (replicate 11 0) from entries₀ entries i
+Inv-loop entries₀ from n i₀ entries i = Clearing (replicate 12 0) from entries₀ entries i
 
 abbrev μ-loop : tie.MeasureT-loop
 μ-loop entries₀ from n i₀ entries i = n - i
@@ -20,11 +20,11 @@ zero-entries-spec =
     (tie.spec
     Inv-loop
     μ-loop
-    (λ c. clearing-none (replicate 11 0) _ _)
+    (λ c. clearing-none (replicate 12 0) _ _)
     (λ c. search needs)
     (λ c. search needs)
     (λ c. search needs)
     (λ c. search needs)
-    (λ c. clearing-next (replicate 11 0) (c .before .loop .inv) (c .loop-test .taken) refl)
+    (λ c. clearing-next (replicate 12 0) (c .before .loop .inv) (c .loop-test .taken) refl)
     (λ c. c .before .loop .inv .long)
-    (λ c. clearing-end (replicate 11 0) (c .before .loop .inv) (c .loop-test .left)))
+    (λ c. clearing-end (replicate 12 0) (c .before .loop .inv) (c .loop-test .left)))

@@ -21,4 +21,5 @@ entry-at-spec =
     (λ c. search needs)
     (λ c. search needs)
     (λ c κs. search needs)
+    (λ c. search needs)
     (λ c. entry-read (c .before .before .origin-of .ensures) (c .before .operator-of .ensures) (c .optional-id .ensures)))
