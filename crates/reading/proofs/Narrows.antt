@@ -1,5 +1,5 @@
 -- The search in a stretch finds what the definition's first match is.
-use Prim.Native.Nat.{ℕ, _+_, _*_, _-_, _≤_, _<_}
+use Prim.Native.Nat.{ℕ, _+_, _-_, _≤_, _<_}
 use native.Mathlib.Omega.{arith}
 use mathlib.Core.Path.{_≡_, sym, ap, subst, _∙_}
 use mathlib.Core.Bool.{Bool, true, false, _&&_, cond}
@@ -14,98 +14,23 @@ use mir.Syntax.{w32}
 use mir.Val.{SFits, toZ, ofZ}
 use mir.Facts.{toZ-ofZ}
 use borrow.Author.Tests.{eq-eqb, ne-eqb, ltb-true, ltb-false}
-use Rattle.laws.specs.Lists.{eqZ}
+use Rattle.laws.specs.Lists.{eqZ, span}
 use Rattle.laws.proofs.Bools.{not-passed, true-or-false}
+use Rattle.laws.proofs.Spans.{span-length, span-at}
 use Rattle.laws.proofs.Signs.{tested-same, tested-apart}
-use Rattle.laws.proofs.Search.{Between, between-end}
-use Rattle.laws.proofs.Windows.{Counted, counted-start, counted-more, counted-end, narrowed}
+use Rattle.laws.proofs.Search.{Between, Falls, lessThan, between-end}
+use Rattle.search.specs.Bounds.{rowKey, Lower}
+use Rattle.search.proofs.Steps.{lower-own}
 use Rattle.rules.specs.Dispatch.{Row}
 use Rattle.rules.specs.Value.{findRow}
 use Rattle.reading.specs.Held.{noRow, isBefore, isOf, rowBefore, RowsHeld, indexOf}
 use Rattle.reading.proofs.Orders.{lower, tested}
 use Rattle.reading.proofs.Finds.{falls, id-read, is-found, is-missing, is-past}
-use Rattle.reading.specs.Stretched.{OfObject, Stretched, Narrowed}
+use Rattle.reading.specs.Stretched.{OfObject, Stretched}
 
 -- an object's own row stands before its attribute a by the id alone
 own-before : (p : ℕ) (x : ℤ) (o : ℕ) (a : ℤ) → p ≡ o → isBefore p x o a ≡ ltZ x a
 own-before p x o a e = ap (λ (t : Bool). cond t (ltZ x a) (ltb p o)) (eq-eqb p o e)
-
--- ---- the loop
-
-module _ (c : List (List ℕ)) (a : ℤ) (first end : ℕ) where
-  pub narrowed-start : first ≤ end → Narrowed c a first end first (first + (end - first))
-  narrowed-start l =
-      let all : first + (end - first) ≡ end = omega arith in
-      record { within = omega arith; between = λ o rs H w b. rw all b }
-
-  -- the loop keeps the bits of the id sought
-  pub narrowed-back : {lo hi : ℕ} → SFits w32 a → Narrowed c (toZ w32 (ofZ w32 a)) first end lo hi → Narrowed c a first end lo hi
-  narrowed-back {lo} {hi} f n = subst (λ (z : ℤ). Narrowed c z first end lo hi) (toZ-ofZ f) n
-
-  -- no row stands between
-  pub narrowed-none : end ≤ first → Narrowed c a first end first first
-  narrowed-none l = record { within = omega arith; between = λ o rs H w b. between-end (rowBefore o a) rs noRow b l }
-
-  -- of the rows before k those before found stand before the attribute, and the others do not
-  pub record CountedFound (k found : ℕ) : Type 0 where
-    pub within : first ≤ found
-    pub upTo : found ≤ k
-    pub counted : (o : ℕ) (rs : List Row) → RowsHeld rs c → OfObject o rs first end → Between (rowBefore o a) rs noRow first end → Counted (rowBefore o a) rs noRow k found
-
-  pub counts-start : {lo hi : ℕ} → Narrowed c a first end lo hi → CountedFound lo lo
-  counts-start n =
-      record {
-        within = n .within;
-        upTo = omega arith;
-        counted = λ o rs H w b. counted-start (rowBefore o a) rs noRow (n .between o rs H w b);
-      }
-
-  pub counts-end : {lo hi k found : ℕ} → Narrowed c a first end lo hi → CountedFound k found → hi ≤ k → Narrowed c a first end found found
-  counts-end n v l =
-      record {
-        within = v .within;
-        between = λ o rs H w b. counted-end (rowBefore o a) rs noRow (n .between o rs H w b) (v .counted o rs H w b) l;
-      }
-
-  module _ (i : end ≤ length c) where
-    -- a step by the id that was read in row k
-    stepped
-        : {x : ℕ} {t : Bool} (m k : ℕ) → first ≤ k → k < end → ltZ (toZ w32 (getD (getD c k []) 1 0)) a ≡ t → x ≡ cond t m 0
-        → (o : ℕ) (rs : List Row) → RowsHeld rs c → OfObject o rs first end → x ≡ cond (rowBefore o a (getD rs k noRow)) m 0
-    stepped m k l h e p o rs H w =
-        p
-        ∙ ap (λ (t : Bool). cond t m 0)
-        (sym e ∙ ap (λ (x : ℤ). ltZ x a) (id-read o a H k (omega arith)) ∙ sym (own-before (getD rs k noRow .object) (getD rs k noRow .id) o a (w k l h)))
-
-    pub narrowed-more
-        : {x y z : ℕ} {s u v : Bool} (lo left q : ℕ) → Narrowed c a first end lo (lo + left) → lo + left ≤ end → 0 < q → 4 * q ≤ left
-        → ltZ (toZ w32 (getD (getD c (lo + q - 1) []) 1 0)) a ≡ s → x ≡ cond s q 0
-        → ltZ (toZ w32 (getD (getD c (lo + 2 * q - 1) []) 1 0)) a ≡ u → y ≡ cond u q 0
-        → ltZ (toZ w32 (getD (getD c (lo + 3 * q - 1) []) 1 0)) a ≡ v → z ≡ cond v q 0
-        → Narrowed c a first end (lo + x + y + z) (lo + x + y + z + (left - 3 * q))
-    narrowed-more lo left q n h m four e p e2 p2 e3 p3 =
-        let low = n .within in
-        record {
-          within = omega arith;
-          between = λ o rs H w b.
-              narrowed (rowBefore o a) rs noRow (falls o a H) q (n .between o rs H w b) m four
-              (stepped q (lo + q - 1) (omega arith) (omega arith) e p o rs H w)
-              (stepped q (lo + 2 * q - 1) (omega arith) (omega arith) e2 p2 o rs H w)
-              (stepped q (lo + 3 * q - 1) (omega arith) (omega arith) e3 p3 o rs H w);
-        }
-
-    pub counts-more : {k found x : ℕ} {t : Bool} → CountedFound k found → k < end → ltZ (toZ w32 (getD (getD c k []) 1 0)) a ≡ t → x ≡ cond t 1 0 → x ≤ 1 → CountedFound (k + 1) (found + x)
-    counts-more {k} v l e p few =
-        record {
-          within = omega (arith, v .within);
-          upTo = omega (arith, v .upTo);
-          counted = λ o rs H w b.
-              counted-more (rowBefore o a) rs noRow (falls o a H) (v .counted o rs H w b) (omega (arith, H .long)) (stepped 1 k (omega (arith, v .within, v .upTo)) l e p o rs H w);
-        }
-
--- the machine's test on an id's bits n
-pub told-less : (x : ℤ) (n m : ℕ) {t : Bool} → ofZ w32 x ≡ n → ltZ (toZ w32 (ofZ w32 x)) (toZ w32 m) ≡ t → ltZ (toZ w32 n) (toZ w32 m) ≡ t
-told-less x n m b e = ap (λ (k : ℕ). ltZ (toZ w32 k) (toZ w32 m)) (sym b) ∙ e
 
 -- ---- what stands at the bound
 
@@ -151,10 +76,45 @@ module _ {rs : List Row} {c t : List (List ℕ)} {o first end : ℕ} (a : ℤ) (
         above = λ i l h. greater-behind (getD rs i noRow .object) (getD rs i noRow .id) o a (S .after o i (T .few) h (omega (arith, T .ends)));
       }
 
-  module _ {lo : ℕ} (n : Narrowed c a first end lo lo) where
-    bound : Between (rowBefore o a) rs noRow lo lo
-    bound = n .between o rs H all-own stretch-between
+  module _ (inside : end ≤ length c) where
+    -- the search reads the ids of the stretch: as the stretch is one object's, they tell what stands before
+    told-in : (j : ℕ) → j < end - first → rowBefore o a (getD rs (first + j) noRow) ≡ lessThan rowKey a (getD (span first (end - first) c) j [])
+    told-in j h =
+        own-before (getD rs (first + j) noRow .object) (getD rs (first + j) noRow .id) o a (all-own (first + j) (omega arith) (omega arith))
+        ∙ sym (ap (λ (r : List ℕ). ltZ (toZ w32 (getD r 1 0)) a) (span-at first (end - first) c j [] h) ∙ ap (λ (x : ℤ). ltZ x a) (id-read o a H (first + j) (omega arith)))
 
+    stretch-long : first ≤ end → length (span first (end - first) c) ≡ end - first
+    stretch-long l = span-length first (end - first) c (omega arith)
+
+    stretch-falls : first ≤ end → Falls (lessThan rowKey a) (span first (end - first) c) []
+    stretch-falls l =
+        record {
+          before = λ i j m h e.
+              let k : j < end - first = omega (arith, stretch-long l) in
+              sym (told-in i (omega arith)) ∙ falls o a H .before (first + i) (first + j) (omega arith) (omega (arith, H .long)) (told-in j k ∙ e);
+        }
+
+    -- a bound among the rows of the stretch is one among all rows
+    pub stretch-bound : {r : ℕ} → first ≤ end → Lower (span first (end - first) c) a r r → Between (rowBefore o a) rs noRow (first + r) (first + r)
+    stretch-bound {r} l w =
+        let b = w (stretch-falls l) in
+        let all = stretch-between in
+        let long = stretch-long l in
+        let within : first + r ≤ end = omega (arith, b .inside) in
+        record {
+          within = omega arith;
+          inside = omega (arith, all .inside);
+          below = λ i h. ⊎-elim (λ e. all .below i (ltb-true i first e)) (λ e. let from = ltb-false i first e in part i from (omega arith) true (b .below (i - first) (omega arith))) (true-or-false (ltb i first));
+          above = λ i h m.
+              ⊎-elim (λ e. part i (omega arith) (ltb-true i end e) false (b .above (i - first) (omega arith) (rw long (omega (arith, ltb-true i end e))))) (λ e. all .above i (ltb-false i end e) m) (true-or-false (ltb i end));
+        }
+      where
+        part : (i : ℕ) → first ≤ i → i < end → (t : Bool) → lessThan rowKey a (getD (span first (end - first) c) (i - first) []) ≡ t → rowBefore o a (getD rs i noRow) ≡ t
+        part i m h t e =
+            let same : first + (i - first) ≡ i = omega arith in
+            subst (λ (k : ℕ). rowBefore o a (getD rs k noRow) ≡ t) same (told-in (i - first) (omega arith) ∙ e)
+
+  module _ {lo : ℕ} (bound : Between (rowBefore o a) rs noRow lo lo) (from : first ≤ lo) where
     module _ (l : lo < end) where
       there : lo < length c
       there = omega (arith, stretch-inside)
@@ -162,7 +122,7 @@ module _ {rs : List Row} {c t : List (List ℕ)} {o first end : ℕ} (a : ℤ) (
       -- the row at the bound is the object's: its id decides
       own-of : isOf (getD (getD c lo []) 0 0) (toZ w32 (getD (getD c lo []) 1 0)) o a ≡ eqZ (toZ w32 (getD (getD c lo []) 1 0)) a
       own-of =
-          let own : getD (getD c lo []) 0 0 ≡ o = H .object lo (omega (arith, there, H .long)) ∙ all-own lo (n .within) l in
+          let own : getD (getD c lo []) 0 0 ≡ o = H .object lo (omega (arith, there, H .long)) ∙ all-own lo from l in
           ap (λ (s : Bool). s && eqZ (toZ w32 (getD (getD c lo []) 1 0)) a) (eq-eqb (getD (getD c lo []) 0 0) o own)
 
       pub found-inside : eqZ (toZ w32 (getD (getD c lo []) 1 0)) a ≡ true → some lo ≡ indexOf (findRow o a 0 rs)
@@ -181,21 +141,25 @@ module _ {rs : List Row} {c t : List (List ℕ)} {o first end : ℕ} (a : ℤ) (
     missing-outside l =
         ⊎-elim (λ e. is-missing o a H bound (ltb-true lo (length c) e) (past-of l (ltb-true lo (length c) e))) (λ e. is-past o a H bound (ltb-false lo (length c) e)) (true-or-false (ltb lo (length c)))
 
--- a callee is given the bits of the id sought
-module _ {c t : List (List ℕ)} {o first end : ℕ} (a : ℤ) (f : SFits w32 a) (T : Taken t o first end) where
+-- the stretch has no row
+module _ {c t : List (List ℕ)} {o first end : ℕ} (a : ℤ) (T : Taken t o first end) where
   pub missing-beyond : length c < end → (rs : List Row) → RowsHeld rs c → Stretched rs t → none ≡ indexOf (findRow o a 0 rs)
   missing-beyond l rs H S = absurd (omega (arith, stretch-inside a T H S))
 
-  module _ {lo : ℕ} (n : Narrowed c (toZ w32 (ofZ w32 a)) first end lo lo) where
-    own : Narrowed c a first end lo lo
-    own = subst (λ (z : ℤ). Narrowed c z first end lo lo) (toZ-ofZ f) n
+  pub missing-none : end ≤ first → (rs : List Row) → RowsHeld rs c → Stretched rs t → none ≡ indexOf (findRow o a 0 rs)
+  missing-none l rs H S = missing-outside a T H S (between-end (rowBefore o a) rs noRow (stretch-between a T H S) l) (omega arith) l
 
-    module _ (x : ℤ) (g : SFits w32 x) (e : x ≡ toZ w32 (getD (getD c lo []) 1 0)) (l : lo < end) where
-      pub found-here : ofZ w32 x ≡ ofZ w32 a → (rs : List Row) → RowsHeld rs c → Stretched rs t → some lo ≡ indexOf (findRow o a 0 rs)
-      found-here s rs H S = found-inside a T H S own l (ap (λ (z : ℤ). eqZ z a) (sym e) ∙ tested-same x a g f s)
+  -- a callee is given the bits of the id sought
+  module _ (f : SFits w32 a) (inside : end ≤ length c) (ordered : first ≤ end) {r : ℕ} (w : Lower (span first (end - first) c) (toZ w32 (ofZ w32 a)) r r) where
+    bound-of : (rs : List Row) → RowsHeld rs c → Stretched rs t → Between (rowBefore o a) rs noRow (first + r) (first + r)
+    bound-of rs H S = stretch-bound a T H S inside ordered (lower-own (span first (end - first) c) a f w)
+
+    module _ (x : ℤ) (g : SFits w32 x) (e : x ≡ toZ w32 (getD (getD c (first + r) []) 1 0)) (l : first + r < end) where
+      pub found-here : ofZ w32 x ≡ ofZ w32 a → (rs : List Row) → RowsHeld rs c → Stretched rs t → some (first + r) ≡ indexOf (findRow o a 0 rs)
+      found-here s rs H S = found-inside a T H S (bound-of rs H S) (omega arith) l (ap (λ (z : ℤ). eqZ z a) (sym e) ∙ tested-same x a g f s)
 
       pub missing-here : (ofZ w32 x ≡ ofZ w32 a → ⊥) → (rs : List Row) → RowsHeld rs c → Stretched rs t → none ≡ indexOf (findRow o a 0 rs)
-      missing-here s rs H S = missing-inside a T H S own l (ap (λ (z : ℤ). eqZ z a) (sym e) ∙ tested-apart x a g f s)
+      missing-here s rs H S = missing-inside a T H S (bound-of rs H S) (omega arith) l (ap (λ (z : ℤ). eqZ z a) (sym e) ∙ tested-apart x a g f s)
 
-    pub missing-past : end ≤ lo → (rs : List Row) → RowsHeld rs c → Stretched rs t → none ≡ indexOf (findRow o a 0 rs)
-    missing-past l rs H S = missing-outside a T H S own l
+    pub missing-past : end ≤ first + r → (rs : List Row) → RowsHeld rs c → Stretched rs t → none ≡ indexOf (findRow o a 0 rs)
+    missing-past l rs H S = missing-outside a T H S (bound-of rs H S) (omega arith) l

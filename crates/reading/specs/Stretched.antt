@@ -4,12 +4,11 @@ use mathlib.Core.Path.{_≡_}
 use mathlib.Core.List.{List, []}
 use lib.IntN.{ℤ, pos}
 use lib.ListN.{length, getD}
-use Rattle.laws.proofs.Search.{Between}
 use Rattle.rules.specs.Bytes.{bits}
 use Rattle.rules.specs.Dispatch.{Row}
 use Rattle.rules.specs.Info.{getDogmaAttribute}
 use Rattle.rules.specs.Sheet.{Book}
-use Rattle.reading.specs.Held.{noRow, rowBefore, RowsHeld}
+use Rattle.reading.specs.Held.{noRow}
 
 -- the rows from first to end are of object o
 abbrev pub OfObject : ℕ → List Row → ℕ → ℕ → Type 0
@@ -21,11 +20,6 @@ pub record Stretched (rs : List Row) (c : List (List ℕ)) : Type 0 where
   pub before : (o i : ℕ) → o < 1024 → i < getD (getD c o []) 0 0 → getD rs i noRow .object < o
   pub own : (o : ℕ) → o < 1024 → OfObject o rs (getD (getD c o []) 0 0) (getD (getD c o []) 1 0)
   pub after : (o i : ℕ) → o < 1024 → i < length rs → getD (getD c o []) 1 0 ≤ i → o < getD rs i noRow .object
-
--- attribute a of the object that the rows from first to end are of is sought from lo to hi
-pub record Narrowed (c : List (List ℕ)) (a : ℤ) (first end lo hi : ℕ) : Type 0 where
-  pub within : first ≤ lo
-  pub between : (o : ℕ) (rs : List Row) → RowsHeld rs c → OfObject o rs first end → Between (rowBefore o a) rs noRow first end → Between (rowBefore o a) rs noRow lo hi
 
 -- of the rows from first on, those before end are of objects up to o, and the next is of a later one
 pub record Past (c : List (List ℕ)) (o first end : ℕ) : Type 0 where

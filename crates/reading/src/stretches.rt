@@ -14,64 +14,20 @@ use columns::TablePairs;
 use info::header::count_of;
 use info::little_endian::index;
 use info::records::attribute;
-use laws::Window;
-use laws::step;
 use numbers::integers::bits;
 use numbers::integers::signed;
+use search::lower;
 ghost use mathlib.Core.Path.{_≡_};
 ghost use mathlib.Core.Bool.{false};
 ghost use mathlib.Core.List.{List};
-ghost use Prim.Native.Nat.{_+_, _≤_, _<_, _^_};
+ghost use Prim.Native.Nat.{_≤_, _<_, _^_};
 ghost use lib.ListN.{length};
 ghost use Rattle.rules.specs.Dispatch.{Row};
 ghost use Rattle.rules.specs.Sheet.{Book, bookOf};
 ghost use Rattle.info.specs.Sound.{HeldBook};
 ghost use Rattle.rules.specs.Value.{findRow};
 ghost use Rattle.reading.specs.Held.{RowsHeld, placed, indexOf};
-ghost use Rattle.reading.specs.Stretched.{Stretched, Narrowed, Past, Limits, Unlimited};
-
-// Where the first row from one to another whose attribute is not before the one sought lies: of eight or more a quarter and what is over is left.
-fn narrowed(rows: &[AttributeRow], first: usize, end: usize, id: i32) -> Window
-    requires ordered { ⌜ first ≤ end ⌝ }
-    requires inside { ⌜ end ≤ length (now rows) ⌝ }
-    ensures inside { λ r. ⌜ r .low + r .left ≤ end ⌝ }
-    ensures narrowed { λ r. ⌜ Narrowed (now (rows .entry)) id first end (r .low) (r .low + r .left) ⌝ }
-{
-    let mut low = first;
-    let mut left = end - first;
-    while 7 < left {
-        let q = left / 4;
-        let a = signed(rows[low + q - 1][ROW_ATTRIBUTE]);
-        let m = signed(rows[low + 2 * q - 1][ROW_ATTRIBUTE]);
-        let z = signed(rows[low + 3 * q - 1][ROW_ATTRIBUTE]);
-        low = low + step(q, a < id) + step(q, m < id) + step(q, z < id);
-        left -= 3 * q;
-    }
-    Window {
-        low: low,
-        left: left,
-    }
-}
-
-// The first row from one to another whose attribute is not before the one sought: in its window those before it are counted.
-fn lower(rows: &[AttributeRow], first: usize, end: usize, id: i32) -> usize
-    requires inside { ⌜ end ≤ length (now rows) ⌝ }
-    ensures narrowed { λ r. ⌜ Narrowed (now (rows .entry)) id first end r r ⌝ }
-{
-    if end <= first {
-        return first;
-    }
-    let window = narrowed(rows, first, end, id);
-    let mut k = window.low;
-    let last = k + window.left;
-    let mut found = k;
-    while k < last {
-        let own = signed(rows[k][ROW_ATTRIBUTE]);
-        found = found + step(1, own < id);
-        k += 1;
-    }
-    found
-}
+ghost use Rattle.reading.specs.Stretched.{Stretched, Past, Limits, Unlimited};
 
 // The row of an attribute of an object.
 pub fn find(rows: &[AttributeRow], stretches: &Stretches, object: u32, id: i32) -> Found
@@ -84,7 +40,11 @@ pub fn find(rows: &[AttributeRow], stretches: &Stretches, object: u32, id: i32) 
     if end > rows.len() {
         return Found::Nothing;
     }
-    let at = lower(rows, index(stretch[STRETCH_FIRST]), end, id);
+    let first = index(stretch[STRETCH_FIRST]);
+    if end <= first {
+        return Found::Nothing;
+    }
+    let at = first + lower(&rows[first..end], id);
     if at < end {
         let own = signed(rows[at][ROW_ATTRIBUTE]);
         if own == id {

@@ -1,6 +1,5 @@
 pub mod Carried
 pub mod Bounds
-pub mod Keys
 pub mod Raised
 pub mod Stretches
 pub mod Hits

@@ -26,7 +26,8 @@ use Rattle.rules.specs.declared.Item.{Item}
 use Rattle.rules.specs.declared.Effect.{Effect}
 use Rattle.rules.specs.declared.Pass2Effect.{Pass2Effect}
 use Rattle.info.specs.Stands.{numberedAt}
-use Rattle.rows.specs.Tallies.{Tally, idOf, baseOf, tallyNumbers, narrow?, rowKey, hitNumber, hitId, OfCollected, tallied, tallyOf, Stretch, Answered}
+use Rattle.search.specs.Bounds.{rowKey}
+use Rattle.rows.specs.Tallies.{Tally, idOf, baseOf, tallyNumbers, narrow?, hitNumber, hitId, OfCollected, tallied, tallyOf, Stretch, Answered}
 use Rattle.rows.specs.declared.rows.Laid.{Laid}
 use Rattle.rows.specs.declared.rows.Laid.the-variants.{Rows, Full}
 use Rattle.rows.specs.Entries.{times, rowsFrom, rowCount, started, effectNumber, hitsAt, spreadOver, hitsIn, rowFor, rowsFor, Counted, Spreading}
