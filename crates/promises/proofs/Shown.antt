@@ -270,9 +270,9 @@ behind (Buff b) Absent (Given a) j r = refl
 behind (Buff b) (Given e) Absent j r = refl
 behind (Buff b) (Given e) (Given a) j r = refl
 
-front : (f : SourceRef) (r : List ℕ) → (getD (fromNumbers f ++ r) 0 0 ≡ getD (fromNumbers f) 0 0) × (getD (fromNumbers f ++ r) 1 0 ≡ getD (fromNumbers f) 1 0)
-front (Object o) r = (refl, refl)
-front (Buff b) r = (refl, refl)
+front : (f : SourceRef) (e a r : List ℕ) → (getD (fromNumbers f ++ e ++ a ++ r) 0 0 ≡ getD (fromNumbers f) 0 0) × (getD (fromNumbers f ++ e ++ a ++ r) 1 0 ≡ getD (fromNumbers f) 1 0)
+front (Object o) e a r = (refl, refl)
+front (Buff b) e a r = (refl, refl)
 
 states-cell : (ss : List States) (o : ℕ) → cell (map (λ s. s .state ∷ s .maxState ∷ []) ss) o 0 ≡ stateAt ss o
 states-cell [] o = refl
@@ -318,8 +318,8 @@ module _ (b : List ℕ) (l : Lent) (r : Result) (m : Meets b l r) (d : Done) (e 
       let x = getD (sourceList (ok d)) p noSource in
       shown-by (d .states) (x .«from») (x .applied) (stateCode (x .state))
       (every-at (true-row (d .states)) (sourceList (ok d)) p noSource (run-true (bookIn b) (fitIn b) (roomsOf l) d (is-run b l d e)) h) r p
-      (source-cell p 0 h ∙ front (x .«from») _ .0)
-      (source-cell p 1 h ∙ front (x .«from») _ .1)
+      (source-cell p 0 h ∙ front (x .«from») _ _ _ .0)
+      (source-cell p 1 h ∙ front (x .«from») _ _ _ .1)
       (source-cell p 9 h ∙ behind (x .«from») (x .«effect_id») (x .«source_attribute_id») 3 _)
       (source-cell p 10 h ∙ behind (x .«from») (x .«effect_id») (x .«source_attribute_id») 4 _)
       state-cell
