@@ -24,7 +24,7 @@ import build
 import sheets
 
 # bytes of a row of each list, numbers and floats
-ROW_BYTES = {"collected": 56 + 8, "rows": 24 + 8 + 8, "entries": 48 + 8, "plain": 8, "sources": 40 + 16}
+ROW_BYTES = {"collected": 56 + 8, "rows": 24 + 8 + 8, "entries": 48 + 8, "plain": 8, "sources": 44 + 16}
 # the fixed category numbers of the sheets that are timed, as the original has constants there
 CATEGORIES = build.replace("    report::is_module_category(category_id)\n", "    matches!(category_id, 7 | 32 | 66)\n")
 NO_PLACES = [build.replace("        LAST.set(self.number);\n", times=3), build.replace("        LAST.set(self.record.number);\n", times=2)]

@@ -12,7 +12,7 @@ sys.path.insert(0, str(HERE.parent / "oracle"))
 import compare_engine
 import make_kept
 
-WIDTHS = [14, 2, 6, 2, 2, 12, 2, 2, 10, 4]
+WIDTHS = [14, 2, 6, 2, 2, 12, 2, 2, 11, 4]
 
 
 class Kept:

@@ -36,7 +36,7 @@ SEED = "kept 1"
 LONGEST = 4000
 # the letter of a list's lines, and for each column the fields it has of a line
 FIELDS = [("C", [slice(0, 14), slice(14, 15)]), ("R", [slice(0, 6), slice(6, 7), slice(7, 8)]), ("E", [slice(0, 12), slice(12, 13)]),
-          ("P", [slice(0, 2)]), ("Q", [slice(0, 10), slice(10, 12)])]
+          ("P", [slice(0, 2)]), ("Q", [slice(0, 11), slice(11, 13)])]
 LISTING_ALONE = {"hundredths cut", "halves to even", "minus before zero", "star above 10^12 only", "star with a minus"}
 
 
@@ -127,7 +127,7 @@ def by_mark():
     for name, what, data, _ in marked.CASES:
         if len(data) <= LONGEST:
             full = reference.answer(data)
-            yield f"marked: {name}", Case(data, [max(8, len(full.rows))] * 10, "cases/marked.py")
+            yield f"marked: {name}", Case(data, [max(8, len(full.rows), len(full.sources))] * 10, "cases/marked.py")
             if name == "L":
                 yield "marked: L, one entry lent", Case(data, [8] * 5 + [1, 1] + [8] * 3, "cases/marked.py")
 

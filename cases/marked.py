@@ -31,9 +31,9 @@ def modifier(func, domain, operation, modifying, modified, skill=0):
     return [func, domain, operation, modifying, modified, skill, 0]
 
 
-def sheet(attributes=(), effects=(), modifiers=(), types=(), objects=(), bases=(), asks=(), depth=2, collections=(), buffs=()):
+def sheet(attributes=(), effects=(), modifiers=(), types=(), objects=(), bases=(), asks=(), depth=2, collections=(), buffs=(), recording=0):
     made = make_sheets.Sheet()
-    made.categories, made.depth = [7, 0, 0], depth
+    made.categories, made.depth, made.recording = [7, 0, 0], depth, recording
     made.tables = [list(table) for table in (attributes, effects, modifiers, types, collections, objects, bases, (), buffs, asks)]
     return made.bytes()
 
@@ -67,6 +67,20 @@ def looped(asks=(), first=0):
 def by_ship(modifiers, objects, bases, **more):
     """The ship is of type 8, whose one effect, Passive, has all the modifiers."""
     return sheet((), [[1, 0, 0, 0, 0, len(modifiers)]], modifiers, [[8, 1, 0]], objects, bases, **more)
+
+
+def grey_l(quantities=(1, 1), state=1):
+    """Case L with recording, its items in a state."""
+    return sheet([attribute(20, 2), attribute(37, 2)], [[1, 1, 0, 0, 0, 1]], [modifier(4, 1, 7, 20, 37)], [[9, 1, 0]],
+                 [thing(SHIP, bases=(0, 1)), thing(CHAR)] + [module((1, 1), quantity=quantity, state=state) for quantity in quantities],
+                 [[37, 200.0], [20, 50.0]], recording=1)
+
+
+def grey(category, what, bases=((37, 2.0),), modified=(37,), domain=1, more=(), **others):
+    """With recording: what adds its 20, which is 5, to attributes of the ship, by an effect of a category."""
+    types = [[9, 1, 0]] if what[0] == ITEM else []
+    return sheet((), [[1, category, 0, 0, 0, len(modified)], *more], [modifier(4, domain, 3, 20, a) for a in modified], types + [[9, e[0], 0] for e in more],
+                 [thing(SHIP, bases=(0, len(bases))), thing(CHAR), what], [list(b) for b in bases] + [[20, 5.0]], recording=1, **others)
 
 
 HULL = thing(SHIP, 8, quantity=1, bases=(0, 1))
@@ -124,18 +138,39 @@ CASES = [
              [HULL, thing(CHAR), thing(ITEM, 7, 20, 10, 1), thing(SKILL, 6, 16, quantity=1)], [[20, 2.0]]), None),
     ("numbers-loop", "the loop of 20 and 37 with its modifiers in the other order: the entry on 20 has number 1, that on 37 number 0",
      looped(first=1), "rows 2\n0 20 21.00\n0 37 11.00\n"),
+    ("grey-L-online", "case L with recording: both source rows run, and name Online", grey_l(), L_TEXT),
+    ("grey-L-passive", "the same, the modules Passive: two grey rows that name Online", grey_l(state=0), "rows 3\n0 37 200.00\n2 20 50.00\n3 20 50.00\n"),
+    ("grey-target-passive", "a Passive projected object's Target effect: grey, names Active",
+     grey(4, thing(PROJECTED, quantity=1, bases=(1, 1), effect=1), domain=5), None),
+    ("grey-target-active", "the same of an Active one: runs, names Active",
+     grey(4, thing(PROJECTED, quantity=1, state=2, bases=(1, 1), effect=1), domain=5), None),
+    ("grey-rig", "an offline rig's Passive effect: on 37 grey, names Online; on 1152 it runs, names Passive",
+     grey(0, module((2, 1), slot=4, state=0), ((37, 2.0), (1152, 10.0)), (37, 1152)), None),
+    ("grey-overload", "an Active module's Overload effect: grey, names Overload, which the module can reach", grey(3, module((1, 1), slot=1, state=2)), None),
+    ("grey-buff", "a buff runs and names Passive", sheet(modifiers=[modifier(4, 1, 3, 20, 37)], objects=[thing(SHIP, bases=(0, 1)), thing(CHAR)], bases=[[37, 2.0]],
+     collections=[[30, 3, 0, 1]], buffs=[[30, 5.0]], recording=1), None),
+    ("grey-copies", "a penalised quantity of 12: eight rows of one and one of four, each names Online", grey_l((12,)), None),
+    ("grey-unreachable", "an item of max state Online has a Target effect: grey, names Active, which the item cannot reach",
+     grey(4, module((1, 1), slot=1), more=[[2, 1, 0, 0, 1, 0]]), None),
 ]
 # the collection numbers of the entries, in the order of list 3
 NUMBERS = {"L": [0, 1], "loop-walked": [0, 1], "numbers-order": [2, 0, 1], "numbers-location": [0, 0, 0], "numbers-buff": [0, 1, 2],
            "numbers-char": [0, 1, 1, 1], "numbers-loop": [1, 0]}
+# of each source row what it is from (0 object, 1 buff) and which, its quantity, whether it applies, and the state that it names
+GREY = {"grey-L-online": [[0, 2, 1, 1, 1], [0, 3, 1, 1, 1]], "grey-L-passive": [[0, 2, 1, 0, 1], [0, 3, 1, 0, 1]], "grey-target-passive": [[0, 2, 1, 0, 2]],
+        "grey-target-active": [[0, 2, 1, 1, 2]], "grey-rig": [[0, 2, 1, 0, 1], [0, 2, 1, 1, 0]], "grey-overload": [[0, 2, 1, 0, 3]],
+        "grey-buff": [[1, 30, 1, 1, 0]], "grey-copies": [[0, 2, 1, 1, 1]] * 8 + [[0, 2, 4, 1, 1]], "grey-unreachable": [[0, 2, 1, 0, 2]]}
 
 
 def held(name, data, text):
-    """What the program prints; where a text is given it is that, and where numbers are, the entries have them."""
+    """What the program prints; where a text is given it is that; where numbers are, the entries or the source rows have them."""
     answer = reference.answer(data, (4096,) * 5)
     numbers = [entry[11] for entry, _ in answer.entries]
     if NUMBERS.get(name, numbers) != numbers:
         sys.exit(f"{name}: entries numbered {numbers}")
+    shown = [[source[k] for k in (0, 1, 7, 9, 10)] for source, _ in answer.sources]
+    if GREY.get(name, []) != shown:
+        sys.exit(f"{name}: source rows {shown}")
     found = reference.listing(answer)
     if text not in (None, found):
         sys.exit(f"{name}: {found!r}, expected {text!r}")
@@ -154,7 +189,7 @@ def main():
         (HERE / f"{name}.txt").write_text(printed)
         account.append(f"| {name} | {len(data)} | {what} | {'; '.join(printed.splitlines())} |")
     account += ["", "Down to divided-by-0 they are the sheets of `crates/rules/proofs/Marked.antt`, and the four slips those of `crates/rules/proofs/Slips.antt`, byte for byte: "
-                "what they print is proved there of the definition. Of L, loop-walked and those named numbers-.. `crates/rules/proofs/Numbers.antt` proves which collection numbers their entries have. docs/FORMAT.md explains case L byte by byte, and why each of the refused is.",
+                "what they print is proved there of the definition. Of L, loop-walked and those named numbers-.. `crates/rules/proofs/Numbers.antt` proves which collection numbers their entries have; of those named grey-.. `crates/rules/proofs/Grey.antt` proves what their source rows show, which the text has not: kept.bin has them. docs/FORMAT.md explains case L byte by byte, and why each of the refused is.",
                 "`kept.bin` has sheets with the oracle's answers, every list of them; [KEPT.md](KEPT.md) names each and says how it is read.",
                 "`make_damaged.py` makes the sheets of crates/shape_test; `make_texts.py` hands every sheet here, and its text, to crates/cases_test."]
     (HERE / "README.md").write_text("\n".join(account) + "\n")

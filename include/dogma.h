@@ -131,7 +131,7 @@ enum dogma_plain_field {
 };
 
 /* list 5, source rows, by row, then arrival; only where the sheet asks for recording; beside it source_values */
-typedef uint32_t dogma_source[10];
+typedef uint32_t dogma_source[11];
 enum dogma_source_field {
     DOGMA_SOURCE_FROM = 0,            /* 0 an object, 1 a buff */
     DOGMA_SOURCE_OBJECT_OR_BUFF = 1,  /* an object's number, or a buff's id, signed */
@@ -142,7 +142,8 @@ enum dogma_source_field {
     DOGMA_SOURCE_OPERATOR = 6,        /* one of enum dogma_operator */
     DOGMA_SOURCE_QUANTITY = 7,
     DOGMA_SOURCE_PENALTY_GIVEN = 8,   /* flag */
-    DOGMA_SOURCE_APPLIED = 9          /* flag */
+    DOGMA_SOURCE_APPLIED = 9,         /* flag */
+    DOGMA_SOURCE_STATE = 10           /* the lowest state of the source in which it runs, 0 passive to 3 overload; a buff's is 0 */
 };
 typedef double dogma_source_value[2];
 enum dogma_source_value_field {

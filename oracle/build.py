@@ -114,6 +114,9 @@ PASS_3 = [
             "            let item = objects.get(object).unwrap();\n"
             "            item.calculated_value(info, objects, attribute_id);\n"
             "        }\n"),
+    # M-104: a source row has the lowest state that would do
+    replace("                    penalty,\n                    applied,\n                };\n",
+            "                    penalty,\n                    applied,\n                    state: super::output::lowest_state(&effect.origin),\n                };\n"),
 ]
 
 POWERS = [

@@ -109,7 +109,7 @@ static void put_bits(const uint32_t *words)
 enum { COLUMNS = 10, GAP = 16 };
 
 /* words of an element, and the list it is of */
-static const size_t widths[COLUMNS] = { 14, 2, 6, 2, 2, 12, 2, 2, 10, 4 };
+static const size_t widths[COLUMNS] = { 14, 2, 6, 2, 2, 12, 2, 2, 11, 4 };
 static const int lists[COLUMNS] = { 0, 0, 1, 1, 1, 2, 2, 3, 4, 4 };
 static const char *const names[COLUMNS] = {
     "collected", "collected_values", "rows", "bases", "values", "entries", "entry_values", "plain", "sources", "source_values",

@@ -583,6 +583,13 @@ def origin_numbers(origin):
     return [0, effect, source.number, category, modifying, 0], 0.0
 
 
+def state_needed(origin):
+    """The lowest state of the source that would do."""
+    if origin[0] == "buff":
+        return PASSIVE
+    return origin[3] if origin[3] <= OVERLOAD else ACTIVE
+
+
 class Answer:
     """Number, place, and the lists: each row a list of numbers and a list of floats."""
 
@@ -614,7 +621,7 @@ class Answer:
                 numbers = [1, origin[1], 0, 0, 0, 0]
             else:
                 numbers = [0, origin[2].number, 1, origin[1], 1, origin[4]]
-            numbers += [operator, quantity, int(penalty is not None), int(applied)]
+            numbers += [operator, quantity, int(penalty is not None), int(applied), state_needed(origin)]
             self.sources.append((numbers, [value, 0.0 if penalty is None else penalty]))
 
     def text(self):

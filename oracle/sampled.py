@@ -73,7 +73,7 @@ def expected(answer, lent):
         padded(numbers(answer.rows), 6, lent[2]), padded(floats(answer.rows, 0), 1, lent[3]), padded(floats(answer.rows, 1), 1, lent[4]),
         padded(numbers(answer.entries), 12, lent[5]), padded(floats(answer.entries, 0), 1, lent[6]),
         padded([list(map(u32, p)) for p in answer.plain], 2, lent[7]),
-        padded(numbers(answer.sources), 10, lent[8]), padded(both(answer.sources), 2, lent[9]),
+        padded(numbers(answer.sources), 11, lent[8]), padded(both(answer.sources), 2, lent[9]),
         answer.states + [[1024 - len(answer.states)]],
         [list(reference.listing(answer).encode())],
     ]

@@ -226,6 +226,14 @@ SLIPS = [
     ("an entry's number is its place", 'e["resistance"], number))', 'e["resistance"], self.entry_count - 1))'),
     ("numbers count within the row", 'e["resistance"], number))', 'e["resistance"], len(t.rows[attribute].entries)))'),
     ("an entry's number is its source's", 'e["resistance"], number))', 'e["resistance"], e["origin"][2].number if from_effect else number))'),
+    # M-104: the lowest state that would do
+    ("what asks for no state needs none", "origin[3] <= OVERLOAD else ACTIVE\n\n", "origin[3] <= OVERLOAD else PASSIVE\n\n"),
+    ("a source row's state is its category's code", "return origin[3] if origin[3] <= OVERLOAD else ACTIVE", "return origin[3]"),
+    ("a source row's state is the one its source is in", "return origin[3] if origin[3] <= OVERLOAD else ACTIVE", "return origin[2].state"),
+    ("a source row's state is its source's max state", "return origin[3] if origin[3] <= OVERLOAD else ACTIVE", "return origin[2].max_state"),
+    ("a buff needs Active", 'origin[0] == "buff":\n        return PASSIVE', 'origin[0] == "buff":\n        return ACTIVE'),
+    ("only grey rows name a state", "int(applied), state_needed(origin)]", "int(applied), 0 if applied else state_needed(origin)]"),
+    ("only rows that run name a state", "int(applied), state_needed(origin)]", "int(applied), state_needed(origin) if applied else 0]"),
 ]
 
 # not slips: they change nothing that can be seen, and show that the test does not cry out at everything

@@ -47,7 +47,7 @@ unsafe extern "C" {
         entry_value_count: usize,
         plain: *mut [u32; 2],
         plain_count: usize,
-        sources: *mut [u32; 10],
+        sources: *mut [u32; 11],
         source_count: usize,
         source_values: *mut [f64; 2],
         source_value_count: usize,
@@ -115,7 +115,7 @@ impl Refusal {
     }
 }
 
-#[derive(Debug, Copy, Clone, PartialEq, Eq)]
+#[derive(Debug, Copy, Clone, PartialEq, Eq, PartialOrd, Ord)]
 pub enum State {
     Passive,
     Online,
@@ -214,6 +214,18 @@ pub struct Source {
     pub quantity: u32,
     pub penalty: Option<f64>,
     pub applied: bool,
+    /// The lowest state of its source in which it runs; Passive for a buff.
+    pub state: State,
+}
+
+impl Source {
+    /// Whether its source can be in the state that it needs: that is at most the source's max state. A buff needs none.
+    pub fn reachable(&self, fit: &Fit) -> bool {
+        match self.from {
+            SourceFrom::Object(object) => self.state <= fit.states(object).1,
+            SourceFrom::Buff(_) => true,
+        }
+    }
 }
 
 /// How many rows each list has room for.
@@ -243,7 +255,7 @@ pub struct Engine {
     entries: Vec<[u32; 12]>,
     entry_values: Vec<f64>,
     plain: Vec<[u32; 2]>,
-    sources: Vec<[u32; 10]>,
+    sources: Vec<[u32; 11]>,
     source_values: Vec<[f64; 2]>,
 }
 
@@ -259,7 +271,7 @@ impl Engine {
             entries: vec![[0; 12]; rooms.entries],
             entry_values: vec![0.0; rooms.entries],
             plain: vec![[0; 2]; rooms.plain],
-            sources: vec![[0; 10]; rooms.sources],
+            sources: vec![[0; 11]; rooms.sources],
             source_values: vec![[0.0; 2]; rooms.sources],
         }
     }
@@ -409,6 +421,7 @@ impl Fit<'_> {
                 quantity: numbers[7],
                 penalty: (numbers[8] == 1).then_some(penalty),
                 applied: numbers[9] == 1,
+                state: state_of(numbers[10]),
             }
         })
     }

@@ -37,7 +37,7 @@ fn print_whole(fit: &Fit) {
             println!("    {entry:?}");
         }
         for source in fit.sources(&row) {
-            println!("    {source:?}");
+            println!("    {source:?}, reachable {}", source.reachable(fit));
         }
     }
     for (row, entry) in fit.entries_by_collection() {

@@ -1,5 +1,5 @@
 // Stand-ins for a source row and what it is from.
-use super::item::{EffectOperator, Object};
+use super::item::{EffectOperator, ItemState, Object, Origin};
 
 #[derive(Debug, Copy, Clone)]
 pub enum SourceRef {
@@ -23,4 +23,25 @@ pub struct Source {
     pub quantity: u32,
     pub penalty: Option<f64>,
     pub applied: bool,
+    pub state: ItemState,
+}
+
+/* In the order of the states. */
+const STATES: [ItemState; 5] = [
+    ItemState::Passive,
+    ItemState::Online,
+    ItemState::Active,
+    ItemState::Overload,
+    ItemState::AlwaysOn,
+];
+
+// M-104: the first of the states that `runs_at` says yes to; Passive for a buff's.
+pub fn lowest_state(origin: &Origin) -> ItemState {
+    match origin {
+        Origin::Effect { source_category, .. } => {
+            let lowest = STATES.into_iter().find(|state| source_category.runs_at(*state));
+            lowest.unwrap()
+        }
+        Origin::Buff { .. } => ItemState::Passive,
+    }
 }

@@ -397,11 +397,12 @@ fn write_sources(attribute: &Attribute, out: &mut String) {
         let (attribute_given, attribute) = optional(source.source_attribute_id);
         let _ = writeln!(
             out,
-            "Q {tag} {from} {effect_given} {effect} {attribute_given} {attribute} {} {} {} {} {} {}",
+            "Q {tag} {from} {effect_given} {effect} {attribute_given} {attribute} {} {} {} {} {} {} {}",
             source.operator as u32,
             source.quantity,
             source.penalty.is_some() as u32,
             source.applied as u32,
+            source.state as u32,
             bits(source.value),
             bits(source.penalty.unwrap_or(0.0)),
         );

@@ -65,7 +65,7 @@ pub record Cleared (n : clear.KeptCounts) (st : List (List ℕ)) (c : Columns) (
   pub entries : c′ .entries ≡ cleared (replicate 12 0) (n .entries) (c .entries)
   pub entryValues : c′ .entryValues ≡ cleared zeroF (n .entries) (c .entryValues)
   pub plain : c′ .plain ≡ cleared (replicate 2 0) (n .plain) (c .plain)
-  pub sources : c′ .sources ≡ cleared (replicate 10 0) (n .sources) (c .sources)
+  pub sources : c′ .sources ≡ cleared (replicate 11 0) (n .sources) (c .sources)
   pub sourceFloats : c′ .sourceFloats ≡ cleared (replicate 2 zeroF) (n .sources) (c .sourceFloats)
   pub states : st′ ≡ cleared (replicate 2 0) (n .objects) st
   pub whole : length st ≡ 1024
@@ -108,7 +108,7 @@ module _ (b : List ℕ) (c₀ c c′ : Columns) (st st′ : List (List ℕ)) (o 
         by-entryValues =
             rw e (held (λ x. originValue (x .origin)) zeroF (flat (λ x. x .entries) (d .rows)) (k .entryValues) (f .entryValues) (f .n-entries));
         by-plain = rw e (held plainNumbers (replicate 2 0) (d .plain) (k .plain) (f .plain) (f .n-plain));
-        by-sources = rw e (held sourceNumbers (replicate 10 0) (flat (λ x. x) (d .sources)) (k .sources) (f .sources) (f .n-sources));
+        by-sources = rw e (held sourceNumbers (replicate 11 0) (flat (λ x. x) (d .sources)) (k .sources) (f .sources) (f .n-sources));
         by-sourceFloats = rw e (held sourceFloats (replicate 2 zeroF) (flat (λ x. x) (d .sources)) (k .sourceFloats) (f .sourceFloats) (f .n-sources));
       }
 
@@ -128,7 +128,7 @@ module _ (b : List ℕ) (c₀ c c′ : Columns) (st st′ : List (List ℕ)) (o 
         by-entries = rw e (emptied entryNumbers (replicate 12 0) (c₀ .entries) (c .entries) (k .entries) (t .entries));
         by-entryValues = rw e (emptied (λ x. originValue (x .origin)) zeroF (c₀ .entryValues) (c .entryValues) (k .entryValues) (t .entryValues));
         by-plain = rw e (emptied plainNumbers (replicate 2 0) (c₀ .plain) (c .plain) (k .plain) (t .plain));
-        by-sources = rw e (emptied sourceNumbers (replicate 10 0) (c₀ .sources) (c .sources) (k .sources) (t .sources));
+        by-sources = rw e (emptied sourceNumbers (replicate 11 0) (c₀ .sources) (c .sources) (k .sources) (t .sources));
         by-sourceFloats = rw e (emptied sourceFloats (replicate 2 zeroF) (c₀ .sourceFloats) (c .sourceFloats) (k .sourceFloats) (t .sourceFloats));
       }
 

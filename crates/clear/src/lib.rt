@@ -44,7 +44,7 @@ fn zero_entries(entries: &mut [EntryRow], from: usize)
 }
 
 fn zero_sources(sources: &mut [SourceRow], from: usize)
-    ensures cleared { λ _. ⌜ ClearedFrom sources (replicate 10 0) from ⌝ }
+    ensures cleared { λ _. ⌜ ClearedFrom sources (replicate 11 0) from ⌝ }
 {
     let n = sources.len();
     let mut i = from;
@@ -151,7 +151,7 @@ pub fn clear(
     ensures entries { λ _. ⌜ ClearedFrom entries (replicate 12 0) (counts .entries) ⌝ }
     ensures entry_values { λ _. ⌜ ClearedFrom «entry_values» zeroF (counts .entries) ⌝ }
     ensures plain { λ _. ⌜ ClearedFrom plain (replicate 2 0) (counts .plain) ⌝ }
-    ensures sources { λ _. ⌜ ClearedFrom sources (replicate 10 0) (counts .sources) ⌝ }
+    ensures sources { λ _. ⌜ ClearedFrom sources (replicate 11 0) (counts .sources) ⌝ }
     ensures source_values { λ _. ⌜ ClearedFrom «source_values» (replicate 2 zeroF) (counts .sources) ⌝ }
     ensures states { λ _. ⌜ ClearedFrom states (replicate 2 0) (counts .objects) ⌝ }
     ensures whole { λ _. ⌜ length (now (states .entry)) ≡ 1024 ⌝ }

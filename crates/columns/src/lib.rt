@@ -128,7 +128,7 @@ pub const PLAIN_OBJECT: usize = 0;
 pub const PLAIN_EFFECT: usize = 1;
 
 // List 5, source rows, and the two floats of one.
-pub const SOURCE_WIDTH: usize = 10;
+pub const SOURCE_WIDTH: usize = 11;
 
 pub type SourceRow = [u32; SOURCE_WIDTH];
 
@@ -151,6 +151,8 @@ pub const SOURCE_QUANTITY: usize = 7;
 pub const SOURCE_PENALTY_GIVEN: usize = 8;
 
 pub const SOURCE_APPLIED: usize = 9;
+
+pub const SOURCE_STATE: usize = 10;
 
 pub const SOURCE_FLOATS: usize = 2;
 

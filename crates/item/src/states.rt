@@ -6,9 +6,10 @@ use super::locations::is_rig;
 use rules::EffectCategory;
 use rules::Item;
 use rules::ItemState;
+use rules::RunsAt;
 ghost use mathlib.Core.Path.{_≡_};
 ghost use Rattle.rules.specs.Codes.{categoryAt, stateCode};
-ghost use Rattle.rules.specs.Item.{requiredState, lowestState, runsAt, isPassive, categoryOn};
+ghost use Rattle.rules.specs.Item.{requiredState, lowestState, runsAnswer, isPassive, categoryOn};
 ghost use Rattle.rules.specs.States.{codeOr0, raisedTo};
 
 // A state's code.
@@ -40,11 +41,13 @@ pub fn lowest_state(category: EffectCategory) -> ItemState
     }
 }
 
-// Whether an effect of the category runs on an item in the state.
-pub fn runs_at(category: EffectCategory, state: u32) -> bool
-    ensures defined { λ r. ⌜ r ≡ runsAt category state ⌝ }
+// Whether an effect of the category runs on an item in the state, and the lowest state that would do.
+pub fn runs_at(category: EffectCategory, state: u32) -> RunsAt
+    ensures defined { λ r. ⌜ r ≡ runsAnswer category state ⌝ }
 {
-    state_code(lowest_state(category)) <= state
+    let lowest = lowest_state(category);
+    let runs = state_code(lowest) <= state;
+    RunsAt { runs, lowest }
 }
 
 // Whether a category is Passive.

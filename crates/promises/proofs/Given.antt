@@ -14,7 +14,7 @@ use Rattle.laws.proofs.Every.{every-at}
 use Rattle.laws.proofs.Maps.{map-itself}
 use Rattle.rules.specs.Answer.{Res, ok, refused, number, place, answerOf}
 use Rattle.rules.specs.Bytes.{signed}
-use Rattle.rules.specs.Columns.{Counts, countsOf, collectedNumbers, rowsNumbers, entryNumbers, zeroEntry, plainNumbers, sourceNumbers, sourceFloats, originValue, collectedList, rowList, valueList, entryList, plainList, sourceList, sourcesByRow, collectedColumn, collectedValueColumn, rowColumn, baseColumn, valueColumn, entryColumn, entryValueColumn, plainColumn, sourceColumn, sourceFloatColumn, stateColumn}
+use Rattle.rules.specs.Columns.{Counts, countsOf, collectedNumbers, rowsNumbers, entryNumbers, zeroEntry, plainNumbers, sourceNumbers, zeroSource, sourceFloats, originValue, collectedList, rowList, valueList, entryList, plainList, sourceList, sourcesByRow, collectedColumn, collectedValueColumn, rowColumn, baseColumn, valueColumn, entryColumn, entryValueColumn, plainColumn, sourceColumn, sourceFloatColumn, stateColumn}
 use Rattle.rules.specs.Dispatch.{Row}
 use Rattle.rules.specs.Fresh.{fresh}
 use Rattle.rules.specs.Outcome.{Lent, Done, roomsOf, outcome}
@@ -173,7 +173,7 @@ more-room-given b l k r s w m n h =
       entries = columns-same zeroEntry entryColumn (λ x. map entryNumbers (entryList x)) (λ x. column-place entryNumbers zeroEntry (entryList x)) o p (l .entries) (k .entries) (m .by-entries) (n .by-entries) (ap (λ (x : Res Done). map entryNumbers (entryList x)) same);
       entryValues = columns-same zeroF entryValueColumn (λ x. map (λ y. originValue (y .origin)) (entryList x)) (λ x. column-place (λ y. originValue (y .origin)) zeroF (entryList x)) o p (l .entryValues) (k .entryValues) (m .by-entryValues) (n .by-entryValues) (ap (λ (x : Res Done). map (λ y. originValue (y .origin)) (entryList x)) same);
       plain = columns-same (replicate 2 0) plainColumn (λ x. map plainNumbers (plainList x)) (λ x. column-place plainNumbers (replicate 2 0) (plainList x)) o p (l .plain) (k .plain) (m .by-plain) (n .by-plain) (ap (λ (x : Res Done). map plainNumbers (plainList x)) same);
-      sources = columns-same (replicate 10 0) sourceColumn (λ x. map sourceNumbers (sourceList x)) (λ x. column-place sourceNumbers (replicate 10 0) (sourceList x)) o p (l .sources) (k .sources) (m .by-sources) (n .by-sources) (ap (λ (x : Res Done). map sourceNumbers (sourceList x)) same);
+      sources = columns-same zeroSource sourceColumn (λ x. map sourceNumbers (sourceList x)) (λ x. column-place sourceNumbers zeroSource (sourceList x)) o p (l .sources) (k .sources) (m .by-sources) (n .by-sources) (ap (λ (x : Res Done). map sourceNumbers (sourceList x)) same);
       sourceFloats = columns-same (replicate 2 zeroF) sourceFloatColumn (λ x. map sourceFloats (sourceList x)) (λ x. column-place sourceFloats (replicate 2 zeroF) (sourceList x)) o p (l .sourceFloats) (k .sourceFloats) (m .by-sourceFloats) (n .by-sourceFloats) (ap (λ (x : Res Done). map sourceFloats (sourceList x)) same);
     }
   where

@@ -30,4 +30,5 @@ pub mod Asking
 pub mod Given
 pub mod Floats
 pub mod Numbers
+pub mod Shown
 pub mod Unused

@@ -7,7 +7,7 @@ use lib.Ieee.{Float}
 use lib.ListN.{length, getD, replicate, length-map, List·getD-eq-default}
 use Rattle.laws.specs.Floats.{zeroF}
 use Rattle.rules.specs.Answer.{Res, ok, refused}
-use Rattle.rules.specs.Columns.{Counts, collectedNumbers, rowsNumbers, entryNumbers, zeroEntry, plainNumbers, sourceNumbers, sourceFloats, originValue, collectedList, rowList, valueList, entryList, plainList, sourceList, sourcesByRow, collectedColumn, collectedValueColumn, rowColumn, baseColumn, valueColumn, entryColumn, entryValueColumn, plainColumn, sourceColumn, sourceFloatColumn}
+use Rattle.rules.specs.Columns.{Counts, collectedNumbers, rowsNumbers, entryNumbers, zeroEntry, plainNumbers, sourceNumbers, zeroSource, sourceFloats, originValue, collectedList, rowList, valueList, entryList, plainList, sourceList, sourcesByRow, collectedColumn, collectedValueColumn, rowColumn, baseColumn, valueColumn, entryColumn, entryValueColumn, plainColumn, sourceColumn, sourceFloatColumn}
 use Rattle.rules.specs.Outcome.{Lent, Done, roomsOf, outcome}
 use Rattle.promises.specs.Given.{ZeroEnds}
 use Rattle.promises.specs.NoMemory.{bookIn, fitIn}
@@ -58,8 +58,8 @@ unused-ends-zero b l r m =
       plain = behind (replicate 2 0) (map plainNumbers (plainList o)) (r .plain) (r .counts .plain)
           (λ i. ap (λ (c : List (List ℕ)). getD c i (replicate 2 0)) (m .by-plain) ∙ column-place plainNumbers (replicate 2 0) (plainList o) (l .plain) i)
           (ap (λ (c : Counts). c .plain) (m .by-counts) ∙ sym (length-map (plainList o) plainNumbers));
-      sources = behind (replicate 10 0) (map sourceNumbers (sourceList o)) (r .sources) (r .counts .sources)
-          (λ i. ap (λ (c : List (List ℕ)). getD c i (replicate 10 0)) (m .by-sources) ∙ column-place sourceNumbers (replicate 10 0) (sourceList o) (l .sources) i)
+      sources = behind zeroSource (map sourceNumbers (sourceList o)) (r .sources) (r .counts .sources)
+          (λ i. ap (λ (c : List (List ℕ)). getD c i zeroSource) (m .by-sources) ∙ column-place sourceNumbers zeroSource (sourceList o) (l .sources) i)
           (ap (λ (c : Counts). c .sources) (m .by-counts) ∙ sym (length-map (sourceList o) sourceNumbers));
       sourceFloats = behind (replicate 2 zeroF) (map sourceFloats (sourceList o)) (r .sourceFloats) (r .counts .sources)
           (λ i. ap (λ (c : List (List Float)). getD c i (replicate 2 zeroF)) (m .by-sourceFloats) ∙ column-place sourceFloats (replicate 2 zeroF) (sourceList o) (l .sourceFloats) i)

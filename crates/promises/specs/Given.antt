@@ -9,7 +9,7 @@ use lib.ListN.{getD, replicate}
 use Rattle.laws.specs.Lists.{every?}
 use Rattle.laws.specs.Floats.{finite, zeroF}
 use Rattle.rules.specs.Answer.{ok}
-use Rattle.rules.specs.Columns.{zeroEntry}
+use Rattle.rules.specs.Columns.{zeroEntry, zeroSource}
 use Rattle.rules.specs.Outcome.{Lent, Done, outcome}
 use Rattle.promises.specs.Result.{Result}
 
@@ -35,7 +35,7 @@ pub record SameResult (r s : Result) : Type 0 where
   pub entries : Same zeroEntry (r .entries) (s .entries)
   pub entryValues : Same zeroF (r .entryValues) (s .entryValues)
   pub plain : Same (replicate 2 0) (r .plain) (s .plain)
-  pub sources : Same (replicate 10 0) (r .sources) (s .sources)
+  pub sources : Same zeroSource (r .sources) (s .sources)
   pub sourceFloats : Same (replicate 2 zeroF) (r .sourceFloats) (s .sourceFloats)
 
 -- the same rows, with the same entries, and the same values: all of lists 2 and 3 but which source rows a row has
@@ -58,7 +58,7 @@ pub record ZeroEnds (r : Result) : Type 0 where
   pub entries : (i : ℕ) → r .counts .entries ≤ i → getD (r .entries) i zeroEntry ≡ zeroEntry
   pub entryValues : (i : ℕ) → r .counts .entries ≤ i → getD (r .entryValues) i zeroF ≡ zeroF
   pub plain : (i : ℕ) → r .counts .plain ≤ i → getD (r .plain) i (replicate 2 0) ≡ replicate 2 0
-  pub sources : (i : ℕ) → r .counts .sources ≤ i → getD (r .sources) i (replicate 10 0) ≡ replicate 10 0
+  pub sources : (i : ℕ) → r .counts .sources ≤ i → getD (r .sources) i zeroSource ≡ zeroSource
   pub sourceFloats : (i : ℕ) → r .counts .sources ≤ i → getD (r .sourceFloats) i (replicate 2 zeroF) ≡ replicate 2 zeroF
 
 -- every float is finite

@@ -6,3 +6,4 @@ pub mod Result
 pub mod NoMemory
 pub mod Given
 pub mod Numbers
+pub mod Shown

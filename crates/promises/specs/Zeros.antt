@@ -2,7 +2,7 @@
 use mathlib.Core.Path.{_≡_}
 use lib.ListN.{replicate}
 use Rattle.laws.specs.Floats.{zeroF}
-use Rattle.rules.specs.Columns.{zeroEntry}
+use Rattle.rules.specs.Columns.{zeroEntry, zeroSource}
 use Rattle.rules.specs.Outcome.{Lent}
 use Rattle.promises.specs.Result.{Result}
 
@@ -18,5 +18,5 @@ pub record Empty (l : Lent) (r : Result) : Type 0 where
   pub entries : r .entries ≡ replicate (l .entries) zeroEntry
   pub entryValues : r .entryValues ≡ replicate (l .entryValues) zeroF
   pub plain : r .plain ≡ replicate (l .plain) (replicate 2 0)
-  pub sources : r .sources ≡ replicate (l .sources) (replicate 10 0)
+  pub sources : r .sources ≡ replicate (l .sources) zeroSource
   pub sourceFloats : r .sourceFloats ≡ replicate (l .sourceFloats) (replicate 2 zeroF)

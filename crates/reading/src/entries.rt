@@ -123,7 +123,8 @@ pub fn is_running(states: &States, origin: Origin) -> bool
         } => {
             let s = index(source);
             let state = states[s][STATE];
-            runs_at(source_category, state)
+            let answer = runs_at(source_category, state);
+            answer.runs
         }
         Origin::Buff {
             buff_id: _,

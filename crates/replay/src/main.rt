@@ -7,6 +7,7 @@ use columns::CollectedRow;
 use columns::ENTRY_WIDTH;
 use columns::EntryRow;
 use columns::PlainRow;
+use columns::SOURCE_WIDTH;
 use columns::SourceFloats;
 use columns::SourceRow;
 use columns::StateRow;
@@ -477,7 +478,7 @@ fn replayed(data: &[u8], at: usize) -> Seen {
     let mut entries = [[RUBBISH; ENTRY_WIDTH]; 128];
     let mut entry_values = [1.5; 128];
     let mut plain = [[RUBBISH; 2]; 128];
-    let mut sources = [[RUBBISH; 10]; 128];
+    let mut sources = [[RUBBISH; SOURCE_WIDTH]; 128];
     let mut source_values = [[1.5; 2]; 128];
     lent(
         &mut states,

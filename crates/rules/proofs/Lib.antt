@@ -8,5 +8,7 @@ pub mod Tables
 pub mod Verdicts
 pub mod Ranked
 pub mod Loops
+pub mod States
+pub mod Grey
 pub mod Nearest
 pub mod Rounding

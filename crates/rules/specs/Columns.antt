@@ -11,7 +11,7 @@ use Rattle.laws.specs.Floats.{zeroF}
 use Rattle.laws.specs.Columns.{column}
 use Rattle.rules.specs.Answer.{Res, ok, refused}
 use Rattle.rules.specs.Bytes.{bits}
-use Rattle.rules.specs.Codes.{categoryCode, operatorCode}
+use Rattle.rules.specs.Codes.{categoryCode, operatorCode, stateCode}
 use Rattle.rules.specs.States.{States}
 use Rattle.rules.specs.Collect.{Plain}
 use Rattle.rules.specs.Dispatch.{Row}
@@ -93,7 +93,11 @@ fromNumbers (from.Buff b) = 1 ∷ bits b ∷ []
 abbrev pub sourceNumbers : Source → List ℕ
 sourceNumbers r =
     fromNumbers (r .«from») ++ optionalNumbers (r .«effect_id») ++ optionalNumbers (r .«source_attribute_id»)
-    ++ (operatorCode (r .operator) ∷ r .quantity ∷ yes1 (r .penalised) ∷ yes1 (r .applied) ∷ [])
+    ++ (operatorCode (r .operator) ∷ r .quantity ∷ yes1 (r .penalised) ∷ yes1 (r .applied) ∷ stateCode (r .state) ∷ [])
+
+-- a source row of zeros
+abbrev pub zeroSource : List ℕ
+zeroSource = replicate 11 0
 
 -- "one record by value with its two floats, value and penalty"
 abbrev pub sourceFloats : Source → List Float
@@ -192,7 +196,7 @@ plainColumn r n = column plainNumbers (replicate 2 0) (plainList r) n
 
 -- "5 source rows"
 unfoldable pub sourceColumn : Res Done → ℕ → List (List ℕ)
-sourceColumn r n = column sourceNumbers (replicate 10 0) (sourceList r) n
+sourceColumn r n = column sourceNumbers zeroSource (sourceList r) n
 
 unfoldable pub sourceFloatColumn : Res Done → ℕ → List (List Float)
 sourceFloatColumn r n = column sourceFloats (replicate 2 zeroF) (sourceList r) n

@@ -17,6 +17,7 @@ use Rattle.rules.specs.declared.EffectCategory.{EffectCategory}
 use Rattle.rules.specs.declared.EffectCategory.the-variants as category
 use Rattle.rules.specs.declared.ItemState.{ItemState}
 use Rattle.rules.specs.declared.ItemState.the-variants as state
+use Rattle.rules.specs.declared.RunsAt.{RunsAt}
 
 -- "Kinds: 0 ship, 1 mode, 2 char, 3 item, 4 charge, 5 skill, 6 projected"
 abbrev pub isShip : Item → Bool
@@ -152,6 +153,10 @@ lowestState c = Option·getD (requiredState c) state.Active
 -- `runs_at`, on an item in the state; "`Target` and the three after it run from Active up"
 abbrev pub runsAt : EffectCategory → ℕ → Bool
 runsAt c s = leb (stateCode (lowestState c)) s
+
+-- "`runs_at` is to answer, beside its yes or no, with the lowest state that would do"
+abbrev pub runsAnswer : EffectCategory → ℕ → RunsAt
+runsAnswer c s = record { runs = runsAt c s; lowest = lowestState c }
 
 abbrev pub isPassive : EffectCategory → Bool
 isPassive c = eqb (categoryCode c) 0

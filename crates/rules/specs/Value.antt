@@ -15,7 +15,7 @@ use Rattle.rules.specs.Sheet.{Book}
 use Rattle.rules.specs.Info.{getDogmaAttribute, highIsGood}
 use Rattle.rules.specs.Number.{times, weight, numberAt}
 use Rattle.rules.specs.Operate.{Copy, Values, simplified, hasPenalty, sorted, applied}
-use Rattle.rules.specs.Item.{runsAt}
+use Rattle.rules.specs.Item.{lowestState, runsAt}
 use Rattle.rules.specs.States.{States}
 use Rattle.rules.specs.Dispatch.{Row}
 use Rattle.rules.specs.declared.Effect.{Effect}
@@ -25,6 +25,8 @@ use Rattle.rules.specs.declared.OptionalId.{OptionalId}
 use Rattle.rules.specs.declared.OptionalId.the-variants.{Absent, Given}
 use Rattle.rules.specs.declared.EffectOperator.{EffectOperator}
 use Rattle.rules.specs.declared.EffectOperator.the-variants.{PreAssign}
+use Rattle.rules.specs.declared.ItemState.{ItemState}
+use Rattle.rules.specs.declared.ItemState.the-variants as state
 use Rattle.rules.specs.declared.Source.{Source}
 use Rattle.rules.specs.declared.SourceRef.{SourceRef}
 use Rattle.rules.specs.declared.SourceRef.the-variants.{Object, Buff}
@@ -45,6 +47,11 @@ abbrev pub sourceAttributeIdOf : Origin → OptionalId
 sourceAttributeIdOf (origin.Effect e o c a) = Given a
 sourceAttributeIdOf (origin.Buff b v) = Absent
 
+-- the lowest state of its source that would do; "Passive for a buff's"
+abbrev pub neededState : Origin → ItemState
+neededState (origin.Effect e o c a) = lowestState c
+neededState (origin.Buff b v) = state.Passive
+
 -- `to_source`: v is the strength after resistance and before it is simplified
 -- "A source row is one record by value with its two floats, value and penalty"
 abbrev pub toSource : Effect → Float → Bool → ℕ → Bool → Source
@@ -59,6 +66,7 @@ toSource e v applied quantity penalised =
       penalised = penalised;
       penalty = zeroF;
       applied = applied;
+      state = neededState (e .origin);
     }
 
 abbrev pub withPenalty : Float → Source → Source
@@ -73,6 +81,7 @@ withPenalty p r =
       penalised = true;
       penalty = p;
       applied = r .applied;
+      state = r .state;
     }
 
 abbrev pub noSource : Source
@@ -87,6 +96,7 @@ noSource =
       penalised = false;
       penalty = zeroF;
       applied = false;
+      state = state.Passive;
     }
 
 -- ---- what is fixed while values are calculated, and the memory

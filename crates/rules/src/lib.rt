@@ -146,7 +146,13 @@ pub enum SourceRef {
     Buff { id: i32 },
 }
 
-// A source row, one record by value with its two floats: a row of list 5.
+// What `runs_at` answers: whether an effect runs in the state, and the lowest state that would do.
+pub struct RunsAt {
+    pub runs: bool,
+    pub lowest: ItemState,
+}
+
+// A source row, one record by value with its two floats: a row of list 5. Its state is the lowest of its source that would do.
 pub struct Source {
     pub from: SourceRef,
     pub effect_id: OptionalId,
@@ -157,6 +163,7 @@ pub struct Source {
     pub penalised: bool,
     pub penalty: f64,
     pub applied: bool,
+    pub state: ItemState,
 }
 
 // A float step's result.

@@ -14,7 +14,7 @@ use lib.ListN.{length, getD, set, take, drop, length-set, drop-of-length-le}
 use lib.Seq.{getD-set-same, getD-set-other, set-getD, set-set, drop-cons, getD-take, length-take-le}
 use Rattle.laws.proofs.Bools.{true-or-false, both-ways}
 use Rattle.rules.specs.Columns.{sourceNumbers, sourceFloats, yes1, fromNumbers, optionalNumbers}
-use Rattle.rules.specs.Codes.{operatorCode}
+use Rattle.rules.specs.Codes.{operatorCode, stateCode}
 use Rattle.rules.specs.Number.{weight}
 use Rattle.rules.specs.Operate.{Copy, sorted}
 use Rattle.rules.specs.Value.{World, Mem, ownSources, noSource, withPenalty, withOwn, marked}
@@ -70,7 +70,7 @@ module _ {A B : Type 0} (enc : A → B) (room : ℕ) (counts : List ℕ) (qs : L
 same-numbers : (r : Source) (x : Float) → r .penalised ≡ true → sourceNumbers (withPenalty x r) ≡ sourceNumbers r
 same-numbers r x e =
     ap (λ (t : Bool). fromNumbers (r .«from») ++ optionalNumbers (r .«effect_id») ++ optionalNumbers (r .«source_attribute_id»)
-    ++ (operatorCode (r .operator) ∷ r .quantity ∷ yes1 t ∷ yes1 (r .applied) ∷ [])) (sym e)
+    ++ (operatorCode (r .operator) ∷ r .quantity ∷ yes1 t ∷ yes1 (r .applied) ∷ stateCode (r .state) ∷ [])) (sym e)
 
 module _ (run : Recording) (w : World) (counts : List ℕ) (s₀ : List (List ℕ)) (f₀ : List (List Float)) (i : ℕ) (m : Mem) {s : List (List ℕ)} {f : List (List Float)} {own used : ℕ}
     (k : Keeping counts (w .room) s₀ f₀ i m s f own used) {first : ℕ} (t : RunOf w run) (b : Begins counts i first) (small : w .room ≤ 4294967295) (wide : w .room ≤ length f)

@@ -100,6 +100,7 @@ unmarked r u =
       penalised = p;
       penalty = x;
       applied = r .applied;
+      state = r .state;
     }) (sym (u .penalised)) (sym (u .penalty))
 
 -- from position 8 on nothing changes

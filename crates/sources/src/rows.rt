@@ -3,10 +3,13 @@ use super::Recording;
 use columns::SourceFloats;
 use columns::SourceRow;
 use item::codes::operator_code;
+use item::states::lowest_state;
+use item::states::state_code;
 use numbers::integers::bits;
 use numbers::integers::flag;
 use numbers::integers::optional_numbers;
 use rules::Effect;
+use rules::ItemState;
 use rules::OptionalId;
 use rules::Origin;
 use rules::Source;
@@ -16,7 +19,7 @@ ghost use mathlib.Core.List.{[], _∷_};
 ghost use Prim.Native.Nat.{_≤_};
 ghost use lib.ListN.{length};
 ghost use Rattle.rules.specs.Columns.{yes1, fromNumbers, optionalNumbers, sourceNumbers, sourceFloats};
-ghost use Rattle.rules.specs.Value.{fromOf, effectIdOf, sourceAttributeIdOf, toSource};
+ghost use Rattle.rules.specs.Value.{fromOf, effectIdOf, sourceAttributeIdOf, neededState, toSource};
 ghost use Rattle.sources.specs.Shown.{placed};
 
 // What a source row is from, as two numbers.
@@ -37,12 +40,14 @@ fn source_numbers(s: Source) -> SourceRow
     let effect = s.effect_id;
     let attribute = s.source_attribute_id;
     let operator = s.operator;
+    let state = s.state;
     let a = from_numbers(from);
     let b = optional_numbers(effect);
     let c = optional_numbers(attribute);
     let code = operator_code(operator);
     let penalised = flag(s.penalised);
     let applied = flag(s.applied);
+    let needed = state_code(state);
     [
         a[0],
         a[1],
@@ -54,6 +59,7 @@ fn source_numbers(s: Source) -> SourceRow
         s.quantity,
         penalised,
         applied,
+        needed,
     ]
 }
 
@@ -108,6 +114,24 @@ fn source_attribute_id_of(o: Origin) -> OptionalId
     }
 }
 
+// The lowest state of an entry's source that would do: a buff needs none.
+fn needed_state(o: Origin) -> ItemState
+    ensures defined { λ r. ⌜ r ≡ neededState o ⌝ }
+{
+    match o {
+        Origin::Effect {
+            effect_id: _,
+            source: _,
+            source_category,
+            attribute_id: _,
+        } => lowest_state(source_category),
+        Origin::Buff {
+            buff_id: _,
+            value: _,
+        } => ItemState::Passive,
+    }
+}
+
 // The source row of an entry; its strength is that after resistance, before it is simplified.
 pub fn to_source(e: Effect, strength: f64, applied: bool, quantity: u32, penalised: bool) -> Source
     ensures defined { λ r. ⌜ r ≡ toSource e strength applied quantity penalised ⌝ }
@@ -117,6 +141,7 @@ pub fn to_source(e: Effect, strength: f64, applied: bool, quantity: u32, penalis
     let from = from_of(origin);
     let effect_id = effect_id_of(origin);
     let source_attribute_id = source_attribute_id_of(origin);
+    let state = needed_state(origin);
     Source {
         from,
         effect_id,
@@ -127,6 +152,7 @@ pub fn to_source(e: Effect, strength: f64, applied: bool, quantity: u32, penalis
         penalised,
         penalty: 0.0,
         applied,
+        state,
     }
 }
 

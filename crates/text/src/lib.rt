@@ -2,6 +2,7 @@
 use calculate::dogma_calculate;
 use columns::ENTRY_WIDTH;
 use columns::OBJECTS;
+use columns::SOURCE_WIDTH;
 use listing::refusal;
 use listing::result_text;
 ghost use mathlib.Core.Path.{_≡_};
@@ -37,7 +38,7 @@ fn calculated_text(text: &mut [u8; TEXT_BYTES], sheet: &[u8]) -> usize
     let mut entries = [[0u32; ENTRY_WIDTH]; ROWS];
     let mut entry_values = [0.0; ROWS];
     let mut plain = [[0u32; 2]; ROWS];
-    let mut sources = [[0u32; 10]; ROWS];
+    let mut sources = [[0u32; SOURCE_WIDTH]; ROWS];
     let mut source_values = [[0.0; 2]; ROWS];
     let answer = dogma_calculate(
         &mut states,

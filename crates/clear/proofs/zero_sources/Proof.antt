@@ -9,7 +9,7 @@ use lib.ListN.{replicate}
 use Rattle.clear.proofs.Zeros.{Clearing, clearing-none, clearing-next, clearing-end}
 
 abbrev Inv-loop : tie.InvT-loop
-Inv-loop sources₀ from n i₀ sources i = Clearing (replicate 10 0) from sources₀ sources i
+Inv-loop sources₀ from n i₀ sources i = Clearing (replicate 11 0) from sources₀ sources i
 
 abbrev μ-loop : tie.MeasureT-loop
 μ-loop sources₀ from n i₀ sources i = n - i
@@ -20,11 +20,11 @@ zero-sources-spec =
     (tie.spec
     Inv-loop
     μ-loop
-    (λ c. clearing-none (replicate 10 0) _ _)
+    (λ c. clearing-none (replicate 11 0) _ _)
     (λ c. search needs)
     (λ c. search needs)
     (λ c. search needs)
     (λ c. search needs)
-    (λ c. clearing-next (replicate 10 0) (c .before .loop .inv) (c .loop-test .taken) refl)
+    (λ c. clearing-next (replicate 11 0) (c .before .loop .inv) (c .loop-test .taken) refl)
     (λ c. c .before .loop .inv .long)
-    (λ c. clearing-end (replicate 10 0) (c .before .loop .inv) (c .loop-test .left)))
+    (λ c. clearing-end (replicate 11 0) (c .before .loop .inv) (c .loop-test .left)))

@@ -4,7 +4,8 @@ use borrow.Author.Needs.{needs}
 use Rattle.reading.proofs.entries.is_running.Statement.{statement}
 use Rattle.reading.proofs.entries.is_running.Tie as tie
 use native.Mathlib.Omega.{arith}
-use mathlib.Core.Path.{subst}
+use mathlib.Core.Path.{ap, subst}
+use Rattle.rules.specs.declared.RunsAt.{RunsAt}
 use Rattle.reading.specs.Held.{Sourced}
 use Rattle.reading.proofs.Decodes.{effect-runs}
 
@@ -19,5 +20,5 @@ is-running-spec =
     (λ c. search needs)
     (λ c κs. search needs)
     (λ c. search needs)
-    (λ c. effect-runs (c .before .before .before .before .before .before .args .states .now) (c .before .before .before .before .origin .given .1) (c .before .before .index .ensures .0) (c .runs-at .ensures))
+    (λ c. effect-runs (c .before .before .before .before .before .before .args .states .now) (c .before .before .before .before .origin .given .1) (c .before .before .index .ensures .0) (ap (λ (a : RunsAt). a .runs) (c .runs-at .ensures)))
     (λ c. search needs))

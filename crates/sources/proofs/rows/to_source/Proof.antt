@@ -10,4 +10,4 @@ pub to-source-spec : {M : Type 1} → statement M
 unfolding ofBits
 to-source-spec =
     tie.close
-    (tie.spec (λ c κs. search needs) (λ c κs. search needs) (λ c κs. search needs) (λ c. rw (c .before .before .from-of .ensures, c .before .effect-id-of .ensures, c .source-attribute-id-of .ensures) refl))
+    (tie.spec (λ c κs. search needs) (λ c κs. search needs) (λ c κs. search needs) (λ c κs. search needs) (λ c. rw (c .before .before .before .from-of .ensures, c .before .before .effect-id-of .ensures, c .before .source-attribute-id-of .ensures, c .needed-state .ensures) refl))
