@@ -1,14 +1,14 @@
 -- What dispatch gives: the definition's rows and entries, or the list that is full first. Definitions only.
-use Prim.Native.Nat.{ℕ, _≤_, _<_}
+use Prim.Native.Nat.{ℕ, _≤_}
 use mathlib.Core.Path.{_≡_}
-use mathlib.Core.List.{List, []}
+use mathlib.Core.List.{List}
 use mathlib.Core.Option.{Option, none, some}
 use lib.Ieee.{Float}
-use lib.ListN.{length, getD}
+use lib.ListN.{length}
 use Rattle.rules.specs.Sheet.{Book, Fit}
 use Rattle.rules.specs.Dispatch.{baseKeys, hitKeys, fullAt, rows}
 use Rattle.rules.specs.declared.Pass2Effect.{Pass2Effect}
-use Rattle.info.specs.Stands.{Pointing, Narrow, effectAt}
+use Rattle.hits.specs.Strikes.{AllPointing, AllNarrow}
 use Rattle.rows.specs.Entries.{Collected}
 use Rattle.rows.specs.Laying.{entriesOf}
 use Rattle.rows.specs.Parts.{ListsLaid}
@@ -21,8 +21,8 @@ pub record Collection (es : List Pass2Effect) (n : ℕ) (c : List (List ℕ)) (v
   pub inside : n ≤ length c
   pub even : n ≤ length v
   pub held : Collected es c v
-  pub points : (j : ℕ) → j < length es → Pointing (getD c j []) objects
-  pub narrow : (j : ℕ) → j < length es → Narrow (effectAt es j .modifier)
+  pub points : AllPointing es c objects
+  pub narrow : AllNarrow es
 
 -- they hold n effects
 pub record Collecting (n : ℕ) (c : List (List ℕ)) (v : List Float) (objects : ℕ) : Type 0 where

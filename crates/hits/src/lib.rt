@@ -69,6 +69,15 @@ const ANY: usize = 6;
 
 const GROUP: usize = 7;
 
+// The func codes that list 1 has of modifiers (`modifierNumbers`); LocationRequiredSkillModifier's is 0.
+const LOCATION_GROUP_MODIFIER: u32 = 1;
+
+const LOCATION_MODIFIER: u32 = 2;
+
+const OWNER_REQUIRED_SKILL_MODIFIER: u32 = 3;
+
+const ITEM_MODIFIER: u32 = 4;
+
 // The skills that an object requires.
 pub const SKILL_WIDTH: usize = 6;
 
@@ -210,17 +219,17 @@ pub fn aim_of(collected: &[CollectedRow], fit: &[u8], pairs: &TablePairs, s: Spa
     let func = collected[j][COLLECTED_FUNC];
     let what = collected[j][COLLECTED_SKILL_OR_GROUP];
     let target = collected[j][COLLECTED_TARGET];
-    if func == 4 {
+    if func == ITEM_MODIFIER {
         return one(target, Test::All);
     }
-    if func == 1 {
+    if func == LOCATION_GROUP_MODIFIER {
         return located(s, target, Test::OfGroup(what));
     }
-    if func == 2 {
+    if func == LOCATION_MODIFIER {
         return located(s, target, Test::All);
     }
     let skill = skill_of(collected, fit, pairs, j);
-    if func == 3 {
+    if func == OWNER_REQUIRED_SKILL_MODIFIER {
         return owned(s, Test::Requiring(skill));
     }
     skilled(s, target, Test::Requiring(skill))
@@ -239,10 +248,10 @@ pub fn aim_then(collected: &[CollectedRow], s: Spans, j: usize) -> Aim
     if target != s.character {
         return none();
     }
-    if func == 1 {
+    if func == LOCATION_GROUP_MODIFIER {
         return char_items(s, Test::OfGroup(what));
     }
-    if func == 2 {
+    if func == LOCATION_MODIFIER {
         return char_items(s, Test::All);
     }
     none()

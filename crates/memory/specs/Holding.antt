@@ -103,11 +103,15 @@ pub record Ready (t : Tables) (run : Recording) (v : List Float) (s : List (List
   pub told : Tells world sources₀ floats₀ t run
   pub holds : Holds world sources₀ floats₀ mem v s f used
 
+-- row i reads as its base
+abbrev pub Begun : World → Mem → ℕ → Type 0
+Begun w m i = valueAt m i ≡ some (rowAt w i .base)
+
 -- and row i is under calculation: it reads as its base, has own source rows, and room for those of the operators to come
 pub record Busy (t : Tables) (run : Recording) (v : List Float) (s : List (List ℕ)) (f : List (List Float)) (used : ℕ) (i own : ℕ) (ops : List EffectOperator) : Type 0 where
   pub ready : Ready t run v s f used
   pub within : i < length (ready .world .rows)
-  pub begun : valueAt (ready .mem) i ≡ some (rowAt (ready .world) i .base)
+  pub begun : Begun (ready .world) (ready .mem) i
   pub mine : own ≡ length (ownSources i (ready .mem))
   pub enough : ready .world .recording ≡ true → own + plannedBy (ready .world) ops (rowAt (ready .world) i .entries) ≤ getD (countsOf (ready .world)) i 0
 
@@ -115,7 +119,7 @@ pub record Busy (t : Tables) (run : Recording) (v : List Float) (s : List (List 
 pub record Piling (t : Tables) (run : Recording) (v : List Float) (s : List (List ℕ)) (f : List (List Float)) (i k : ℕ) (high : Bool) (op : EffectOperator) (p : Pile) : Type 0 where
   pub ready : Ready t run v s f (p .used)
   pub within : i < length (ready .world .rows)
-  pub begun : valueAt (ready .mem) i ≡ some (rowAt (ready .world) i .base)
+  pub begun : Begun (ready .world) (ready .mem) i
   pub inside : k < length (rowAt (ready .world) i .entries)
   pub values : Values
   pub found : Float

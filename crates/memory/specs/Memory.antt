@@ -22,18 +22,22 @@ valueColumn vs = map (λ (o : Option Float). Option·getD o nan) vs
 abbrev pub AllFinite : List (Option Float) → Type 0
 AllFinite vs = (j : ℕ) (x : Float) → getD vs j none ≡ some x → T (finite x)
 
+-- what is started keeps its value
+abbrev pub KeepsValues : Mem → Mem → Type 0
+KeepsValues m m′ = (j : ℕ) (v : Float) → valueAt m j ≡ some v → valueAt m′ j ≡ some v
+
 -- what is started stays as it is
 pub record Grows (m m′ : Mem) : Type 0 where
   pub values : length (m′ .values) ≡ length (m .values)
   pub sources : length (m′ .sources) ≡ length (m .sources)
-  pub value : (j : ℕ) (v : Float) → valueAt m j ≡ some v → valueAt m′ j ≡ some v
+  pub value : KeepsValues m m′
   pub own : (j : ℕ) (v : Float) → valueAt m j ≡ some v → ownSources j m′ ≡ ownSources j m
 
 -- the same, but for the source rows of row i
 pub record GrowsBut (i : ℕ) (m m′ : Mem) : Type 0 where
   pub values : length (m′ .values) ≡ length (m .values)
   pub sources : length (m′ .sources) ≡ length (m .sources)
-  pub value : (j : ℕ) (v : Float) → valueAt m j ≡ some v → valueAt m′ j ≡ some v
+  pub value : KeepsValues m m′
   pub own : (j : ℕ) (v : Float) → (j ≡ i → ⊥) → valueAt m j ≡ some v → ownSources j m′ ≡ ownSources j m
 
 -- a reader under which the memory grows

@@ -22,7 +22,7 @@ use Rattle.rules.specs.declared.Refusal.the-variants.{Shape}
 use Rattle.rules.proofs.Tables.{table-at, table-length}
 use Rattle.rules.proofs.Verdicts.{objects-good, bases-good}
 use Rattle.promises.specs.NoMemory.{noRow, NoLoop, Sound, Memoryless, SameButAsks, bookIn, fitIn, worldIn}
-use Rattle.promises.proofs.NoMemoryGoes.{got}
+use Rattle.rules.proofs.Results.{got}
 use Rattle.promises.proofs.NoMemoryRun.{run-no-memory, run-long, run-rows}
 use Rattle.promises.proofs.NoMemorySame.{fresh-same, free-same, world-same, rows-same, sound-same}
 

@@ -1,7 +1,6 @@
 -- Two calculations side by side: where the first is done, the second is done too, and what they give is related.
 use mathlib.Core.Path.{_≡_, refl, subst}
 use Prim.Native.Nat.{ℕ}
-use native.Mathlib.Omega.{arith}
 use lib.Ieee.{Float}
 use Rattle.rules.specs.Answer.{Res, ok, refused, _>>=_}
 use Rattle.rules.specs.Number.{numberAt}
@@ -50,20 +49,6 @@ second {A = A} {B = B} {R = R} {y = y} {a = a} g e = by y (subst (λ (z : Res A)
   where
     by : (z : Res B) → Goes R (ok a) z → Second R a z
     by z (goes {b = b} r) = record { given = b; is = refl; related = r }
-
--- ---- a step that is done was taken
-
-pub record Passed {A B : Type 0} (x : Res A) (f : A → Res B) (b : B) : Type 0 where
-  pub given : A
-  pub first : x ≡ ok given
-  pub rest : f given ≡ ok b
-
-pub passes : {A B : Type 0} (x : Res A) (f : A → Res B) (b : B) → (x >>= f) ≡ ok b → Passed x f b
-passes (ok a) f b e = record { given = a; first = refl; rest = e }
-passes (refused r) f b e = let z : _≡_ {A = ℕ} 0 1 = cc in absurd (omega arith)
-
-pub got : {A : Type 0} {a b : A} → _≡_ {A = Res A} (ok a) (ok b) → a ≡ b
-got e = cc
 
 -- the same float step
 pub number-goes : (o : ℕ) (s t : Step) → s ≡ t → Goes (λ (x y : Float). x ≡ y) (numberAt o s) (numberAt o t)

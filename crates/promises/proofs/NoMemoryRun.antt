@@ -22,7 +22,8 @@ use Rattle.rules.specs.Outcome.{Rooms, Done, full, collected, walkOrder, starts
 use Rattle.rules.specs.declared.Ask.{Ask}
 use Rattle.rules.proofs.Ranked.{same-key}
 use Rattle.promises.specs.NoMemory.{keyOf, keyAt, noRow, NoLoop, Sound, Memoryless}
-use Rattle.promises.proofs.NoMemoryGoes.{second, passes, got}
+use Rattle.rules.proofs.Results.{got, then}
+use Rattle.promises.proofs.NoMemoryGoes.{second}
 use Rattle.promises.proofs.NoMemoryReads.{Keeps, keeps-same, keeps-on, freshAt, Right, reads}
 use Rattle.promises.proofs.NoMemoryRows.{found-there, rows-distinct}
 use Rattle.promises.proofs.NoMemoryWalk.{walks}
@@ -72,7 +73,7 @@ module _ (w : World) (free : NoLoop w) where
       let same : m ≡ n = got e in
       record { standing = subst Standing same h; keeps = subst (λ (x : Mem). Keeps (m .values) (x .values)) same (keeps-same (m .values)); has = λ a t f k. both-ways t refl }
   all-read d (s ∷ r) m n h e =
-      let p = passes (valueOf w d (s .object) (s .«attribute_id») m) _ n e in
+      let p = then (valueOf w d (s .object) (s .«attribute_id») m) _ n e in
       let one = one-read d s m (p .given) h (p .first) in
       let rest = all-read d r (p .given .mem) n (one .standing) (p .rest) in
       record {
@@ -114,10 +115,10 @@ module _ (k : Book) (f : Fit) (q : Rooms) where
   unfolding run
   ran d e =
       let base = length (baseKeys f) in
-      let a = passes (full (cond (leb base (q .rows)) none (some 2))) _ d e in
-      let b = passes (collected q 0 0 (moves k f)) _ d (a .rest) in
-      let c = passes (full (fullAt (q .rows) (q .entries) (baseKeys f) base 0 (hitKeys k f (collectedIn k f)))) _ d (b .rest) in
-      let m = passes (valued world (f .depth) (startsOf f (world .rows)) (blank (world .rows))) _ d (c .rest) in
+      let a = then (full (cond (leb base (q .rows)) none (some 2))) _ d e in
+      let b = then (collected q 0 0 (moves k f)) _ d (a .rest) in
+      let c = then (full (fullAt (q .rows) (q .entries) (baseKeys f) base 0 (hitKeys k f (collectedIn k f)))) _ d (b .rest) in
+      let m = then (valued world (f .depth) (startsOf f (world .rows)) (blank (world .rows))) _ d (c .rest) in
       record { mem = m .given; gone = m .first; is = sym (got (m .rest)); values = sym (ap (λ (x : Done). x .values) (got (m .rest))); rows = sym (ap (λ (x : Done). x .rows) (got (m .rest))) }
 
   -- the walk asks for row i

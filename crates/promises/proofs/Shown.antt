@@ -1,5 +1,5 @@
 -- Every source row names the state that its source needs: a memory's, a run's, and those of every result that meets the definition.
-use Prim.Native.Nat.{ℕ, zero, suc, _-_, _≤_, _<_, min}
+use Prim.Native.Nat.{ℕ, zero, suc, _-_, _<_, min}
 use native.Mathlib.Omega.{arith}
 use mathlib.Core.Path.{_≡_, refl, sym, ap, subst, _∙_}
 use mathlib.Core.Bool.{Bool, true, false, _&&_, _||_, not}
@@ -7,27 +7,25 @@ use mathlib.Core.List.{List, [], _∷_, _++_, map}
 use mathlib.Core.Option.{Option, none, some}
 use borrow.Author.Tests.{leb-true, eqb-true}
 use lib.Dec.{eqb, leb, ltb}
-use lib.Ieee.{Float, lt}
+use lib.Ieee.{Float}
 use lib.IntN.{ℤ, pos}
 use lib.ListN.{length, getD, set}
 use Rattle.laws.specs.Lists.{eqZ, every?}
-use Rattle.laws.specs.Floats.{zeroF}
 use Rattle.laws.proofs.Bools.{both-ways, and-left, and-right, and-both}
 use Rattle.laws.proofs.Every.{every-at}
 use Rattle.laws.proofs.Maps.{map-at}
 use Rattle.rules.specs.Answer.{Res, ok, refused, _>>=_}
-use Rattle.rules.specs.Bytes.{bits}
-use Rattle.rules.specs.Codes.{stateCode, operatorCode, operators, sameOperator}
-use Rattle.rules.specs.Columns.{Counts, yes1, fromNumbers, optionalNumbers, sourceNumbers, sourceList, stateList, sourceColumn, stateColumn}
+use Rattle.rules.specs.Codes.{stateCode, operators, sameOperator}
+use Rattle.rules.specs.Columns.{Counts, yes1, fromNumbers, optionalNumbers, sourceNumbers, sourceList, sourceColumn, stateColumn}
 use Rattle.rules.specs.Dispatch.{Row}
 use Rattle.rules.specs.Info.{getDogmaAttribute, highIsGood}
 use Rattle.rules.specs.Item.{lowestState, runsAt}
 use Rattle.rules.specs.Number.{times, weight, numberAt}
-use Rattle.rules.specs.Operate.{Copy, Values, simplified, hasPenalty, sorted, applied}
+use Rattle.rules.specs.Operate.{Copy, simplified, hasPenalty, sorted, applied}
 use Rattle.rules.specs.Outcome.{Rooms, Lent, Done, startsOf, valued, worldOf, blank, run, roomsOf, outcome}
 use Rattle.rules.specs.Sheet.{Book, Fit}
 use Rattle.rules.specs.States.{States}
-use Rattle.rules.specs.Value.{World, Mem, Read, Reader, Gathered, Found, stateOf, fromOf, neededState, toSource, withPenalty, noSource, ownSources, nothing, withStack, withCopy, note, copies, penalised, unpenalised, contribute, resisted, gatherFrom, gather, marked, markedBy, operate, clamped, atLeast, atMost, setValue, calculate, findRow, calculatedValue, valueOf}
+use Rattle.rules.specs.Value.{World, Mem, Read, Reader, Gathered, Found, stateOf, fromOf, neededState, toSource, withPenalty, noSource, ownSources, nothing, note, copies, penalised, unpenalised, contribute, resisted, gatherFrom, gather, marked, markedBy, operate, clamped, atLeast, atMost, setValue, calculate, findRow, calculatedValue, valueOf}
 use Rattle.rules.specs.declared.Ask.{Ask}
 use Rattle.rules.specs.declared.Effect.{Effect}
 use Rattle.rules.specs.declared.EffectCategory.{EffectCategory}

@@ -75,7 +75,8 @@ fn note_copies(
 pub fn kept(quantity: u32) -> u32
     ensures defined { λ r. ⌜ r ≡ min quantity 8 ⌝ }
 {
-    if quantity < 8 { quantity } else { 8 }
+    let copies = operate::buckets::kept(quantity as usize);
+    copies as u32
 }
 
 // The source rows of a penalised entry that runs.
