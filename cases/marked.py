@@ -83,7 +83,17 @@ def grey(category, what, bases=((37, 2.0),), modified=(37,), domain=1, more=(), 
                  [thing(SHIP, bases=(0, len(bases))), thing(CHAR), what], [list(b) for b in bases] + [[20, 5.0]], recording=1, **others)
 
 
+def touched(kind, type_id=0, group=0, category=0, slot=0, bases=(0, 0)):
+    return [kind, type_id, group, category, slot, 1, 0, 0, 0, 0, 0, *bases, 0, 0, 0, 0]
+
+
+def adds(func, domain, modified, skill=0, group=0):
+    """ModAdd of attribute 20."""
+    return [func, domain, 3, 20, modified, skill, group]
+
+
 HULL = thing(SHIP, 8, quantity=1, bases=(0, 1))
+FRAME = touched(SHIP, 8, 1, bases=(0, 1))
 
 CASES = [
     ("L", "case L: two modules of 50 % each on the ship's 37, stacking penalised", case_l(), L_TEXT),
@@ -152,6 +162,20 @@ CASES = [
     ("grey-copies", "a penalised quantity of 12: eight rows of one and one of four, each names Online", grey_l((12,)), None),
     ("grey-unreachable", "an item of max state Online has a Target effect: grey, names Active, which the item cannot reach",
      grey(4, module((1, 1), slot=1), more=[[2, 1, 0, 0, 1, 0]]), None),
+    ("touched-groups", "41 on group 5 in the ship, 42 on all in it, 43 on all on the char; mode, item, its charge and a drone are of group 5",
+     by_ship([adds(1, 1, 41, group=5), adds(2, 1, 42), adds(2, 2, 43)],
+             [FRAME, touched(MODE, group=5), touched(CHAR), touched(ITEM, 9, 5, 7, 3), touched(CHARGE, group=5), touched(ITEM, 11, 5, 18, 7)], [[20, 2.0]]), None),
+    ("touched-char", "43 on all on the char, 44 on group 5 there, 45 on what requires 7 there: an implant, its charge and a skill",
+     by_ship([adds(2, 2, 43), adds(1, 2, 44, group=5), adds(0, 2, 45, 7)],
+             [FRAME, touched(CHAR), touched(ITEM, 12, 5, 20, 10, (1, 1)), touched(CHARGE, group=5, bases=(1, 1)), touched(SKILL, 7, 5, 16)], [[20, 2.0], [182, 7.0]]), None),
+    ("touched-skills", "46 as owner on what requires 7, 47 in the ship, 48 with a module as target, 49 by a skill's -1, 50 by a buff's -1",
+     sheet((), [[1, 0, 0, 0, 0, 2], [2, 0, 0, 0, 2, 1], [3, 0, 0, 0, 3, 1]],
+           [adds(3, 2, 46, 7), adds(0, 1, 47, 7), adds(0, 0, 48, 7), adds(0, 1, 49, -1), adds(0, 1, 50, -1)], [[7, 3, 0], [8, 1, 0], [10, 2, 0]],
+           [FRAME, touched(CHAR), touched(ITEM, 10, 0, 7, 3, (2, 1)), touched(ITEM, 9, 0, 7, 3, (1, 1)), touched(CHARGE, bases=(1, 1)),
+            touched(ITEM, 11, 0, 18, 7, (1, 1)), touched(ITEM, 13, 0, 7), touched(CHARGE, bases=(1, 1)), touched(SKILL, 7, 0, 16)],
+           [[20, 2.0], [182, 7.0], [182, 0.0]], collections=[[30, 3, 4, 1]], buffs=[[30, 3.0]]), None),
+    ("touched-twice", "the ship's type has one effect twice: two entries on each of the two in the ship, numbers 0 and 1",
+     sheet((), [[1, 0, 0, 0, 0, 1]], [adds(2, 1, 42)], [[8, 1, 0], [8, 1, 0]], [FRAME, touched(CHAR), touched(ITEM, 9, 0, 7, 3)], [[20, 2.0]]), None),
 ]
 # the collection numbers of the entries, in the order of list 3
 NUMBERS = {"L": [0, 1], "loop-walked": [0, 1], "numbers-order": [2, 0, 1], "numbers-location": [0, 0, 0], "numbers-buff": [0, 1, 2],
@@ -160,6 +184,11 @@ NUMBERS = {"L": [0, 1], "loop-walked": [0, 1], "numbers-order": [2, 0, 1], "numb
 GREY = {"grey-L-online": [[0, 2, 1, 1, 1], [0, 3, 1, 1, 1]], "grey-L-passive": [[0, 2, 1, 0, 1], [0, 3, 1, 0, 1]], "grey-target-passive": [[0, 2, 1, 0, 2]],
         "grey-target-active": [[0, 2, 1, 1, 2]], "grey-rig": [[0, 2, 1, 0, 1], [0, 2, 1, 1, 0]], "grey-overload": [[0, 2, 1, 0, 3]],
         "grey-buff": [[1, 30, 1, 1, 0]], "grey-copies": [[0, 2, 1, 1, 1]] * 8 + [[0, 2, 4, 1, 1]], "grey-unreachable": [[0, 2, 1, 0, 2]]}
+# object, attribute and collection number of each entry, in the order of list 3
+TOUCHED = {"touched-groups": [(0, 42, 1), (2, 43, 2), (3, 41, 0), (3, 42, 1), (4, 41, 0), (4, 42, 1)],
+           "touched-char": [(1, 43, 0), (2, 43, 0), (2, 44, 1), (2, 45, 2), (3, 45, 2), (4, 43, 0), (4, 44, 1)],
+           "touched-skills": [(2, 50, 2), (3, 47, 1), (3, 48, 3), (3, 49, 4), (4, 46, 0), (4, 47, 1), (4, 48, 3), (4, 49, 4), (5, 46, 0), (7, 46, 0)],
+           "touched-twice": [(0, 42, 0), (0, 42, 1), (2, 42, 0), (2, 42, 1)]}
 
 
 def held(name, data, text):
@@ -171,6 +200,9 @@ def held(name, data, text):
     shown = [[source[k] for k in (0, 1, 7, 9, 10)] for source, _ in answer.sources]
     if GREY.get(name, []) != shown:
         sys.exit(f"{name}: source rows {shown}")
+    entries = [(row[0], row[1], entry[11]) for row, _ in answer.rows for entry, _ in answer.entries[row[2]:row[2] + row[3]]]
+    if TOUCHED.get(name, entries) != entries:
+        sys.exit(f"{name}: entries {entries}")
     found = reference.listing(answer)
     if text not in (None, found):
         sys.exit(f"{name}: {found!r}, expected {text!r}")
@@ -189,7 +221,7 @@ def main():
         (HERE / f"{name}.txt").write_text(printed)
         account.append(f"| {name} | {len(data)} | {what} | {'; '.join(printed.splitlines())} |")
     account += ["", "Down to divided-by-0 they are the sheets of `crates/rules/proofs/Marked.antt`, and the four slips those of `crates/rules/proofs/Slips.antt`, byte for byte: "
-                "what they print is proved there of the definition. Of L, loop-walked and those named numbers-.. `crates/rules/proofs/Numbers.antt` proves which collection numbers their entries have; of those named grey-.. `crates/rules/proofs/Grey.antt` proves what their source rows show, which the text has not: kept.bin has them. docs/FORMAT.md explains case L byte by byte, and why each of the refused is.",
+                "what they print is proved there of the definition. Of L, loop-walked and those named numbers-.. `crates/rules/proofs/Numbers.antt` proves which collection numbers their entries have; of those named grey-.. `crates/rules/proofs/Grey.antt` proves what their source rows show, which the text has not: kept.bin has them; of those named touched-.. `crates/touched/proofs/Examples.antt` proves whom each effect names and which entries there are. docs/FORMAT.md explains case L byte by byte, and why each of the refused is.",
                 "`kept.bin` has sheets with the oracle's answers, every list of them; [KEPT.md](KEPT.md) names each and says how it is read.",
                 "`make_damaged.py` makes the sheets of crates/shape_test; `make_texts.py` hands every sheet here, and its text, to crates/cases_test."]
     (HERE / "README.md").write_text("\n".join(account) + "\n")

@@ -23,7 +23,7 @@ use Rattle.promises.specs.NoMemory.{bookIn, fitIn, worldIn}
 use Rattle.promises.specs.Result.{Result, Meets}
 use Rattle.promises.proofs.Ends.{column-every}
 use Rattle.promises.proofs.Everywhere.{flat-every}
-use Rattle.promises.proofs.FloatsCollected.{held, fineTaken, default-finite}
+use Rattle.promises.proofs.FloatsCollected.{held, heldTaken, fineTaken, default-finite}
 use Rattle.promises.proofs.FloatsSheet.{sheet-fine, sheet-collected, sheet-rows}
 use Rattle.promises.proofs.FloatsSteps.{fineValue, fineSource}
 use Rattle.promises.proofs.FloatsRun.{fineAt, run-values, run-sources, row-valued}
@@ -62,7 +62,7 @@ module _ (b : List ℕ) (l : Lent) (d : Done) (h : outcome b l ≡ ok d) where
       let is = ran (bookIn b) (fitIn b) (roomsOf l) d (is-run b l d h) .is in
       record {
         collected = subst (λ (ts : List Pass2Effect). every? (λ t. finite (originValue (t .origin))) ts ≡ true) (sym (ap (λ (x : Done). x .collected) is))
-            (every-weaker fineTaken (λ t. finite (originValue (t .origin))) (λ t e. and-left (finite (originValue (t .origin))) (held (t .«target_attribute_id»)) e) (collectedIn (bookIn b) (fitIn b)) (sheet-collected b l d h));
+            (every-weaker fineTaken (λ t. finite (originValue (t .origin))) (λ t e. and-left (finite (originValue (t .origin))) (heldTaken t) e) (collectedIn (bookIn b) (fitIn b)) (sheet-collected b l d h));
         rows = subst (λ (rs : List Row). every? fineAt rs ≡ true) (sym (run-rows (bookIn b) (fitIn b) (roomsOf l) d (is-run b l d h))) world-rows;
         values = every-map finite (λ v. Option·getD v zeroF) (d .values)
             ∙ every-weaker fineValue (λ v. finite (Option·getD v zeroF)) value-finite (d .values) (run-values (bookIn b) (fitIn b) (roomsOf l) defaults world-rows d (is-run b l d h));

@@ -37,11 +37,12 @@ use Rattle.rules.specs.declared.EffectCategory.the-variants.{Passive}
 use Rattle.rules.specs.declared.EffectOperator.{EffectOperator}
 use Rattle.rules.specs.declared.Item.{Item}
 use Rattle.rules.specs.declared.Modifier.{Modifier}
+use Rattle.rules.specs.declared.Modifier.the-variants.{LocationRequiredSkillModifier, LocationGroupModifier, LocationModifier, OwnerRequiredSkillModifier, ItemModifier}
 use Rattle.rules.specs.declared.OptionalId.the-variants.{Absent}
 use Rattle.rules.specs.declared.Origin.the-variants as origin
 use Rattle.rules.specs.declared.Pass2Effect.{Pass2Effect}
 use Rattle.rules.specs.declared.ProjectedBuff.{ProjectedBuff}
-use Rattle.rules.specs.declared.Refusal.the-variants.{Category}
+use Rattle.rules.specs.declared.Refusal.the-variants.{Func, Category}
 use Rattle.rules.specs.declared.TypeDogmaEffect.{TypeDogmaEffect}
 use Rattle.promises.proofs.Everywhere.{every-both, every-span, every-first, flat-every, flat-all, insertAll-every}
 
@@ -62,8 +63,8 @@ held-signed n = subst (λ (x : ℤ). eqZ x (signed n) ≡ true) (sym (toZ-ofZ w3
 
 -- ---- what is asked of a book and a fit
 
-abbrev heldModifier : DogmaModifier → Bool
-heldModifier m = held (m .«modified_attribute_id»)
+abbrev pub heldModifier : DogmaModifier → Bool
+heldModifier m = held (m .«modified_attribute_id») && (held (m .«skill_type_id») && held (m .«group_id»))
 
 pub record Fine (k : Book) (f : Fit) : Type 0 where
   pub defaults : every? (λ r. finite (r .«default_value»)) (k .attributes) ≡ true
@@ -74,8 +75,19 @@ pub record Fine (k : Book) (f : Fit) : Type 0 where
 
 -- ---- collection
 
+-- its skill or group
+abbrev pub heldFunc : Modifier → Bool
+heldFunc (LocationRequiredSkillModifier s) = held s
+heldFunc (LocationGroupModifier g) = held g
+heldFunc LocationModifier = true
+heldFunc (OwnerRequiredSkillModifier s) = held s
+heldFunc ItemModifier = true
+
+abbrev pub heldTaken : Pass2Effect → Bool
+heldTaken t = held (t .«target_attribute_id») && heldFunc (t .modifier)
+
 abbrev pub fineTaken : Pass2Effect → Bool
-fineTaken t = finite (originValue (t .origin)) && held (t .«target_attribute_id»)
+fineTaken t = finite (originValue (t .origin)) && heldTaken t
 
 abbrev fineMove : Move → Bool
 fineMove (taken t) = fineTaken t
@@ -87,6 +99,33 @@ then-fine : {A : Type 0} (t : Test A) (g : A → List Move) → ((a : A) → eve
 then-fine (go a) g h = h a
 then-fine over g h = refl
 then-fine (bad r) g h = refl
+
+cond-fine : (b : Bool) (t u : Test Modifier) (g : Modifier → List Move) → every? fineMove (then t g) ≡ true → every? fineMove (then u g) ≡ true → every? fineMove (then (cond b t u) g) ≡ true
+cond-fine true t u g h i = h
+cond-fine false t u g h i = i
+
+-- whatever a func stands for
+func-fine : (m : DogmaModifier) (g : Modifier → List Move) → heldModifier m ≡ true → ((a : Modifier) → held (m .«modified_attribute_id») && heldFunc a ≡ true → every? fineMove (g a) ≡ true) → every? fineMove (then (testFunc m) g) ≡ true
+unfolding testFunc
+func-fine m g e h =
+    cond-fine (eqb (m .func) 0) _ _ g (h (LocationRequiredSkillModifier (m .«skill_type_id»)) (and-both on skill))
+    (cond-fine (eqb (m .func) 1) _ _ g (h (LocationGroupModifier (m .«group_id»)) (and-both on group))
+    (cond-fine (eqb (m .func) 2) _ _ g (h LocationModifier (and-both on refl))
+    (cond-fine (eqb (m .func) 3) _ _ g (h (OwnerRequiredSkillModifier (m .«skill_type_id»)) (and-both on skill))
+    (cond-fine (eqb (m .func) 4) _ _ g (h ItemModifier (and-both on refl))
+    (cond-fine (eqb (m .func) 5) over (bad (Func (m .number))) g refl refl)))))
+  where
+    on : held (m .«modified_attribute_id») ≡ true
+    on = and-left (held (m .«modified_attribute_id»)) (held (m .«skill_type_id») && held (m .«group_id»)) e
+
+    named : held (m .«skill_type_id») && held (m .«group_id») ≡ true
+    named = and-right (held (m .«modified_attribute_id»)) (held (m .«skill_type_id») && held (m .«group_id»)) e
+
+    skill : held (m .«skill_type_id») ≡ true
+    skill = and-left (held (m .«skill_type_id»)) (held (m .«group_id»)) named
+
+    group : held (m .«group_id») ≡ true
+    group = and-right (held (m .«skill_type_id»)) (held (m .«group_id»)) named
 
 unless-fine : (t : Bool) (l : List Move) → every? fineMove l ≡ true → every? fineMove (unless t l) ≡ true
 unless-fine true l h = refl
@@ -102,9 +141,9 @@ module _ (k : Book) (f : Fit) (fine : Fine k f) where
   modifier-fine : (o : Item) (e : DogmaEffect) (c : EffectCategory) (m : DogmaModifier) → heldModifier m ≡ true → every? fineMove (modifierMoves k f o e c m) ≡ true
   unfolding modifierMoves finite
   modifier-fine o e c m h =
-      then-fine (testFunc m) _ λ func. then-fine (testOperation (m .operation) (m .number)) _ λ op.
+      func-fine m _ h λ func k. then-fine (testOperation (m .operation) (m .number)) _ λ op.
       unless-fine (isItem o && eqb (m .domain) 3 && not (hasCharge f o)) (aimed func op)
-      (unless-fine (isSkill o && structureFit f && eqb (m .domain) 1) (then (testDomain f o m) (one func op)) (then-fine (testDomain f o m) (one func op) λ target. and-both h refl))
+      (unless-fine (isSkill o && structureFit f && eqb (m .domain) 1) (then (testDomain f o m) (one func op)) (then-fine (testDomain f o m) (one func op) λ target. and-both k refl))
     where
       one : Modifier → EffectOperator → ℕ → List Move
       one func op target =
@@ -159,7 +198,7 @@ module _ (k : Book) (f : Fit) (fine : Fine k f) where
   thrown-fine : (o : Item) (e : DogmaEffect) (c : EffectCategory) (m : DogmaModifier) → heldModifier m ≡ true → every? fineMove (projectedModifierMoves f o e c m) ≡ true
   unfolding projectedModifierMoves finite
   thrown-fine o e c m h =
-      then-fine (testProjectedDomain f m) _ λ target. then-fine (testFunc m) _ λ func. then-fine (testOperation (m .operation) (m .number)) _ λ op. and-both h refl
+      then-fine (testProjectedDomain f m) _ λ target. func-fine m _ h λ func k. then-fine (testOperation (m .operation) (m .number)) _ λ op. and-both k refl
 
   projected-fine : (o : Item) → every? fineMove (projectedMoves k f o) ≡ true
   unfolding projectedMoves
@@ -183,7 +222,7 @@ module _ (k : Book) (f : Fit) (fine : Fine k f) where
 
   buffed-fine : (b : ProjectedBuff) (op : EffectOperator) (m : DogmaModifier) → finite (b .value) ≡ true → heldModifier m ≡ true → every? fineMove (buffModifierMoves b op m) ≡ true
   unfolding buffModifierMoves
-  buffed-fine b op m v h = then-fine (testFunc m) _ λ func. and-both (and-both v h) refl
+  buffed-fine b op m v h = func-fine m _ h λ func k. and-both (and-both v k) refl
 
   buff-fine : (b : ProjectedBuff) → finite (b .value) ≡ true → every? fineMove (buffMoves k b) ≡ true
   unfolding buffMoves
@@ -271,13 +310,15 @@ module _ (k : Book) (f : Fit) (fine : Fine k f) where
     unfolding entry
     entries-fine o [] e = refl
     entries-fine o (n ∷ us) e =
-        and-both (and-left (finite (originValue (n .effect .origin))) (held (n .effect .«target_attribute_id»)) (and-left (fineHit n) (every? fineHit us) e))
+        and-both (and-left (finite (originValue (n .effect .origin))) (heldTaken (n .effect)) (and-left (fineHit n) (every? fineHit us) e))
         (entries-fine o us (and-right (fineHit n) (every? fineHit us) e))
 
     targets-held : (us : List Numbered) → every? fineHit us ≡ true → every? held (map (λ n. n .effect .«target_attribute_id») us) ≡ true
     targets-held [] e = refl
     targets-held (n ∷ us) e =
-        and-both (and-right (finite (originValue (n .effect .origin))) (held (n .effect .«target_attribute_id»)) (and-left (fineHit n) (every? fineHit us) e))
+        and-both
+        (and-left (held (n .effect .«target_attribute_id»)) (heldFunc (n .effect .modifier))
+        (and-right (finite (originValue (n .effect .origin))) (heldTaken (n .effect)) (and-left (fineHit n) (every? fineHit us) e)))
         (targets-held us (and-right (fineHit n) (every? fineHit us) e))
 
     ids-held : (o : Item) → every? held (idsOf k f ts o) ≡ true

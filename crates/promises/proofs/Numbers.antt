@@ -181,7 +181,7 @@ module _ (k : Book) (f : Fit) (ts : List Pass2Effect) where
 
 -- ---- the numbers of both
 
-eleven : (g : Origin) (i : OptionalId) (a b c n : ℕ) → getD (originNumbers g ++ (a ∷ b ∷ c ∷ (optionalNumbers i ++ (n ∷ [])))) 11 0 ≡ n
+pub eleven : (g : Origin) (i : OptionalId) (a b c n : ℕ) → getD (originNumbers g ++ (a ∷ b ∷ c ∷ (optionalNumbers i ++ (n ∷ [])))) 11 0 ≡ n
 eleven (origin.Effect e o c a) Absent x y z n = refl
 eleven (origin.Effect e o c a) (Given i) x y z n = refl
 eleven (origin.Buff b v) Absent x y z n = refl
@@ -212,7 +212,7 @@ fronts (origin.Effect e o c a) l r j h = List·getD-append (originNumbers (origi
 fronts (origin.Buff b v) l r j h = List·getD-append (originNumbers (origin.Buff b v)) (l ++ r) 0 j h
 
 -- from the operator on
-behind : (g : Origin) (m : Modifier) (j : ℕ) (r : List ℕ) → getD (originNumbers g ++ modifierNumbers m ++ r) (suc (suc (suc (suc (suc (suc (suc (suc j)))))))) 0 ≡ getD r j 0
+pub behind : (g : Origin) (m : Modifier) (j : ℕ) (r : List ℕ) → getD (originNumbers g ++ modifierNumbers m ++ r) (suc (suc (suc (suc (suc (suc (suc (suc j)))))))) 0 ≡ getD r j 0
 behind (origin.Effect e o c a) (LocationRequiredSkillModifier s) j r = refl
 behind (origin.Effect e o c a) (LocationGroupModifier s) j r = refl
 behind (origin.Effect e o c a) LocationModifier j r = refl
@@ -224,12 +224,12 @@ behind (origin.Buff b v) LocationModifier j r = refl
 behind (origin.Buff b v) (OwnerRequiredSkillModifier s) j r = refl
 behind (origin.Buff b v) ItemModifier j r = refl
 
-abbrev rest : Pass2Effect → List ℕ
+abbrev pub rest : Pass2Effect → List ℕ
 rest t = operatorCode (t .operator) ∷ t .«source_quantity» ∷ t .target ∷ bits (t .«target_attribute_id») ∷ optionalNumbers (t .resistance)
 
 -- ---- where entries stand in list 3
 
-abbrev all : List Row → List Effect
+abbrev pub all : List Row → List Effect
 all rs = flat (λ r. r .entries) rs
 
 -- how many entries stand before those of row i
@@ -286,7 +286,7 @@ inside-all (r ∷ rs) (suc i) h = omega (arith, length-append (r .entries) (all 
 abbrev noEntry : Effect
 noEntry = record { origin = origin.Buff (pos 0) zeroF; operator = PreAssign; penalty = false; quantity = 0; resistance = Absent; number = 0 }
 
-abbrev noEffect : Pass2Effect
+abbrev pub noEffect : Pass2Effect
 noEffect =
     record {
       origin = origin.Buff (pos 0) zeroF;

@@ -1,0 +1,9 @@
+pub mod Counting
+pub mod Numbered
+pub mod Hits
+pub mod Rows
+pub mod Touched
+pub mod InColumns
+pub mod Facts
+pub mod Examples
+pub mod Alone
