@@ -1,0 +1,45 @@
+-- Parts of columns that are lent and come back: their lengths, and the columns' as they were.
+use Prim.Native.Nat.{ℕ, _+_, _-_, _≤_}
+use native.Mathlib.Omega.{arith}
+use mathlib.Core.Path.{_≡_, refl, sym, ap, _∙_}
+use mathlib.Core.List.{List, _++_}
+use lib.ListN.{length, take, drop, length-drop, length-append}
+use lib.Seq.{length-take-le}
+use Rattle.laws.specs.Columns.{within}
+use Rattle.rules.specs.Pool.{firstOf, lengthOf}
+use Rattle.pool.specs.Pooled.{startOf, partEnd}
+use Rattle.pool.proofs.Parts.{part-long, part-ordered, part-within}
+
+-- the part from a to e, and a column with ys in its place
+abbrev pub cut : {A : Type 0} → ℕ → ℕ → List A → List A
+cut a e c = take (e - a) (drop a c)
+
+abbrev pub backed : {A : Type 0} → ℕ → ℕ → List A → List A → List A
+backed a e ys c = take a c ++ (ys ++ drop (e - a) (drop a c))
+
+module _ {A : Type 0} (a e : ℕ) (c : List A) (h : (a ≤ e) × (e ≤ length c)) where
+  -- a part is as long as from its beginning to its end
+  pub cut-long : length (cut a e c) ≡ e - a
+  cut-long = length-take-le (e - a) (drop a c) (let d = length-drop a c in omega (arith, d, h .0, h .1))
+
+  -- a column whose part has come back is as long as it was
+  pub same-long : (ys : List A) → length ys ≡ length (cut a e c) → length (backed a e ys c) ≡ length c
+  same-long ys k =
+      let t = length-append (take a c) (ys ++ drop (e - a) (drop a c)) in
+      let u = length-append ys (drop (e - a) (drop a c)) in
+      let v = length-take-le a c (omega (arith, h .0, h .1)) in
+      let w = length-drop (e - a) (drop a c) in
+      let x = length-drop a c in
+      let y = cut-long in omega (arith, t, u, v, w, x, y, k, h .0, h .1)
+
+-- where a stretch is lent
+module _ {A : Type 0} (s : List ℕ) (c : List A) {a e : ℕ} (f : a ≡ startOf s) (g : e ≡ partEnd s) (n : e ≤ length c) where
+  pub stretch-inside : (a ≤ e) × (e ≤ length c)
+  stretch-inside = let o = part-ordered s in (omega (arith, f, g, o), n)
+
+  pub stretch-long : length (cut a e c) ≡ lengthOf s
+  stretch-long = cut-long a e c stretch-inside ∙ rw (f, g) (part-long s)
+
+  -- the column with the stretch's new rows in their place
+  pub stretch-within : (ys xs : List A) → length ys ≡ length (cut a e c) → ys ≡ xs → backed a e ys c ≡ within (firstOf s) (lengthOf s) xs c
+  stretch-within ys xs k m = rw (f, g) (part-within s ys c (k ∙ stretch-long)) ∙ ap (λ (x : List A). within (firstOf s) (lengthOf s) x c) m
