@@ -1,7 +1,7 @@
 -- Parts of columns that are lent and come back: their lengths, and the columns' as they were.
 use Prim.Native.Nat.{ℕ, _+_, _-_, _≤_}
 use native.Mathlib.Omega.{arith}
-use mathlib.Core.Path.{_≡_, refl, sym, ap, _∙_}
+use mathlib.Core.Path.{_≡_, ap, _∙_}
 use mathlib.Core.List.{List, _++_}
 use lib.ListN.{length, take, drop, length-drop, length-append}
 use lib.Seq.{length-take-le}
@@ -33,13 +33,13 @@ module _ {A : Type 0} (a e : ℕ) (c : List A) (h : (a ≤ e) × (e ≤ length c
       let y = cut-long in omega (arith, t, u, v, w, x, y, k, h .0, h .1)
 
 -- where a stretch is lent
-module _ {A : Type 0} (s : List ℕ) (c : List A) {a e : ℕ} (f : a ≡ startOf s) (g : e ≡ partEnd s) (n : e ≤ length c) where
-  pub stretch-inside : (a ≤ e) × (e ≤ length c)
-  stretch-inside = let o = part-ordered s in (omega (arith, f, g, o), n)
+module _ {A : Type 0} (s : List ℕ) (c : List A) (n : partEnd s ≤ length c) where
+  pub stretch-long : length (cut (startOf s) (partEnd s) c) ≡ lengthOf s
+  stretch-long = cut-long (startOf s) (partEnd s) c (part-ordered s, n) ∙ part-long s
 
-  pub stretch-long : length (cut a e c) ≡ lengthOf s
-  stretch-long = cut-long a e c stretch-inside ∙ rw (f, g) (part-long s)
+  pub stretch-same : (ys : List A) → length ys ≡ length (cut (startOf s) (partEnd s) c) → length (backed (startOf s) (partEnd s) ys c) ≡ length c
+  stretch-same = same-long (startOf s) (partEnd s) c (part-ordered s, n)
 
   -- the column with the stretch's new rows in their place
-  pub stretch-within : (ys xs : List A) → length ys ≡ length (cut a e c) → ys ≡ xs → backed a e ys c ≡ within (firstOf s) (lengthOf s) xs c
-  stretch-within ys xs k m = rw (f, g) (part-within s ys c (k ∙ stretch-long)) ∙ ap (λ (x : List A). within (firstOf s) (lengthOf s) x c) m
+  pub stretch-within : (ys xs : List A) → length ys ≡ length (cut (startOf s) (partEnd s) c) → ys ≡ xs → backed (startOf s) (partEnd s) ys c ≡ within (firstOf s) (lengthOf s) xs c
+  stretch-within ys xs k m = part-within s ys c (k ∙ stretch-long) ∙ ap (λ (x : List A). within (firstOf s) (lengthOf s) x c) m

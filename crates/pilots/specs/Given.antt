@@ -2,13 +2,16 @@
 use Prim.Native.Nat.{ℕ}
 use mathlib.Core.Path.{_≡_}
 use mathlib.Core.List.{List}
+use mathlib.Core.Option.{Option, none, some}
 use Rattle.rules.specs.Outcome.{Lent}
-use Rattle.rules.specs.Pool.{poolNumber, stretchOf}
+use Rattle.rules.specs.Pool.{poolNumber, poolRooms, poolBad, stretchOf}
 use Rattle.promises.specs.Pilots.{Pool, Told}
 use Rattle.run.specs.Filled.{Columns}
 use Rattle.calculate.specs.declared.Outcome.{Outcome}
 use Rattle.pool.specs.Pooled.{startOf, partEnd}
 use Rattle.pilots.specs.declared.lending.Lengths.{Lengths}
+use Rattle.pilots.specs.declared.lending.Lending.{Lending}
+use Rattle.pilots.specs.declared.lending.Lending.the-variants as lending
 use Rattle.pilots.specs.declared.lending.Parts.{Parts}
 
 -- every pilot's states and the ten columns
@@ -51,18 +54,25 @@ lengths n =
       sourceFloats = n .«source_values»;
     }
 
--- pilot p's rows begin and end here
-pub record PartsOf (ss : List (List (List ℕ))) (p : ℕ) (at : Parts) : Type 0 where
-  pub collected : at .collected ≡ startOf (stretchOf ss p 1)
-  pub collectedEnd : at .«collected_end» ≡ partEnd (stretchOf ss p 1)
-  pub rows : at .rows ≡ startOf (stretchOf ss p 2)
-  pub rowsEnd : at .«rows_end» ≡ partEnd (stretchOf ss p 2)
-  pub entries : at .entries ≡ startOf (stretchOf ss p 3)
-  pub entriesEnd : at .«entries_end» ≡ partEnd (stretchOf ss p 3)
-  pub plain : at .plain ≡ startOf (stretchOf ss p 4)
-  pub plainEnd : at .«plain_end» ≡ partEnd (stretchOf ss p 4)
-  pub sources : at .sources ≡ startOf (stretchOf ss p 5)
-  pub sourcesEnd : at .«sources_end» ≡ partEnd (stretchOf ss p 5)
+-- pilot p's rows of each list begin and end here; an empty stretch's are lent from 0
+abbrev pub partsAt : List (List (List ℕ)) → ℕ → Parts
+partsAt ss p =
+    record {
+      collected = startOf (stretchOf ss p 1);
+      «collected_end» = partEnd (stretchOf ss p 1);
+      rows = startOf (stretchOf ss p 2);
+      «rows_end» = partEnd (stretchOf ss p 2);
+      entries = startOf (stretchOf ss p 3);
+      «entries_end» = partEnd (stretchOf ss p 3);
+      plain = startOf (stretchOf ss p 4);
+      «plain_end» = partEnd (stretchOf ss p 4);
+      sources = startOf (stretchOf ss p 5);
+      «sources_end» = partEnd (stretchOf ss p 5);
+    }
+
+-- what is lent to pilot p of a pool with columns so long: POOL's place, or where its rows lie
+unfoldable pub lendingOf : List (List (List ℕ)) → ℕ → Lent → Lending
+lendingOf ss p l = elim (poolBad (poolRooms l) ss p) [ some x ↦ lending.Refused x | none ↦ lending.Lent (partsAt ss p) ]
 
 -- "12 POOL", with this place and no rows
 pub record PoolTold (x : ℕ) (r : Outcome) : Type 0 where

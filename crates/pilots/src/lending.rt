@@ -2,13 +2,15 @@
 use calculate::Outcome;
 use columns::PoolRooms;
 use columns::PoolStretches;
+use pool::Pooled;
 use pool::lesser;
 use pool::part_end;
 use pool::part_start;
+use pool::pool;
 ghost use mathlib.Core.Path.{_≡_};
 ghost use Prim.Native.Nat.{_<_};
 ghost use Rattle.rules.specs.Pool.{poolRooms};
-ghost use Rattle.pilots.specs.Given.{lengths, PartsOf, PoolTold};
+ghost use Rattle.pilots.specs.Given.{lengths, partsAt, lendingOf, PoolTold};
 
 // How long the pool's columns are.
 pub struct Lengths {
@@ -38,8 +40,14 @@ pub struct Parts {
     pub sources_end: usize,
 }
 
+// What is lent to a pilot's call: POOL's place, or its parts.
+pub enum Lending {
+    Refused(u32),
+    Lent(Parts),
+}
+
 // A list's room in the pool is its shortest column.
-pub fn rooms_of(n: Lengths) -> PoolRooms
+fn rooms_of(n: Lengths) -> PoolRooms
     ensures defined { λ r. ⌜ r ≡ poolRooms (lengths n) ⌝ }
 {
     [
@@ -52,9 +60,9 @@ pub fn rooms_of(n: Lengths) -> PoolRooms
 }
 
 // Where a pilot's rows lie; an empty stretch is lent from 0.
-pub fn parts_of(stretches: &PoolStretches, p: usize) -> Parts
+fn parts_of(stretches: &PoolStretches, p: usize) -> Parts
     requires a_pilot { ⌜ p < 16 ⌝ }
-    ensures defined { λ r. ⌜ PartsOf (now (stretches .entry)) p r ⌝ }
+    ensures defined { λ r. ⌜ r ≡ partsAt (now (stretches .entry)) p ⌝ }
 {
     Parts {
         collected: part_start(stretches, p, 0),
@@ -67,6 +75,21 @@ pub fn parts_of(stretches: &PoolStretches, p: usize) -> Parts
         plain_end: part_end(stretches, p, 3),
         sources: part_start(stretches, p, 4),
         sources_end: part_end(stretches, p, 4),
+    }
+}
+
+// POOL with its place, or where the pilot's rows lie.
+pub fn lend(stretches: &PoolStretches, n: Lengths, pilot: u32) -> Lending
+    ensures defined { λ r. ⌜ r ≡ lendingOf (now (stretches .entry)) pilot (lengths n) ⌝ }
+{
+    let rooms = rooms_of(n);
+    let lent = pool(stretches, &rooms, pilot);
+    match lent {
+        Pooled::Refused(place) => Lending::Refused(place),
+        Pooled::Lent => {
+            let parts = parts_of(stretches, pilot as usize);
+            Lending::Lent(parts)
+        }
     }
 }
 

@@ -11,12 +11,10 @@ use columns::SourceFloats;
 use columns::SourceRow;
 use files::files_shape;
 use files::pairs_in;
+use lending::Lending;
 use lending::Lengths;
-use lending::parts_of;
+use lending::lend;
 use lending::pool_answer;
-use lending::rooms_of;
-use pool::Pooled;
-use pool::pool;
 ghost use Rattle.promises.specs.Pilots.{PilotMeets};
 ghost use Rattle.run.specs.Filled.{lentColumns};
 ghost use Rattle.pilots.specs.Given.{poolOf, toldOf};
@@ -58,13 +56,11 @@ pub extern "C" fn dogma_calculate_pilot(
         sources: sources.len(),
         source_values: source_values.len(),
     };
-    let rooms = rooms_of(lengths);
-    let lent = pool(stretches, &rooms, pilot);
+    let lent = lend(stretches, lengths, pilot);
     match lent {
-        Pooled::Refused(place) => pool_answer(place),
-        Pooled::Lent => {
+        Lending::Refused(place) => pool_answer(place),
+        Lending::Lent(at) => {
             let p = pilot as usize;
-            let at = parts_of(stretches, p);
             let a1 = at.collected;
             let e1 = at.collected_end;
             let a2 = at.rows;
