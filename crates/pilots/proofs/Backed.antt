@@ -1,10 +1,15 @@
 -- Parts of columns that are lent and come back: their lengths, and the columns' as they were.
-use Prim.Native.Nat.{ℕ, _+_, _-_, _≤_}
+use Prim.Native.Nat.{ℕ, _+_, _-_, _*_, _^_, _≤_, _<_}
+use native.Mathlib.Nat.{le-trans, lt-trans, mul-le-mul-right}
 use native.Mathlib.Omega.{arith}
 use mathlib.Core.Path.{_≡_, ap, _∙_}
 use mathlib.Core.List.{List, _++_}
+use lib.Dec.{lit<}
 use lib.ListN.{length, take, drop, length-drop, length-append}
 use lib.Seq.{length-take-le}
+use mir.Syntax.{w64}
+use mir.Val.{Fits}
+use mir.Facts.{fits-le}
 use Rattle.laws.specs.Columns.{within}
 use Rattle.rules.specs.Pool.{firstOf, lengthOf}
 use Rattle.pool.specs.Pooled.{startOf, partEnd}
@@ -31,6 +36,10 @@ module _ {A : Type 0} (a e : ℕ) (c : List A) (h : (a ≤ e) × (e ≤ length c
       let w = length-drop (e - a) (drop a c) in
       let x = length-drop a c in
       let y = cut-long in omega (arith, t, u, v, w, x, y, k, h .0, h .1)
+
+-- where a part begins in bytes: a slice of n elements, k bytes each, takes fewer than 2^63
+pub begins-in : (a e n k : ℕ) → (a ≤ e) × (e ≤ n) → n * k < 2 ^ 63 → Fits w64 (a * k)
+begins-in a e n k h q = fits-le (mul-le-mul-right k (le-trans (h .0) (h .1))) (record { fits = lt-trans q (lit< tt) })
 
 -- where a stretch is lent
 module _ {A : Type 0} (s : List ℕ) (c : List A) (n : partEnd s ≤ length c) where

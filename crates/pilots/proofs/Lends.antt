@@ -46,7 +46,7 @@ module _ (ss : List (List (List ℕ))) (p : ℕ) (l : Lent) {rooms : List ℕ} (
 -- ---- what follows from it
 
 -- every part lies in its column
-pub record Fits (at : Parts) (l : Lent) : Type 0 where
+pub record Inside (at : Parts) (l : Lent) : Type 0 where
   pub collected : (at .collected ≤ at .«collected_end») × (at .«collected_end» ≤ l .collected)
   pub collectedValues : (at .collected ≤ at .«collected_end») × (at .«collected_end» ≤ l .collectedValues)
   pub rows : (at .rows ≤ at .«rows_end») × (at .«rows_end» ≤ l .rows)
@@ -58,7 +58,7 @@ pub record Fits (at : Parts) (l : Lent) : Type 0 where
   pub sources : (at .sources ≤ at .«sources_end») × (at .«sources_end» ≤ l .sources)
   pub sourceFloats : (at .sources ≤ at .«sources_end») × (at .«sources_end» ≤ l .sourceFloats)
 
-pub fits : (ss : List (List (List ℕ))) (p : ℕ) (l : Lent) → poolBad (poolRooms l) ss p ≡ none → Fits (partsAt ss p) l
+pub fits : (ss : List (List (List ℕ))) (p : ℕ) (l : Lent) → poolBad (poolRooms l) ss p ≡ none → Inside (partsAt ss p) l
 fits ss p l free =
     let a = part-ordered (stretchOf ss p 1) in
     let b = part-ordered (stretchOf ss p 2) in
@@ -120,5 +120,5 @@ module _ (ss : List (List (List ℕ))) (p : ℕ) (l : Lent) {v : Lending} (h : v
     pub seated : p < 16
     seated = is-pilot (poolRooms l) ss p free
 
-    pub room : Fits at l
-    room = subst (λ (a : Parts). Fits a l) (sym lies-at) (fits ss p l free)
+    pub room : Inside at l
+    room = subst (λ (a : Parts). Inside a l) (sym lies-at) (fits ss p l free)

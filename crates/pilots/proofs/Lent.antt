@@ -27,7 +27,7 @@ use Rattle.pilots.specs.declared.lending.Parts.{Parts}
 use Rattle.pilots.specs.declared.lending.Lending.{Lending}
 use Rattle.pilots.specs.declared.lending.Lending.the-variants as lending
 use Rattle.pilots.proofs.Backed.{cut, backed, stretch-long, stretch-same, stretch-within}
-use Rattle.pilots.proofs.Lends.{Fits, fits, refused-at, free, lies-at}
+use Rattle.pilots.proofs.Lends.{Inside, fits, refused-at, free, lies-at}
 
 -- ---- what is decided on two files is their outcome
 
@@ -116,7 +116,7 @@ lent-same p q r s t u v w x y = rw (p, q, r, s, t, u, v, w, x, y) refl
 
 -- pilot p's, where POOL is not given
 module _ (ss : List (List (List ℕ))) (p : ℕ) (c : Columns) (none-bad : poolBad (poolRooms (lentOf c)) ss p ≡ none) where
-  inside : Fits (partsAt ss p) (lentOf c)
+  inside : Inside (partsAt ss p) (lentOf c)
   inside = fits ss p (lentOf c) none-bad
 
   -- the parts are as long as the pilot's stretches
