@@ -223,7 +223,10 @@ def main():
     account += ["", "Down to divided-by-0 they are the sheets of `crates/rules/proofs/Marked.antt`, and the four slips those of `crates/rules/proofs/Slips.antt`, byte for byte: "
                 "what they print is proved there of the definition. Of L, loop-walked and those named numbers-.. `crates/rules/proofs/Numbers.antt` proves which collection numbers their entries have; of those named grey-.. `crates/rules/proofs/Grey.antt` proves what their source rows show, which the text has not: kept.bin has them; of those named touched-.. `crates/touched/proofs/Examples.antt` proves whom each effect names and which entries there are. docs/FORMAT.md explains case L byte by byte, and why each of the refused is.",
                 "`kept.bin` has sheets with the oracle's answers, every list of them; [KEPT.md](KEPT.md) names each and says how it is read.",
-                "`make_damaged.py` makes the sheets of crates/shape_test; `make_texts.py` hands every sheet here, and its text, to crates/cases_test."]
+                "`make_damaged.py` makes the sheets of crates/shape_test; `make_texts.py` hands every sheet here, and its text, to crates/cases_test.",
+                "`split.py` cuts a sheet into a book and a fit and joins them again (`--check`: every sheet here comes back). `marked_pools.py` makes the .book and .fit files, "
+                "`pools.txt`, the marked examples of several pilots over one book with their answers, and `pilots.txt`, what the examples in C and Rust print; "
+                "docs/FORMAT.md, section 11, tells of each file."]
     (HERE / "README.md").write_text("\n".join(account) + "\n")
     print(len(CASES), "cases")
 

@@ -1,13 +1,14 @@
-/* dogma.h: the engine's entry for C (C11; C++ for the declarations alone).
+/* dogma.h: the engine's entries for C (C11; C++ for the declarations alone).
  *
- * The library is target/staticlib/libcalculate.a, made by `rt staticlib calculate`, for x86-64 Linux.
- * `library/build` makes the one for the machine at hand and prints its path.
+ * `library/build` makes the library, one archive with every function of this header, for the machine at hand, and prints its path.
  *
  * dogma_calculate takes a sheet's bytes and lent lists, and gives a number, a place and five counts; the lists hold the rest.
- * It allocates nothing, keeps nothing between calls, and may be called from several threads with lists of their own.
+ * dogma_calculate_pilot does the same for up to 16 fits over one book of records, in one lent pool: see "several pilots" below.
+ * The engine allocates nothing, keeps nothing between calls, and may be called from several threads with lists of their own.
  * Any bytes are taken: a damaged sheet is refused with a number and a place. What is demanded of the caller, since the
  * engine cannot test it, stands at DOGMA_DEMANDS below; dogma_calculate_checked tests it, and DOGMA_LEND counts arrays
- * itself, so that a wrong length does not compile. Use these two unless there is a reason not to.
+ * itself, so that a wrong length does not compile. Use these two (for pilots dogma_calculate_pilot_checked and DOGMA_LEND_POOL)
+ * unless there is a reason not to.
  *
  * What a sheet's bytes are, and what every code and number means, is in docs/FORMAT.md.
  */
@@ -37,7 +38,7 @@ struct dogma_answer {
 /* numbers, and beside each what its place is */
 enum dogma_number {
     DOGMA_DONE = 0,      /* 0 */
-    DOGMA_SHAPE = 1,     /* the first bad table, 1 to 10; 0 for the header */
+    DOGMA_SHAPE = 1,     /* the first bad table, 1 to 10; 0 for the header; of a pilot's fit 20 more */
     DOGMA_FUNC = 2,      /* a record of table 3, from 0 */
     DOGMA_DOMAIN = 3,    /* a record of table 3 */
     DOGMA_CATEGORY = 4,  /* a record of table 2 */
@@ -46,7 +47,8 @@ enum dogma_number {
     DOGMA_ROOM = 7,      /* the list that is full, one of enum dogma_list */
     DOGMA_NUMBER = 8,    /* the object whose attribute was calculated */
     DOGMA_DEPTH = 9,     /* the object whose attribute was to be calculated */
-    DOGMA_MISUSED = 256  /* not the engine's: dogma_calculate_checked found a demand broken; one of enum dogma_argument */
+    DOGMA_POOL = 12,     /* a pilot: the one asked for, which has no stretch, or the first whose stretch is astray */
+    DOGMA_MISUSED = 256  /* not the engine's: a checked form found a demand broken; enum dogma_argument, dogma_pilot_argument */
 };
 
 /* the lists, as ROOM's place has them */
@@ -57,6 +59,7 @@ enum dogma_list {
     DOGMA_LIST_PLAIN = 4,
     DOGMA_LIST_SOURCES = 5
 };
+#define DOGMA_LISTS 5
 
 /* ---- the columns
  *
@@ -194,7 +197,48 @@ struct dogma_answer dogma_calculate(
     dogma_source_value *source_values, size_t source_value_count,
     const uint8_t *sheet, size_t sheet_length);
 
-/* ---- the entry with its demands tested */
+/* ---- several pilots over one book
+ *
+ * A sheet cut in two: the book has the game's records (tables 1 to 5 and the three category numbers), a fit is one pilot's ship
+ * (tables 6 to 10, depth, recording); docs/FORMAT.md has both headers, cases/split.py cuts a sheet. One book serves every fit.
+ *
+ * The ten columns are now a pool for all pilots. Pilots go by a number, 0 to 15, and each has a stretch of every list: the first
+ * row, and how many. It is that pilot's room: a stretch that is too short is DOGMA_ROOM, with the list. Pilot p's states are
+ * states[p]. A pilot's result begins at its stretch's first row; firsts inside the lists (in list 3 and 5) count from there too:
+ *     rows[stretches[p][DOGMA_LIST_ROWS - 1][DOGMA_STRETCH_FIRST] + i]        is row i of pilot p
+ * A stretch of length 0 has no row, and its first is not read; so pilots that are not in have all zeros.
+ *
+ * A call writes the asked pilot's stretches and states, every element of them, and nothing else in the pool. Its answer hangs on
+ * the book, the fit and the five lengths alone: not on where the stretches lie, and not on the other pilots.
+ * Before anything is written the table of stretches is tested: DOGMA_POOL where the number asked for is above 15 or has no row in
+ * any list (place: that number), or where a stretch of any pilot leaves the pool, or has a row in common with a lower pilot's
+ * stretch of the same list (place: the first such pilot). Then nothing is written at all. Any other refusal leaves zeros in the
+ * pilot's stretches and states. The pool's room of a list is its shortest column.
+ */
+#define DOGMA_PILOTS 16
+typedef uint32_t dogma_stretch_of_list[2];
+enum dogma_stretch_field { DOGMA_STRETCH_FIRST = 0, DOGMA_STRETCH_LENGTH = 1 };
+
+/* DOGMA_DEMANDS hold here as well, but that states points to DOGMA_PILOTS times DOGMA_OBJECTS pairs, stretches to DOGMA_PILOTS
+ * times DOGMA_LISTS stretches, and that book, fit and stretches, which are only read, may overlap each other. */
+struct dogma_answer dogma_calculate_pilot(
+    dogma_state (*states)[DOGMA_OBJECTS],
+    dogma_collected *collected, size_t collected_count,
+    double *collected_values, size_t collected_value_count,
+    dogma_row *rows, size_t row_count,
+    double *bases, size_t base_count,
+    double *values, size_t value_count,
+    dogma_entry *entries, size_t entry_count,
+    double *entry_values, size_t entry_value_count,
+    dogma_plain *plain, size_t plain_count,
+    dogma_source *sources, size_t source_count,
+    dogma_source_value *source_values, size_t source_value_count,
+    const dogma_stretch_of_list (*stretches)[DOGMA_LISTS],
+    const uint8_t *book, size_t book_length,
+    const uint8_t *fit, size_t fit_length,
+    uint32_t pilot);
+
+/* ---- the entries with their demands tested */
 
 /* the arguments, as MISUSED's place has them */
 enum dogma_argument {
@@ -204,9 +248,14 @@ enum dogma_argument {
     DOGMA_ARGUMENTS = 12
 };
 
+/* those of dogma_calculate_pilot: the first eleven are the same */
+enum dogma_pilot_argument {
+    DOGMA_ARGUMENT_STRETCHES = 11, DOGMA_ARGUMENT_BOOK = 12, DOGMA_ARGUMENT_FIT = 13, DOGMA_PILOT_ARGUMENTS = 14
+};
+
 /* everything that is lent, each column with the number of its elements */
 struct dogma_lent {
-    dogma_state *states; size_t state_count; /* DOGMA_OBJECTS, nothing else */
+    dogma_state *states; size_t state_count; /* DOGMA_OBJECTS, nothing else; in a pool DOGMA_PILOTS times as many */
     dogma_collected *collected; size_t collected_count;
     double *collected_values; size_t collected_value_count;
     dogma_row *rows; size_t row_count;
@@ -217,6 +266,12 @@ struct dogma_lent {
     dogma_plain *plain; size_t plain_count;
     dogma_source *sources; size_t source_count;
     dogma_source_value *source_values; size_t source_value_count;
+};
+
+/* a pool: columns and states of all pilots, and the table of their stretches */
+struct dogma_pool {
+    struct dogma_lent lent;
+    const dogma_stretch_of_list (*stretches)[DOGMA_LISTS]; size_t stretch_count; /* of pilots: DOGMA_PILOTS, nothing else */
 };
 
 /* one argument as bytes, for the tests */
@@ -234,10 +289,12 @@ static inline int dogma_apart_(struct dogma_part_ a, struct dogma_part_ b)
     return a.count == 0 || b.count == 0 || a.at + a.count * a.width <= b.at || b.at + b.count * b.width <= a.at;
 }
 
-/* The first argument that breaks a demand, or DOGMA_ARGUMENTS. That memory is there behind a pointer cannot be tested. */
-static inline unsigned dogma_misused(const struct dogma_lent *lent, const uint8_t *sheet, size_t sheet_length)
+/* The first argument that breaks a demand, or how many there are: eleven that are written, then those that are only read. */
+static inline unsigned dogma_misused_(
+    const struct dogma_lent *lent, size_t state_count, const struct dogma_part_ *read, unsigned read_count)
 {
-    const struct dogma_part_ parts[DOGMA_ARGUMENTS] = {
+    enum { WRITTEN = DOGMA_ARGUMENT_SHEET };
+    const struct dogma_part_ parts[WRITTEN] = {
         { (uintptr_t)lent->states, lent->state_count, sizeof(dogma_state), 4 },
         { (uintptr_t)lent->collected, lent->collected_count, sizeof(dogma_collected), 4 },
         { (uintptr_t)lent->collected_values, lent->collected_value_count, 8, 8 },
@@ -249,18 +306,25 @@ static inline unsigned dogma_misused(const struct dogma_lent *lent, const uint8_
         { (uintptr_t)lent->plain, lent->plain_count, sizeof(dogma_plain), 4 },
         { (uintptr_t)lent->sources, lent->source_count, sizeof(dogma_source), 4 },
         { (uintptr_t)lent->source_values, lent->source_value_count, 16, 8 },
-        { (uintptr_t)sheet, sheet_length, 1, 1 },
     };
-    if (lent->state_count != DOGMA_OBJECTS)
+    if (lent->state_count != state_count)
         return DOGMA_ARGUMENT_STATES;
-    for (unsigned i = 0; i < DOGMA_ARGUMENTS; i++) {
-        if (!dogma_sound_(parts[i]))
+    for (unsigned i = 0; i < WRITTEN + read_count; i++) {
+        const struct dogma_part_ part = i < WRITTEN ? parts[i] : read[i - WRITTEN];
+        if (!dogma_sound_(part))
             return i;
-        for (unsigned k = 0; k < i; k++)
-            if (!dogma_apart_(parts[k], parts[i]))
+        for (unsigned k = 0; k < i && k < WRITTEN; k++)
+            if (!dogma_apart_(parts[k], part))
                 return i;
     }
-    return DOGMA_ARGUMENTS;
+    return WRITTEN + read_count;
+}
+
+/* The first argument that breaks a demand, or DOGMA_ARGUMENTS. That memory is there behind a pointer cannot be tested. */
+static inline unsigned dogma_misused(const struct dogma_lent *lent, const uint8_t *sheet, size_t sheet_length)
+{
+    const struct dogma_part_ read[] = { { (uintptr_t)sheet, sheet_length, 1, 1 } };
+    return dogma_misused_(lent, DOGMA_OBJECTS, read, 1);
 }
 
 /* dogma_calculate, or DOGMA_MISUSED with the argument that breaks a demand; then nothing was written. */
@@ -278,6 +342,39 @@ static inline struct dogma_answer dogma_calculate_checked(const struct dogma_len
         lent->sources, lent->source_count, lent->source_values, lent->source_value_count, sheet, sheet_length);
 }
 
+/* The same of dogma_calculate_pilot: the first argument that breaks a demand, or DOGMA_PILOT_ARGUMENTS. */
+static inline unsigned dogma_pool_misused(
+    const struct dogma_pool *pool, const uint8_t *book, size_t book_length, const uint8_t *fit, size_t fit_length)
+{
+    const struct dogma_part_ read[] = {
+        { (uintptr_t)pool->stretches, pool->stretch_count, sizeof(dogma_stretch_of_list[DOGMA_LISTS]), 4 },
+        { (uintptr_t)book, book_length, 1, 1 },
+        { (uintptr_t)fit, fit_length, 1, 1 },
+    };
+    const unsigned misused = dogma_misused_(&pool->lent, (size_t)DOGMA_PILOTS * DOGMA_OBJECTS, read, 3);
+    if (misused > DOGMA_ARGUMENT_STRETCHES && pool->stretch_count != DOGMA_PILOTS)
+        return DOGMA_ARGUMENT_STRETCHES;
+    return misused;
+}
+
+/* dogma_calculate_pilot, or DOGMA_MISUSED with the argument (enum dogma_pilot_argument) that breaks a demand; then nothing was written. */
+static inline struct dogma_answer dogma_calculate_pilot_checked(
+    const struct dogma_pool *pool, const uint8_t *book, size_t book_length, const uint8_t *fit, size_t fit_length, uint32_t pilot)
+{
+    const struct dogma_lent *lent = &pool->lent;
+    const unsigned misused = dogma_pool_misused(pool, book, book_length, fit, fit_length);
+    if (misused != DOGMA_PILOT_ARGUMENTS) {
+        const struct dogma_answer answer = { DOGMA_MISUSED, misused, 0, 0, 0, 0, 0 };
+        return answer;
+    }
+    return dogma_calculate_pilot(
+        (dogma_state (*)[DOGMA_OBJECTS])lent->states, lent->collected, lent->collected_count,
+        lent->collected_values, lent->collected_value_count, lent->rows, lent->row_count, lent->bases, lent->base_count,
+        lent->values, lent->value_count, lent->entries, lent->entry_count, lent->entry_values, lent->entry_value_count,
+        lent->plain, lent->plain_count, lent->sources, lent->source_count, lent->source_values, lent->source_value_count,
+        pool->stretches, book, book_length, fit, fit_length, pilot);
+}
+
 #ifdef __cplusplus
 }
 #else
@@ -293,12 +390,32 @@ _Static_assert(sizeof(struct dogma_answer) == 56, "seven numbers of 64 bits");
  *     struct dogma_answer answer = dogma_calculate_checked(DOGMA_LEND(states, collected, ..), sheet, length);
  */
 #define DOGMA_LEND(states, collected, collected_values, rows, bases, values, entries, entry_values, plain, sources, source_values) \
-    (&(const struct dogma_lent) { \
+    (&(const struct dogma_lent) DOGMA_LENT_( \
         _Generic(&(states), dogma_state (*)[DOGMA_OBJECTS]: (states)), DOGMA_OBJECTS, \
+        collected, collected_values, rows, bases, values, entries, entry_values, plain, sources, source_values))
+
+/* Lends a pool of twelve arrays: states must be dogma_state[DOGMA_PILOTS][DOGMA_OBJECTS], stretches
+ * dogma_stretch_of_list[DOGMA_PILOTS][DOGMA_LISTS], the others as above:
+ *     answer = dogma_calculate_pilot_checked(DOGMA_LEND_POOL(states, collected, .., stretches), book, book_length, fit, fit_length, pilot);
+ */
+#define DOGMA_LEND_POOL( \
+    states, collected, collected_values, rows, bases, values, entries, entry_values, plain, sources, source_values, stretches) \
+    (&(const struct dogma_pool) { \
+        DOGMA_LENT_( \
+            _Generic(&(states), dogma_state (*)[DOGMA_PILOTS][DOGMA_OBJECTS]: &(states)[0][0]), (size_t)DOGMA_PILOTS * DOGMA_OBJECTS, \
+            collected, collected_values, rows, bases, values, entries, entry_values, plain, sources, source_values), \
+        _Generic(&(stretches), \
+            dogma_stretch_of_list (*)[DOGMA_PILOTS][DOGMA_LISTS]: (const dogma_stretch_of_list (*)[DOGMA_LISTS])(stretches), \
+            const dogma_stretch_of_list (*)[DOGMA_PILOTS][DOGMA_LISTS]: (stretches)), DOGMA_PILOTS })
+
+/* the ten columns behind states and their number */
+#define DOGMA_LENT_( \
+    states, state_count, collected, collected_values, rows, bases, values, entries, entry_values, plain, sources, source_values) \
+    { states, state_count, \
         DOGMA_ARRAY_(collected, dogma_collected), DOGMA_ARRAY_(collected_values, double), \
         DOGMA_ARRAY_(rows, dogma_row), DOGMA_ARRAY_(bases, double), DOGMA_ARRAY_(values, double), \
         DOGMA_ARRAY_(entries, dogma_entry), DOGMA_ARRAY_(entry_values, double), DOGMA_ARRAY_(plain, dogma_plain), \
-        DOGMA_ARRAY_(sources, dogma_source), DOGMA_ARRAY_(source_values, dogma_source_value) })
+        DOGMA_ARRAY_(sources, dogma_source), DOGMA_ARRAY_(source_values, dogma_source_value) }
 
 #endif
 #endif

@@ -43,8 +43,8 @@ COLUMNS_OF = [columns for _, columns in sampled.LISTS]
 
 # ---- the parts
 
-def build(emulated):
-    """The driver, linked with the library, and the words that run it."""
+def build(emulated, source="engine.c"):
+    """A driver of this folder, linked with the library, and the words that run it."""
     PLACE.mkdir(parents=True, exist_ok=True)
     words = [str(ROOT / "library" / "build")] + (["--shipped"] if emulated else [])
     made = subprocess.run(words, cwd=ROOT, stdout=subprocess.PIPE, text=True)
@@ -53,11 +53,11 @@ def build(emulated):
     library = made.stdout.strip()
     # named by the library, so that two comparisons at once do not mix
     digest = hashlib.sha256((ROOT / library).read_bytes()).hexdigest()[:12]
-    driver = PLACE / f"engine{'-x86-64' if emulated else ''}-{digest}"
+    driver = PLACE / f"{source[:-2]}{'-x86-64' if emulated else ''}-{digest}"
     if emulated:
-        subprocess.run([ROOT / "library" / "emulated", "build", driver, HERE / "engine.c", library], cwd=ROOT, check=True)
+        subprocess.run([ROOT / "library" / "emulated", "build", driver, HERE / source, library], cwd=ROOT, check=True)
         return [str(ROOT / "library" / "emulated"), "run", str(driver)]
-    command = ["cc", "-std=c11", "-O2", "-Iinclude", str(HERE / "engine.c"), library, "-o", str(driver)]
+    command = ["cc", "-std=c11", "-O2", "-Iinclude", str(HERE / source), library, "-o", str(driver)]
     subprocess.run(command, cwd=ROOT, check=True)
     return [str(driver)]
 

@@ -92,8 +92,9 @@ def object_good(record, bases, ids):
     return codes and ranges and (slot == 0 or kind == ITEM)
 
 
-def bad_table(tables):
-    attributes, effects, modifiers, types, collections, objects, bases, ids, buffs, asks = tables
+def bad_book(tables):
+    """The first bad one of tables 1 to 5, or none."""
+    attributes, effects, modifiers, types, collections = tables
     if not (ascending([r[0] for r in attributes]) and all(r[1] <= 3 and math.isfinite(r[2]) for r in attributes)):
         return 1
     if not (ascending([r[0] for r in effects]) and all(r[4] + r[5] <= len(modifiers) for r in effects)):
@@ -102,6 +103,12 @@ def bad_table(tables):
         return 4
     if not (ascending([r[0] for r in collections]) and all(r[2] + r[3] <= len(modifiers) for r in collections)):
         return 5
+    return None
+
+
+def bad_fit(tables):
+    """The first bad one of tables 6 to 10, or none."""
+    objects, bases, ids, buffs, asks = tables
     if not (all(object_good(r, len(bases), len(ids)) for r in objects) and objects_stand([r[0] for r in objects])):
         return 6
     in_order = all(ascending([b[0] for b in bases[r[11]:r[11] + r[12]]]) for r in objects)
@@ -112,6 +119,11 @@ def bad_table(tables):
     if any(r[0] >= len(objects) for r in asks):
         return 10
     return None
+
+
+def bad_table(tables):
+    bad = bad_book(tables[:5])
+    return bad_fit(tables[5:]) if bad is None else bad
 
 
 class Thing:
@@ -160,8 +172,11 @@ class Run:
         bad = bad_table(tables)
         if bad is not None:
             raise Refusal(SHAPE, bad)
-        m, s, sm, self.depth, recording = struct.unpack_from("<iiiII", self.data, 80)
-        self.module_categories = (m, s, sm)
+        self.take(tables, *struct.unpack_from("<iiiII", self.data, 80))
+
+    def take(self, tables, m, s, sm, depth, recording):
+        """The ten tables, which are good, and the five numbers of the header."""
+        self.module_categories, self.depth = (m, s, sm), depth
         self.recording = recording == 1
         self.attributes = {r[0]: r for r in tables[0]}
         self.effects = {r[0]: (k, r) for k, r in enumerate(tables[1])}
@@ -658,7 +673,10 @@ AMPLE = (10 ** 9,) * 5
 
 def answer(data, rooms=AMPLE):
     """Rooms in the order of the lists: collected, rows, entries, plain, sources."""
-    run = Run(bytes(data), rooms)
+    return answered(Run(bytes(data), rooms))
+
+
+def answered(run):
     try:
         run.read()
         run.copy_bases()

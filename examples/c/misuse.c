@@ -1,4 +1,4 @@
-/* Wrong lengths and pointers: each is found. With WRONG defined it must not compile: a pointer is no array. */
+/* Wrong lengths and pointers: each is found. With WRONG 1 or 2 it must not compile: a pointer is no array, one pilot's states no pool's. */
 #include <stdio.h>
 
 #include "dogma.h"
@@ -12,6 +12,8 @@ static dogma_plain plain[1];
 static dogma_source sources[6];
 static dogma_source_value source_values[6];
 static const uint8_t sheet[100];
+static dogma_state pool_states[DOGMA_PILOTS][DOGMA_OBJECTS];
+static dogma_stretch_of_list stretches[DOGMA_PILOTS][DOGMA_LISTS];
 
 static int wrong;
 
@@ -23,9 +25,38 @@ static void expect(const char *what, struct dogma_answer answer, uint64_t number
     }
 }
 
+/* The same of a pool: three bytes are neither book nor fit, and pilot 0 has a stretch of one row. */
+static void expect_pools(void)
+{
+#if WRONG == 2
+    (void)DOGMA_LEND_POOL(states, collected, collected_values, rows, bases, values, entries, entry_values, plain, sources, source_values, stretches);
+#endif
+    stretches[0][DOGMA_LIST_PLAIN - 1][DOGMA_STRETCH_LENGTH] = 1;
+    const struct dogma_pool right = *DOGMA_LEND_POOL(
+        pool_states, collected, collected_values, rows, bases, values, entries, entry_values, plain, sources, source_values, stretches);
+    struct dogma_pool pool = right;
+    expect("a pool", dogma_calculate_pilot_checked(&pool, sheet, 3, sheet, 3, 0), DOGMA_SHAPE, 0);
+    expect("no stretch", dogma_calculate_pilot_checked(&pool, sheet, 3, sheet, 3, 1), DOGMA_POOL, 1);
+    expect("a pilot above 15", dogma_calculate_pilot_checked(&pool, sheet, 3, sheet, 3, 16), DOGMA_POOL, 16);
+    expect("a null book", dogma_calculate_pilot_checked(&pool, NULL, 0, sheet, 3, 0), DOGMA_MISUSED, DOGMA_ARGUMENT_BOOK);
+    expect("a null fit", dogma_calculate_pilot_checked(&pool, sheet, 3, NULL, 0, 0), DOGMA_MISUSED, DOGMA_ARGUMENT_FIT);
+    expect("a fit that is written", dogma_calculate_pilot_checked(&pool, sheet, 3, (const uint8_t *)plain, 3, 0), DOGMA_MISUSED, DOGMA_ARGUMENT_FIT);
+    pool.lent.state_count = DOGMA_OBJECTS;
+    expect("states of one pilot", dogma_calculate_pilot_checked(&pool, sheet, 3, sheet, 3, 0), DOGMA_MISUSED, DOGMA_ARGUMENT_STATES);
+    pool = right;
+    pool.stretch_count = 1;
+    expect("stretches of one pilot", dogma_calculate_pilot_checked(&pool, sheet, 3, sheet, 3, 0), DOGMA_MISUSED, DOGMA_ARGUMENT_STRETCHES);
+    pool = right;
+    pool.stretches = NULL;
+    expect("null stretches", dogma_calculate_pilot_checked(&pool, sheet, 3, sheet, 3, 0), DOGMA_MISUSED, DOGMA_ARGUMENT_STRETCHES);
+    pool = right;
+    pool.lent.values = bases + 1;
+    expect("columns that overlap", dogma_calculate_pilot_checked(&pool, sheet, 3, sheet, 3, 0), DOGMA_MISUSED, DOGMA_ARGUMENT_VALUES);
+}
+
 int main(void)
 {
-#ifdef WRONG
+#if WRONG == 1
     dogma_row *pointer = rows;
     (void)DOGMA_LEND(states, collected, collected_values, pointer, bases, values, entries, entry_values, plain, sources, source_values);
 #endif
@@ -51,6 +82,7 @@ int main(void)
     lent.bases = (double *)(void *)((char *)bases + 4);
     lent.base_count = 2;
     expect("a list out of line", dogma_calculate_checked(&lent, sheet, 3), DOGMA_MISUSED, DOGMA_ARGUMENT_BASES);
+    expect_pools();
     puts(wrong ? "misuse: some were not found" : "misuse: every one is found");
     return wrong;
 }

@@ -7,17 +7,33 @@
 //!     Err(refusal) => println!("{refusal:?}"),
 //! }
 //! ```
+//! Several pilots over one book, each with its own stretch of one pool:
+//!
+//! ```ignore
+//! let mut pool = Pool::new(&[(0, Rooms::all(256)), (3, Rooms::all(512))]);
+//! match pool.calculate(3, &book, &fit) {
+//!     Ok(fit) => fit.rows().for_each(|row| println!("{} {} {}", row.object, row.attribute, row.value)),
+//!     Err(refusal) => println!("{refusal}"),
+//! }
+//! ```
 //! The library to link is the one whose path `library/build` prints.
 #![allow(dead_code)]
 
+use std::fmt;
 use std::ops::Range;
 
 pub const OBJECTS: usize = 1024;
+pub const PILOTS: usize = 16;
+pub const LISTS: usize = 5;
 
 type States = [[u32; 2]; OBJECTS];
+type SourceRow = [u32; 11];
+/// Of each pilot and each list the first row and the length.
+pub type Stretches = [[[u32; 2]; LISTS]; PILOTS];
 
 // Seven numbers, as include/dogma.h has them.
 #[repr(C)]
+#[derive(Copy, Clone)]
 struct Answer {
     number: u64,
     place: u64,
@@ -26,6 +42,12 @@ struct Answer {
     entries: u64,
     plain: u64,
     sources: u64,
+}
+
+impl Answer {
+    fn counts(&self) -> [usize; LISTS] {
+        [self.collected, self.rows, self.entries, self.plain, self.sources].map(|count| count as usize)
+    }
 }
 
 unsafe extern "C" {
@@ -47,12 +69,42 @@ unsafe extern "C" {
         entry_value_count: usize,
         plain: *mut [u32; 2],
         plain_count: usize,
-        sources: *mut [u32; 11],
+        sources: *mut SourceRow,
         source_count: usize,
         source_values: *mut [f64; 2],
         source_value_count: usize,
         sheet: *const u8,
         sheet_length: usize,
+    ) -> Answer;
+
+    fn dogma_calculate_pilot(
+        states: *mut States,
+        collected: *mut [u32; 14],
+        collected_count: usize,
+        collected_values: *mut f64,
+        collected_value_count: usize,
+        rows: *mut [u32; 6],
+        row_count: usize,
+        bases: *mut f64,
+        base_count: usize,
+        values: *mut f64,
+        value_count: usize,
+        entries: *mut [u32; 12],
+        entry_count: usize,
+        entry_values: *mut f64,
+        entry_value_count: usize,
+        plain: *mut [u32; 2],
+        plain_count: usize,
+        sources: *mut SourceRow,
+        source_count: usize,
+        source_values: *mut [f64; 2],
+        source_value_count: usize,
+        stretches: *const Stretches,
+        book: *const u8,
+        book_length: usize,
+        fit: *const u8,
+        fit_length: usize,
+        pilot: u32,
     ) -> Answer;
 }
 
@@ -242,11 +294,19 @@ impl Rooms {
     pub fn all(room: usize) -> Rooms {
         Rooms { collected: room, rows: room, entries: room, plain: room, sources: room }
     }
+
+    fn by_list(self) -> [usize; LISTS] {
+        [self.collected, self.rows, self.entries, self.plain, self.sources]
+    }
 }
 
 /// The lists, used again from sheet to sheet.
 pub struct Engine {
     states: Box<States>,
+    columns: Columns,
+}
+
+struct Columns {
     collected: Vec<[u32; 14]>,
     collected_values: Vec<f64>,
     rows: Vec<[u32; 6]>,
@@ -255,14 +315,13 @@ pub struct Engine {
     entries: Vec<[u32; 12]>,
     entry_values: Vec<f64>,
     plain: Vec<[u32; 2]>,
-    sources: Vec<[u32; 11]>,
+    sources: Vec<SourceRow>,
     source_values: Vec<[f64; 2]>,
 }
 
-impl Engine {
-    pub fn new(rooms: Rooms) -> Engine {
-        Engine {
-            states: Box::new([[0; 2]; OBJECTS]),
+impl Columns {
+    fn new(rooms: Rooms) -> Columns {
+        Columns {
             collected: vec![[0; 14]; rooms.collected],
             collected_values: vec![0.0; rooms.collected],
             rows: vec![[0; 6]; rooms.rows],
@@ -271,51 +330,235 @@ impl Engine {
             entries: vec![[0; 12]; rooms.entries],
             entry_values: vec![0.0; rooms.entries],
             plain: vec![[0; 2]; rooms.plain],
-            sources: vec![[0; 11]; rooms.sources],
+            sources: vec![SourceRow::default(); rooms.sources],
             source_values: vec![[0.0; 2]; rooms.sources],
         }
     }
 
+    // rows of each list, and the states that belong to them
+    fn part<'a>(&'a self, states: &'a States, parts: [Range<usize>; LISTS]) -> Lists<'a> {
+        let [collected, rows, entries, plain, sources] = parts;
+        Lists {
+            states,
+            collected: &self.collected[collected.clone()],
+            collected_values: &self.collected_values[collected],
+            rows: &self.rows[rows.clone()],
+            bases: &self.bases[rows.clone()],
+            values: &self.values[rows],
+            entries: &self.entries[entries.clone()],
+            entry_values: &self.entry_values[entries],
+            plain: &self.plain[plain],
+            sources: &self.sources[sources.clone()],
+            source_values: &self.source_values[sources],
+        }
+    }
+}
+
+impl Engine {
+    pub fn new(rooms: Rooms) -> Engine {
+        Engine { states: Box::new([[0; 2]; OBJECTS]), columns: Columns::new(rooms) }
+    }
+
     pub fn calculate(&mut self, sheet: &[u8]) -> Result<Fit<'_>, Refusal> {
+        let lists = &mut self.columns;
         // SAFETY: each pointer is that of a slice of this struct with its own length, so none is null, each is aligned, and no
         // two overlap; the sheet is borrowed apart from `self`. All stay borrowed until the call is over.
         let answer = unsafe {
             dogma_calculate(
                 &mut *self.states,
-                self.collected.as_mut_ptr(),
-                self.collected.len(),
-                self.collected_values.as_mut_ptr(),
-                self.collected_values.len(),
-                self.rows.as_mut_ptr(),
-                self.rows.len(),
-                self.bases.as_mut_ptr(),
-                self.bases.len(),
-                self.values.as_mut_ptr(),
-                self.values.len(),
-                self.entries.as_mut_ptr(),
-                self.entries.len(),
-                self.entry_values.as_mut_ptr(),
-                self.entry_values.len(),
-                self.plain.as_mut_ptr(),
-                self.plain.len(),
-                self.sources.as_mut_ptr(),
-                self.sources.len(),
-                self.source_values.as_mut_ptr(),
-                self.source_values.len(),
+                lists.collected.as_mut_ptr(),
+                lists.collected.len(),
+                lists.collected_values.as_mut_ptr(),
+                lists.collected_values.len(),
+                lists.rows.as_mut_ptr(),
+                lists.rows.len(),
+                lists.bases.as_mut_ptr(),
+                lists.bases.len(),
+                lists.values.as_mut_ptr(),
+                lists.values.len(),
+                lists.entries.as_mut_ptr(),
+                lists.entries.len(),
+                lists.entry_values.as_mut_ptr(),
+                lists.entry_values.len(),
+                lists.plain.as_mut_ptr(),
+                lists.plain.len(),
+                lists.sources.as_mut_ptr(),
+                lists.sources.len(),
+                lists.source_values.as_mut_ptr(),
+                lists.source_values.len(),
                 sheet.as_ptr(),
                 sheet.len(),
             )
         };
+        let used = answer.counts().map(|count| 0..count);
         match answer.number {
-            0 => Ok(Fit { lists: self, answer }),
+            0 => Ok(Fit { lists: self.columns.part(&self.states, used), answer }),
             number => Err(Refusal::new(number, answer.place as u32)),
         }
     }
 }
 
+/// Why a pilot has no result.
+#[derive(Debug, Copy, Clone, PartialEq, Eq)]
+pub enum PilotRefusal {
+    /// The number asked for is above 15, or has no row in any list. Nothing was written.
+    NoStretch { pilot: u32 },
+    /// The first pilot, asked for or not, whose stretch leaves the pool or overlaps a lower pilot's. Nothing was written.
+    Astray { pilot: u32 },
+    /// The book is damaged: the first bad table, 1 to 5, 0 for its header.
+    Book { table: u32 },
+    /// The fit is damaged: the first bad table, 6 to 10, 0 for its header.
+    Fit { table: u32 },
+    /// Any other of the engine's: not `Shape`.
+    Run(Refusal),
+}
+
+impl PilotRefusal {
+    /// The library's number and place.
+    pub fn number_and_place(self) -> (u32, u32) {
+        match self {
+            PilotRefusal::NoStretch { pilot } | PilotRefusal::Astray { pilot } => (12, pilot),
+            PilotRefusal::Book { table } => (1, table),
+            PilotRefusal::Fit { table } => (1, table + 20),
+            PilotRefusal::Run(refusal) => refusal.number_and_place(),
+        }
+    }
+}
+
+impl fmt::Display for PilotRefusal {
+    fn fmt(&self, f: &mut fmt::Formatter) -> fmt::Result {
+        match self {
+            PilotRefusal::NoStretch { pilot } => write!(f, "pilot {pilot} has no stretch"),
+            PilotRefusal::Astray { pilot } => write!(f, "a stretch of pilot {pilot} leaves the pool or overlaps a lower pilot's"),
+            PilotRefusal::Book { table: 0 } => write!(f, "the book's header is bad"),
+            PilotRefusal::Book { table } => write!(f, "the book's table {table} is bad"),
+            PilotRefusal::Fit { table: 0 } => write!(f, "the fit's header is bad"),
+            PilotRefusal::Fit { table } => write!(f, "the fit's table {table} is bad"),
+            PilotRefusal::Run(refusal) => write!(f, "{refusal:?}"),
+        }
+    }
+}
+
+impl std::error::Error for PilotRefusal {}
+
+/// One pool of rows for up to 16 pilots, each with its own stretch of every list, over one book.
+pub struct Pool {
+    states: Box<[States]>,
+    columns: Columns,
+    stretches: Stretches,
+    // of each pilot what its last result was, as long as it stands in the pool
+    answers: [Option<Answer>; PILOTS],
+}
+
+impl Pool {
+    /// A pool that is as long as the rooms of these pilots (numbers 0 to 15, each once) together.
+    pub fn new(pilots: &[(u32, Rooms)]) -> Pool {
+        let mut stretches = [[[0; 2]; LISTS]; PILOTS];
+        let mut ends = [0; LISTS];
+        for &(pilot, rooms) in pilots {
+            assert!(stretches[pilot as usize] == [[0; 2]; LISTS], "pilot {pilot} is there twice");
+            for (list, room) in rooms.by_list().into_iter().enumerate() {
+                let end = ends[list] + room;
+                stretches[pilot as usize][list] = [ends[list], room].map(|n| u32::try_from(n).expect("rows are counted in 32 bits"));
+                ends[list] = end;
+            }
+        }
+        let [collected, rows, entries, plain, sources] = ends;
+        Pool::with_stretches(Rooms { collected, rows, entries, plain, sources }, stretches)
+    }
+
+    /// A pool with this table of stretches, whatever it says: calls answer `Astray` where it is wrong.
+    pub fn with_stretches(rooms: Rooms, stretches: Stretches) -> Pool {
+        let states = vec![[[0; 2]; OBJECTS]; PILOTS].into_boxed_slice();
+        Pool { states, columns: Columns::new(rooms), stretches, answers: [None; PILOTS] }
+    }
+
+    fn seated(&self, pilot: u32) -> bool {
+        self.stretches.get(pilot as usize).is_some_and(|lists| lists.iter().any(|[_, length]| *length > 0))
+    }
+
+    /// The pilot's fit over the book. The other pilots' results stand as they were, whatever comes of it.
+    pub fn calculate(&mut self, pilot: u32, book: &[u8], fit: &[u8]) -> Result<Fit<'_>, PilotRefusal> {
+        let lists = &mut self.columns;
+        // SAFETY: each pointer is that of a slice of this struct with its own length, the states are PILOTS, so none is null, each
+        // is aligned, and no two overlap; book and fit are borrowed apart from `self`. All stay borrowed until the call is over.
+        let answer = unsafe {
+            dogma_calculate_pilot(
+                self.states.as_mut_ptr(),
+                lists.collected.as_mut_ptr(),
+                lists.collected.len(),
+                lists.collected_values.as_mut_ptr(),
+                lists.collected_values.len(),
+                lists.rows.as_mut_ptr(),
+                lists.rows.len(),
+                lists.bases.as_mut_ptr(),
+                lists.bases.len(),
+                lists.values.as_mut_ptr(),
+                lists.values.len(),
+                lists.entries.as_mut_ptr(),
+                lists.entries.len(),
+                lists.entry_values.as_mut_ptr(),
+                lists.entry_values.len(),
+                lists.plain.as_mut_ptr(),
+                lists.plain.len(),
+                lists.sources.as_mut_ptr(),
+                lists.sources.len(),
+                lists.source_values.as_mut_ptr(),
+                lists.source_values.len(),
+                &self.stretches,
+                book.as_ptr(),
+                book.len(),
+                fit.as_ptr(),
+                fit.len(),
+                pilot,
+            )
+        };
+        let place = answer.place as u32;
+        if answer.number == 12 {
+            let astray = self.seated(pilot);
+            return Err(if astray { PilotRefusal::Astray { pilot: place } } else { PilotRefusal::NoStretch { pilot } });
+        }
+        self.answers[pilot as usize] = (answer.number == 0).then_some(answer);
+        match answer.number {
+            0 => Ok(self.fit(pilot).expect("there is a result")),
+            1 if place >= 20 => Err(PilotRefusal::Fit { table: place - 20 }),
+            1 => Err(PilotRefusal::Book { table: place }),
+            number => Err(PilotRefusal::Run(Refusal::new(number, place))),
+        }
+    }
+
+    /// A pilot's last result, if it was not refused.
+    pub fn fit(&self, pilot: u32) -> Option<Fit<'_>> {
+        let pilot = pilot as usize;
+        let answer = (*self.answers.get(pilot)?)?;
+        let counts = answer.counts();
+        // a stretch without rows may have any first
+        let used = std::array::from_fn(|list| {
+            let first = if counts[list] == 0 { 0 } else { self.stretches[pilot][list][0] as usize };
+            first..first + counts[list]
+        });
+        Some(Fit { lists: self.columns.part(&self.states[pilot], used), answer })
+    }
+}
+
+// The used rows of each list.
+struct Lists<'a> {
+    states: &'a States,
+    collected: &'a [[u32; 14]],
+    collected_values: &'a [f64],
+    rows: &'a [[u32; 6]],
+    bases: &'a [f64],
+    values: &'a [f64],
+    entries: &'a [[u32; 12]],
+    entry_values: &'a [f64],
+    plain: &'a [[u32; 2]],
+    sources: &'a [SourceRow],
+    source_values: &'a [[f64; 2]],
+}
+
 /// A result, read by name.
 pub struct Fit<'a> {
-    lists: &'a Engine,
+    lists: Lists<'a>,
     answer: Answer,
 }
 
@@ -326,8 +569,7 @@ impl Fit<'_> {
 
     /// The rows used of the five lists.
     pub fn counts(&self) -> [usize; 5] {
-        let a = &self.answer;
-        [a.collected, a.rows, a.entries, a.plain, a.sources].map(|count| count as usize)
+        self.answer.counts()
     }
 
     /// State and max state of an object.
@@ -461,4 +703,67 @@ fn origin_of(numbers: &[u32; 6], value: f64) -> Origin {
         return Origin::Buff { buff: buff as i32, value };
     }
     Origin::Effect { effect: effect as i32, source, category: category_of(category), attribute: attribute as i32 }
+}
+
+#[cfg(test)]
+mod tests {
+    use super::*;
+
+    const BOOK: &[u8] = include_bytes!("../../cases/L.book");
+    const FIT: &[u8] = include_bytes!("../../cases/L.fit");
+    const NO_DEPTH: &[u8] = include_bytes!("../../cases/L-depth-1.fit");
+
+    // pilot 3 has rows 2 to 4 of list 2, and pilot 5 some, of a pool of eight
+    fn pool(first: u32, length: u32) -> Pool {
+        let mut stretches = [[[0; 2]; LISTS]; PILOTS];
+        stretches[3] = [[0, 2], [2, 3], [0, 2], [0, 1], [0, 0]];
+        stretches[5][1] = [first, length];
+        Pool::with_stretches(Rooms::all(8), stretches)
+    }
+
+    #[test]
+    fn who_has_no_stretch() {
+        for pilot in [2, 16, u32::MAX] {
+            assert_eq!(pool(5, 2).calculate(pilot, BOOK, FIT).err(), Some(PilotRefusal::NoStretch { pilot }));
+        }
+    }
+
+    #[test]
+    fn whose_stretch_is_astray() {
+        for (first, length) in [(4, 2), (7, 2), (0, 8), (u32::MAX, u32::MAX)] {
+            let refusal = pool(first, length).calculate(3, BOOK, FIT).err();
+            assert_eq!(refusal, Some(PilotRefusal::Astray { pilot: 5 }));
+            assert_eq!(refusal.unwrap().number_and_place(), (12, 5));
+        }
+        for (first, length) in [(5, 2), (5, 3), (0, 2), (900, 0)] {
+            assert!(pool(first, length).calculate(3, BOOK, FIT).is_ok());
+        }
+    }
+
+    #[test]
+    fn which_file_is_bad() {
+        let mut pool = pool(5, 3);
+        assert_eq!(pool.calculate(3, &BOOK[1..], FIT).err(), Some(PilotRefusal::Book { table: 0 }));
+        assert_eq!(pool.calculate(3, BOOK, &FIT[1..]).err(), Some(PilotRefusal::Fit { table: 0 }));
+        assert_eq!(pool.calculate(3, FIT, BOOK).err(), Some(PilotRefusal::Book { table: 0 }));
+        assert_eq!(pool.calculate(3, BOOK, NO_DEPTH).err(), Some(PilotRefusal::Run(Refusal::Depth { object: 2 })));
+        assert_eq!(pool.calculate(5, BOOK, FIT).err(), Some(PilotRefusal::Run(Refusal::Room { list: List::Collected })));
+        assert!(pool.fit(3).is_none() && pool.fit(5).is_none() && pool.fit(16).is_none());
+    }
+
+    #[test]
+    fn results_stand_side_by_side() {
+        let mut pool = Pool::new(&[(9, Rooms::all(3)), (0, Rooms::all(4))]);
+        let alone: Vec<Row> = pool.calculate(9, BOOK, FIT).unwrap_or_else(|refusal| panic!("{refusal}")).rows().collect();
+        assert!(pool.calculate(0, BOOK, FIT).is_ok() && pool.calculate(0, BOOK, NO_DEPTH).is_err());
+        assert!(pool.calculate(7, BOOK, FIT).is_err());
+        assert!(pool.fit(9).unwrap().rows().eq(alone.iter().cloned()) && pool.fit(0).is_none());
+        assert!(pool.calculate(0, BOOK, FIT).unwrap_or_else(|refusal| panic!("{refusal}")).rows().eq(alone));
+    }
+
+    #[test]
+    #[should_panic(expected = "pilot 4 is there twice")]
+    fn a_pilot_twice() {
+        Pool::new(&[(4, Rooms::all(1)), (4, Rooms::all(1))]);
+    }
 }

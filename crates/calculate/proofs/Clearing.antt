@@ -11,7 +11,7 @@ use Rattle.laws.specs.Lists.{flat}
 use Rattle.rules.specs.Answer.{Res, ok, refused, number, place}
 use Rattle.rules.specs.Columns.{Counts, collectedNumbers, originValue, rowsNumbers, entryNumbers, plainNumbers, sourceNumbers, sourceFloats, collectedColumn, collectedValueColumn, rowColumn, baseColumn, valueColumn, entryColumn, entryValueColumn, plainColumn, sourceColumn, sourceFloatColumn, stateColumn}
 use Rattle.rules.specs.Dispatch.{Row}
-use Rattle.rules.specs.Outcome.{Done, outcome}
+use Rattle.rules.specs.Outcome.{Done}
 use Rattle.rules.specs.declared.Source.{Source}
 use Rattle.rules.specs.declared.Refusal.{Refusal}
 use Rattle.rules.specs.declared.Answer.{Answer}
@@ -19,7 +19,7 @@ use Rattle.rules.specs.declared.Answer.the-variants as answer
 use Rattle.clear.specs.Ends.{cleared}
 use Rattle.clear.specs.declared.KeptCounts as clear
 use Rattle.clear.proofs.Columned.{cleared-column, cleared-all, cleared-same}
-use Rattle.promises.specs.Result.{Meets}
+use Rattle.promises.specs.Result.{MeetsFor}
 use Rattle.run.specs.Filled.{Columns, lentOf, Filled, RanAs}
 use Rattle.calculate.specs.Given.{countsGiven, answerGiven, resultOf}
 use Rattle.calculate.specs.declared.Outcome.{Outcome}
@@ -83,8 +83,8 @@ pub record Given (n : clear.KeptCounts) (a : Answer) (o : Outcome) : Type 0 wher
 counts-same : {a b c d e a′ b′ c′ d′ e′ : ℕ} → a ≡ a′ → b ≡ b′ → c ≡ c′ → d ≡ d′ → e ≡ e′ → _≡_ {A = Counts} (record { collected = a; rows = b; entries = c; plain = d; sources = e }) (record { collected = a′; rows = b′; entries = c′; plain = d′; sources = e′ })
 counts-same p q r s t = rw (p, q, r, s, t) refl
 
-module _ (b : List ℕ) (c₀ c c′ : Columns) (st st′ : List (List ℕ)) (o : Outcome) where
-  done : (d : Done) (n : clear.KeptCounts) → outcome b (lentOf c₀) ≡ ok d → Filled d n st c₀ c → Cleared n st c st′ c′ → Given n answer.Done o → Meets b (lentOf c₀) (resultOf o st′ c′)
+module _ (w : Res Done) (c₀ c c′ : Columns) (st st′ : List (List ℕ)) (o : Outcome) where
+  done : (d : Done) (n : clear.KeptCounts) → w ≡ ok d → Filled d n st c₀ c → Cleared n st c st′ c′ → Given n answer.Done o → MeetsFor w (lentOf c₀) (resultOf o st′ c′)
   unfolding collectedColumn collectedValueColumn rowColumn baseColumn valueColumn entryColumn entryValueColumn plainColumn sourceColumn sourceFloatColumn stateColumn
   done d n e f k g =
       record {
@@ -112,7 +112,7 @@ module _ (b : List ℕ) (c₀ c c′ : Columns) (st st′ : List (List ℕ)) (o 
         by-sourceFloats = rw e (held sourceFloats (replicate 2 zeroF) (flat (λ x. x) (d .sources)) (k .sourceFloats) (f .sourceFloats) (f .n-sources));
       }
 
-  not-done : (x : Refusal) → outcome b (lentOf c₀) ≡ refused x → Even c₀ c → Cleared (countsGiven (ran.Refused x)) st c st′ c′ → Given (countsGiven (ran.Refused x)) (answer.Refused x) o → Meets b (lentOf c₀) (resultOf o st′ c′)
+  not-done : (x : Refusal) → w ≡ refused x → Even c₀ c → Cleared (countsGiven (ran.Refused x)) st c st′ c′ → Given (countsGiven (ran.Refused x)) (answer.Refused x) o → MeetsFor w (lentOf c₀) (resultOf o st′ c′)
   unfolding collectedColumn collectedValueColumn rowColumn baseColumn valueColumn entryColumn entryValueColumn plainColumn sourceColumn sourceFloatColumn stateColumn
   not-done x e t k g =
       record {
@@ -132,14 +132,14 @@ module _ (b : List ℕ) (c₀ c c′ : Columns) (st st′ : List (List ℕ)) (o 
         by-sourceFloats = rw e (emptied sourceFloats (replicate 2 zeroF) (c₀ .sourceFloats) (c .sourceFloats) (k .sourceFloats) (t .sourceFloats));
       }
 
-  by-both : (s : Res Done) (r : Ran) → outcome b (lentOf c₀) ≡ s → RanAs s r st c₀ c → Even c₀ c → Cleared (countsGiven r) st c st′ c′ → Given (countsGiven r) (answerGiven r) o → Meets b (lentOf c₀) (resultOf o st′ c′)
+  by-both : (s : Res Done) (r : Ran) → w ≡ s → RanAs s r st c₀ c → Even c₀ c → Cleared (countsGiven r) st c st′ c′ → Given (countsGiven r) (answerGiven r) o → MeetsFor w (lentOf c₀) (resultOf o st′ c′)
   by-both (ok d) (ran.Done n) e f t k g = done d n e f k g
   by-both (ok d) (ran.Refused y) e f t k g = absurd f
   by-both (refused x) (ran.Done n) e f t k g = absurd f
   by-both (refused x) (ran.Refused y) e f t k g = not-done y (e ∙ ap refused (sym f)) t k g
 
   -- a run, cleared and given back
-  pub meets : (r : Ran) (n : clear.KeptCounts) (a : Answer) → n ≡ countsGiven r → a ≡ answerGiven r → RanAs (outcome b (lentOf c₀)) r st c₀ c → Even c₀ c → Cleared n st c st′ c′ → Given n a o → Meets b (lentOf c₀) (resultOf o st′ c′)
+  pub meets : (r : Ran) (n : clear.KeptCounts) (a : Answer) → n ≡ countsGiven r → a ≡ answerGiven r → RanAs w r st c₀ c → Even c₀ c → Cleared n st c st′ c′ → Given n a o → MeetsFor w (lentOf c₀) (resultOf o st′ c′)
   meets r n a e h f t k g =
-      by-both (outcome b (lentOf c₀)) r refl f t (subst (λ (x : clear.KeptCounts). Cleared x st c st′ c′) e k)
+      by-both w r refl f t (subst (λ (x : clear.KeptCounts). Cleared x st c st′ c′) e k)
       (subst (λ (x : Answer). Given (countsGiven r) x o) h (subst (λ (x : clear.KeptCounts). Given x a o) e g))

@@ -10,12 +10,22 @@ use columns::PlainRow;
 use columns::SourceFloats;
 use columns::SourceRow;
 use columns::States;
+use columns::TablePairs;
+use info::header::pairs_of;
 use rules::Answer;
 use run::Ran;
 use run::outcome::filled;
+use shape::Shaped;
+use shape::shape;
 ghost use mathlib.Core.Path.{_≡_};
-ghost use Rattle.promises.specs.Result.{Meets};
-ghost use Rattle.run.specs.Filled.{lentColumns, lentOf};
+ghost use Prim.Native.Nat.{_≤_};
+ghost use lib.ListN.{length};
+ghost use Rattle.rules.specs.Bytes.{pairsOf};
+ghost use Rattle.rules.specs.Sheet.{bookOf, fitOf};
+ghost use Rattle.rules.specs.Outcome.{roomsOf};
+ghost use Rattle.promises.specs.Result.{MeetsFor, Meets};
+ghost use Rattle.shape.specs.Shaped.{SoundBy};
+ghost use Rattle.run.specs.Filled.{lentColumns, lentOf, decided};
 ghost use Rattle.calculate.specs.Given.{countsGiven, answerGiven, resultOf};
 
 // What comes back of a call: 01's number and place, and how many rows each list has.
@@ -57,9 +67,29 @@ fn answer_of(ran: Ran) -> Answer
     }
 }
 
-// Every list, every state and the answer, whatever the bytes and whatever the lists: nothing is required.
-#[no_mangle]
-pub extern "C" fn dogma_calculate(
+// The pairs of a sheet; zeros of bytes that are too short for a header.
+fn pairs_lent(sheet: &[u8]) -> TablePairs
+    ensures defined { λ r. ⌜ (100 ≤ length (now (sheet .entry)) → r ≡ pairsOf (now (sheet .entry))) ⌝ }
+{
+    if sheet.len() < 100 {
+        return [
+            [0, 0],
+            [0, 0],
+            [0, 0],
+            [0, 0],
+            [0, 0],
+            [0, 0],
+            [0, 0],
+            [0, 0],
+            [0, 0],
+            [0, 0],
+        ];
+    }
+    pairs_of(sheet)
+}
+
+// Every list, every state and the answer of a book and a fit that are judged: one run, and all that it leaves unused made zero.
+pub fn calculated(
     states: &mut States,
     collected: &mut [CollectedRow],
     collected_values: &mut [f64],
@@ -71,11 +101,18 @@ pub extern "C" fn dogma_calculate(
     plain: &mut [PlainRow],
     sources: &mut [SourceRow],
     source_values: &mut [SourceFloats],
-    sheet: &[u8],
+    book: &[u8],
+    fit: &[u8],
+    pairs: &TablePairs,
+    verdict: Shaped,
 ) -> Outcome
-    ensures the_definitions_answer { λ r.
+    requires sound { ⌜ SoundBy verdict (now book) (now fit) (now pairs) ⌝ }
+    ensures defined { λ r.
         let lists = lentColumns collected «collected_values» rows bases values entries «entry_values» plain sources «source_values» in
-        ⌜ Meets (now (sheet .entry)) (lentOf (lists .entry)) (resultOf r (now (states .exit)) (lists .exit)) ⌝ }
+        let lent = lentOf (lists .entry) in
+        let ps = now (pairs .entry) in
+        let o = decided verdict (bookOf (now (book .entry)) ps) (fitOf (now (fit .entry)) ps) (roomsOf lent) in
+        ⌜ MeetsFor o lent (resultOf r (now (states .exit)) (lists .exit)) ⌝ }
 {
     let ran = filled(
         states,
@@ -89,7 +126,10 @@ pub extern "C" fn dogma_calculate(
         plain,
         sources,
         source_values,
-        sheet,
+        book,
+        fit,
+        pairs,
+        verdict,
     );
     let counts = counts_of(ran);
     let answer = answer_of(ran);
@@ -116,6 +156,47 @@ pub extern "C" fn dogma_calculate(
         plain: counts.plain as u64,
         sources: counts.sources as u64,
     }
+}
+
+// Every list, every state and the answer, whatever the bytes and whatever the lists: nothing is required.
+#[no_mangle]
+pub extern "C" fn dogma_calculate(
+    states: &mut States,
+    collected: &mut [CollectedRow],
+    collected_values: &mut [f64],
+    rows: &mut [AttributeRow],
+    bases: &mut [f64],
+    values: &mut [f64],
+    entries: &mut [EntryRow],
+    entry_values: &mut [f64],
+    plain: &mut [PlainRow],
+    sources: &mut [SourceRow],
+    source_values: &mut [SourceFloats],
+    sheet: &[u8],
+) -> Outcome
+    ensures the_definitions_answer { λ r.
+        let lists = lentColumns collected «collected_values» rows bases values entries «entry_values» plain sources «source_values» in
+        ⌜ Meets (now (sheet .entry)) (lentOf (lists .entry)) (resultOf r (now (states .exit)) (lists .exit)) ⌝ }
+{
+    let verdict = shape(sheet);
+    let pairs = pairs_lent(sheet);
+    calculated(
+        states,
+        collected,
+        collected_values,
+        rows,
+        bases,
+        values,
+        entries,
+        entry_values,
+        plain,
+        sources,
+        source_values,
+        sheet,
+        sheet,
+        &pairs,
+        verdict,
+    )
 }
 
 pub mod answers;

@@ -14,8 +14,9 @@ use rules::Item;
 use states::is_structure_fit;
 ghost use mathlib.Core.Path.{_≡_};
 ghost use mathlib.Core.Bool.{cond};
-ghost use Prim.Native.Nat.{suc, _-_, _≤_, _<_};
+ghost use Prim.Native.Nat.{suc, _+_, _-_, _≤_, _<_};
 ghost use lib.ListN.{length};
+ghost use Rattle.rules.specs.Bytes.{categoriesAt};
 ghost use Rattle.rules.specs.Sheet.{Book, fitOf};
 ghost use Rattle.rules.specs.Item.{isItem, isCharge};
 ghost use Rattle.info.specs.At.{bookAt, fitAt, objectAt};
@@ -26,11 +27,11 @@ ghost use Rattle.collect.specs.Parts.{HullOf};
 
 // What of the fit all its objects go by.
 pub fn hull_of(book: &[u8], fit: &[u8], pairs: &TablePairs) -> Hull
-    requires inside { ⌜ 100 ≤ length (now book) ⌝ }
+    requires inside { ⌜ categoriesAt (now pairs) + 12 ≤ length (now book) ⌝ }
     requires sound_fit { ⌜ SoundFit (now fit) (now pairs) ⌝ }
     ensures of_the_fit { λ r. ⌜ HullOf (bookAt book pairs) (fitAt fit pairs) r ⌝ }
 {
-    let categories = categories_of(book);
+    let categories = categories_of(book, pairs);
     let structure = is_structure_fit(fit, pairs);
     let character = char_of(fit, pairs);
     Hull {

@@ -192,3 +192,27 @@ pub type HitKey = [u32; 2];
 pub const KEY_OBJECT: usize = 0;
 
 pub const KEY_ATTRIBUTE: usize = 1;
+
+// One pool for several pilots: of each its first row and its number of rows, in each of the five lists.
+pub const PILOTS: usize = 16;
+
+pub const LISTS: usize = 5;
+
+pub type PoolStretch = [u32; 2];
+
+pub const POOL_FIRST: usize = 0;
+
+pub const POOL_LENGTH: usize = 1;
+
+pub type PilotStretches = [PoolStretch; LISTS];
+
+pub type PoolStretches = [PilotStretches; PILOTS];
+
+// Of each list the rows that the pool has.
+pub type PoolRooms = [usize; LISTS];
+
+// The states of every pilot's objects.
+pub type PilotStates = [States; PILOTS];
+
+// The pairs of a book or of a fit.
+pub type FilePairs = [TablePair; 5];

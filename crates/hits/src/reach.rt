@@ -78,7 +78,7 @@ pub fn reach_of(book: &[u8], fit: &[u8], pairs: &TablePairs, i: usize) -> ReachR
     requires an_object { ⌜ i < countOf (now pairs) 6 ⌝ }
     ensures defined { λ r. ⌜ r ≡ reachOf (bookAt book pairs) (fitAt fit pairs) (objectAt fit pairs i) ⌝ }
 {
-    let categories = categories_of(book);
+    let categories = categories_of(book, pairs);
     let o = object(fit, pairs, i);
     let c = carrier_of(fit, pairs, i);
     columns(categories, o, c)

@@ -7,7 +7,7 @@ use Rattle.laws.specs.Lists.{ascends}
 use Rattle.rules.specs.declared.Item.{Item}
 use mathlib.Core.Option.{none}
 use lib.ListN.{length, getD}
-use Rattle.rules.specs.Bytes.{countOf, offsetOf, widthOf, limitOf}
+use Rattle.rules.specs.Bytes.{countOf, offsetOf, widthOf, limitOf, categoriesAt, depthAt}
 use Rattle.rules.specs.Sheet.{Fit, bookOf, fitOf, basesOf}
 use Rattle.rules.specs.Shape.{bookBad, fitBad}
 
@@ -18,7 +18,7 @@ pub record Held (b : List ℕ) (pairs : List (List ℕ)) (t : ℕ) : Type 0 wher
 
 -- the header and tables 1 to 5
 pub record HeldBook (b : List ℕ) (pairs : List (List ℕ)) : Type 0 where
-  pub header : 100 ≤ length b
+  pub header : categoriesAt pairs + 12 ≤ length b
   pub attributes : Held b pairs 1
   pub effects : Held b pairs 2
   pub modifiers : Held b pairs 3
@@ -27,7 +27,7 @@ pub record HeldBook (b : List ℕ) (pairs : List (List ℕ)) : Type 0 where
 
 -- the header and tables 6 to 10
 pub record HeldFit (b : List ℕ) (pairs : List (List ℕ)) : Type 0 where
-  pub header : 100 ≤ length b
+  pub header : depthAt pairs + 8 ≤ length b
   pub objects : Held b pairs 6
   pub bases : Held b pairs 7
   pub ids : Held b pairs 8

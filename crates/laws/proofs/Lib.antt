@@ -22,3 +22,4 @@ pub mod Unique
 pub mod Ones
 pub mod Sizes
 pub mod SelfFinite
+pub mod Within

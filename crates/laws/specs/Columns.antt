@@ -2,7 +2,7 @@
 use Prim.Native.Nat.{ℕ, _+_, _-_}
 use mathlib.Core.Path.{_≡_}
 use mathlib.Core.List.{List, [], _∷_, _++_, map}
-use lib.ListN.{length, drop, replicate}
+use lib.ListN.{length, take, drop, replicate}
 
 module _ {R B : Type 0} (enc : R → B) where
   -- the rows from the front of a column, and what stood in it after them
@@ -22,3 +22,7 @@ pub record Col {R B : Type 0} (enc : R → B) (rs : List R) (c₀ c : List B) : 
 abbrev pub sums : ℕ → List ℕ → List ℕ
 sums a [] = []
 sums a (c ∷ r) = a ∷ sums (a + c) r
+
+-- c with xs in place of its n elements from place a on, and nothing else changed
+abbrev pub within : {A : Type 0} → ℕ → ℕ → List A → List A → List A
+within a n xs c = take a c ++ (xs ++ drop (a + n) c)

@@ -1,28 +1,26 @@
 -- Two sheets whose bytes differ in asks, depth and recording alone: they read as one book, and as fits that differ in those alone.
 use Prim.Native.Nat.{ℕ, zero, suc, _+_, _-_, _*_, _≤_, _<_}
-use native.Mathlib.Nat.{mul-le-mul-left, mul-suc, zero-add}
+use native.Mathlib.Nat.{mul-le-mul-left, mul-suc}
 use native.Mathlib.Omega.{arith}
 use mathlib.Core.Path.{_≡_, refl, sym, ap, subst, _∙_}
-use mathlib.Core.Bool.{true}
+use mathlib.Core.Bool.{true, cond}
 use mathlib.Core.List.{List, [], _∷_, map}
 use lib.Dec.{leb, eqb}
 use lib.ListN.{length, getD, take, drop}
 use lib.Seq.{getD-take, take-take, drop-drop}
-use borrow.Author.Tests.{eqb-true}
 use Rattle.laws.specs.Lists.{from, every?}
-use Rattle.laws.proofs.Bools.{and-right}
-use Rattle.laws.proofs.Every.{every-at}
-use Rattle.laws.proofs.From.{from-at, table-same}
+use Rattle.laws.proofs.From.{table-same}
 use Rattle.laws.proofs.Spans.{span-at}
 use Rattle.rules.specs.Answer.{ok}
-use Rattle.rules.specs.Bytes.{u32At, pairsOf, countOf, offsetOf, widthOf, limitOf, recordAt}
+use Rattle.rules.specs.Bytes.{u32At, pairsOf, countOf, offsetOf, widthOf, categoriesAt, recordAt}
 use Rattle.rules.specs.Outcome.{Lent, Done, outcome}
 use Rattle.rules.specs.Sheet.{attributeFrom, effectFrom, modifierFrom, typeEffectFrom, buffCollectionFrom, objectFrom, baseFrom, idFrom, buffFrom, table, bookOf, fitOf}
 use Rattle.rules.specs.Shape.{endOf, placed, headerGood}
+use Rattle.rules.proofs.Places.{begins, after-header, at-80}
 use Rattle.promises.specs.NoMemory.{SameButAsks, bookIn, fitIn}
 use Rattle.promises.specs.Sheets.{Asking}
 use Rattle.promises.proofs.NoMemory.{header-good}
-use Rattle.promises.proofs.Sheets.{second, after-header}
+use Rattle.promises.proofs.Sheets.{second}
 
 -- a part of a front
 front-part : (j n m : ℕ) (x : List ℕ) → j + n ≤ m → take n (drop j (take m x)) ≡ take n (drop j x)
@@ -37,11 +35,6 @@ module _ (b : List ℕ) (good : headerGood b (pairsOf b) ≡ true) where
   unfolding headerGood
   placed-all = second (leb 100 (length b)) (every? (placed (pairsOf b)) (from 0 10)) (eqb (endOf (pairsOf b) 10) (length b)) (leb 1 (u32At b 92)) (leb (u32At b 92) 256) (leb (u32At b 96) 1) good
 
-  begins : (t : ℕ) → t < 10 → offsetOf (pairsOf b) (suc t) ≡ endOf (pairsOf b) t
-  begins t l =
-      let stands : placed (pairsOf b) t ≡ true = ap (placed (pairsOf b)) (sym (from-at 0 10 t 0 l ∙ zero-add t)) ∙ every-at (placed (pairsOf b)) (from 0 10) t 0 placed-all l in
-      eqb-true (offsetOf (pairsOf b) (suc t)) (endOf (pairsOf b) t) (and-right (leb (countOf (pairsOf b) (suc t)) (limitOf (suc t))) (eqb (offsetOf (pairsOf b) (suc t)) (endOf (pairsOf b) t)) stands)
-
   record Inside (t : ℕ) : Type 0 where
     first : 100 ≤ offsetOf (pairsOf b) t
     last : offsetOf (pairsOf b) t + widthOf t * countOf (pairsOf b) t ≤ offsetOf (pairsOf b) 10
@@ -54,14 +47,14 @@ module _ (b : List ℕ) (good : headerGood b (pairsOf b) ≡ true) where
       ten = omega (arith, e)
   before-last (suc j) t e =
       let next : offsetOf (pairsOf b) (suc (suc t)) ≤ offsetOf (pairsOf b) 10 = before-last j (suc t) (omega (arith, e)) in
-      let step : offsetOf (pairsOf b) (suc (suc t)) ≡ offsetOf (pairsOf b) (suc t) + widthOf (suc t) * countOf (pairsOf b) (suc t) = begins (suc t) (omega (arith, e)) in
+      let step : offsetOf (pairsOf b) (suc (suc t)) ≡ offsetOf (pairsOf b) (suc t) + widthOf (suc t) * countOf (pairsOf b) (suc t) = begins (pairsOf b) placed-all (suc t) (omega (arith, e)) in
       omega (arith, next, step)
 
   inside : (t : ℕ) → t < 9 → Inside (suc t)
   inside t l =
       record {
         first = after-header (pairsOf b) placed-all t (omega (arith, l));
-        last = subst (λ (n : ℕ). n ≤ offsetOf (pairsOf b) 10) (begins (suc t) (omega (arith, l))) (before-last (8 - t) (suc t) (omega (arith, l)));
+        last = subst (λ (n : ℕ). n ≤ offsetOf (pairsOf b) 10) (begins (pairsOf b) placed-all (suc t) (omega (arith, l))) (before-last (8 - t) (suc t) (omega (arith, l)));
       }
 
 module _ (b c : List ℕ) (s : Asking b c) where
@@ -104,10 +97,15 @@ module _ (b c : List ℕ) (s : Asking b c) where
         within : (k : ℕ) → suc k ≤ countOf (pairsOf b) t → offsetOf (pairsOf b) t + widthOf t * k + widthOf t ≤ u32At b 76
         within k h = omega (arith, i .last, mul-le-mul-left (widthOf t) h, mul-suc (widthOf t) k)
 
+    at-80-too : categoriesAt (pairsOf c) ≡ 80
+    at-80-too = ap (λ (n : ℕ). cond (eqb n 52) 40 80) (word-front 4 (omega arith)) ∙ at-80 (pairsOf b) (placed-all b good)
+
     book-same : bookIn b ≡ bookIn c
     unfolding bookOf
     book-same =
         sym (rw (
+          at-80-too,
+          at-80 (pairsOf b) (placed-all b good),
           word-80,
           word-84,
           word-88,

@@ -17,13 +17,14 @@ use Rattle.rules.specs.Bytes.{signed}
 use Rattle.rules.specs.Columns.{Counts, countsOf, collectedNumbers, rowsNumbers, entryNumbers, zeroEntry, plainNumbers, sourceNumbers, zeroSource, sourceFloats, originValue, collectedList, rowList, valueList, entryList, plainList, sourceList, sourcesByRow, collectedColumn, collectedValueColumn, rowColumn, baseColumn, valueColumn, entryColumn, entryValueColumn, plainColumn, sourceColumn, sourceFloatColumn, stateColumn}
 use Rattle.rules.specs.Dispatch.{Row}
 use Rattle.rules.specs.Fresh.{fresh}
-use Rattle.rules.specs.Outcome.{Lent, Done, roomsOf, outcome}
+use Rattle.rules.specs.Outcome.{Lent, Rooms, Done, roomsOf, rowsIn, worldOf, run, outcome}
+use Rattle.rules.specs.Sheet.{Book, Fit}
 use Rattle.rules.specs.declared.Answer.the-variants.{Refused}
 use Rattle.rules.specs.declared.Refusal.{Refusal}
 use Rattle.rules.specs.declared.Refusal.the-variants.{Shape, Func, Domain, Category, Operation, Other, Room, Number, Depth}
 use Rattle.promises.specs.Given.{cell, SameResult, SameValues}
-use Rattle.promises.specs.NoMemory.{noRow, NoLoop, bookIn, fitIn, worldIn}
-use Rattle.promises.specs.Result.{Result, resultFor, Meets}
+use Rattle.promises.specs.NoMemory.{noRow, NoLoop, Sound, bookIn, fitIn, worldIn}
+use Rattle.promises.specs.Result.{Result, resultFor, MeetsFor, Meets}
 use Rattle.promises.specs.Sheets.{Deeper, Asking}
 use Rattle.promises.specs.Unless.{Unless, refused-so, the-same}
 use Rattle.promises.specs.Wider.{Longer}
@@ -31,8 +32,8 @@ use Rattle.promises.proofs.Asking.{asking-same}
 use Rattle.promises.proofs.Ends.{column-place, column-cell, columns-same, row-cells, rows-four}
 use Rattle.promises.proofs.FloatsCollected.{held, held-is}
 use Rattle.promises.proofs.FloatsSheet.{sheet-rows}
-use Rattle.promises.proofs.NoMemory.{is-run, no-memory, same-values}
-use Rattle.promises.proofs.NoMemoryRun.{run-rows}
+use Rattle.promises.proofs.NoMemory.{is-run, sheet-sound, same-values}
+use Rattle.promises.proofs.NoMemoryRun.{run-no-memory, run-rows}
 use Rattle.promises.proofs.OneAnswer.{is-the-one}
 use Rattle.promises.proofs.Room.{more-lent}
 use Rattle.promises.proofs.Sheets.{more-depth-sheet}
@@ -50,49 +51,76 @@ refused-number (Room p) h = omega (arith, h)
 refused-number (Number p) h = omega (arith, h)
 refused-number (Depth p) h = omega (arith, h)
 
-pub record IsDone (b : List ℕ) (l : Lent) : Type 0 where
+pub record IsDoneFor (o : Res Done) : Type 0 where
   pub done : Done
-  pub is : outcome b l ≡ ok done
+  pub is : o ≡ ok done
+
+pub is-done-for : (o : Res Done) (l : Lent) (r : Result) → MeetsFor o l r → r .number ≡ 0 → IsDoneFor o
+is-done-for o l r m h = by o refl
+  where
+    by : (x : Res Done) → o ≡ x → IsDoneFor o
+    by (ok d) e = record { done = d; is = e }
+    by (refused x) e = absurd (refused-number x (sym (ap (λ (y : Res Done). number (answerOf y)) e) ∙ sym (m .by-number) ∙ h))
+
+abbrev pub IsDone : List ℕ → Lent → Type 0
+IsDone b l = IsDoneFor (outcome b l)
 
 pub is-done : (b : List ℕ) (l : Lent) (r : Result) → Meets b l r → r .number ≡ 0 → IsDone b l
-is-done b l r m h = by (outcome b l) refl
-  where
-    by : (o : Res Done) → outcome b l ≡ o → IsDone b l
-    by (ok d) e = record { done = d; is = e }
-    by (refused x) e = absurd (refused-number x (sym (ap (λ (o : Res Done). number (answerOf o)) e) ∙ sym (m .by-number) ∙ h))
+is-done b l r m h = is-done-for (outcome b l) l r m h
 
--- row i, of a run that is done
-module _ (b : List ℕ) (l : Lent) (r : Result) (m : Meets b l r) (d : Done) (e : outcome b l ≡ ok d) where
-  pub row-count : r .counts .rows ≡ length (d .rows)
-  row-count = ap (λ (c : Counts). c .rows) (m .by-counts) ∙ ap (λ (o : Res Done). length (rowList o)) e
+-- an attribute's 32 bits are its id, and floats are finite
+abbrev pub FineRows : List Row → Type 0
+FineRows rs = every? (λ x. held (x .id) && (finite (x .base) && every? (λ y. finite (originValue (y .origin))) (x .entries))) rs ≡ true
 
-  pub value-given : (i : ℕ) → getD (r .values) i zeroF ≡ Option·getD (getD (d .values) i none) zeroF
+-- row i, of an outcome that is done
+module _ (o : Res Done) (l : Lent) (r : Result) (m : MeetsFor o l r) (d : Done) (e : o ≡ ok d) where
+  pub row-count-for : r .counts .rows ≡ length (d .rows)
+  row-count-for = ap (λ (c : Counts). c .rows) (m .by-counts) ∙ ap (λ (x : Res Done). length (rowList x)) e
+
+  pub value-given-for : (i : ℕ) → getD (r .values) i zeroF ≡ Option·getD (getD (d .values) i none) zeroF
   unfolding valueColumn
-  value-given i =
-      ap (λ (c : List Float). getD c i zeroF) (m .by-values) ∙ ap (λ (o : Res Done). getD (valueColumn o (l .values)) i zeroF) e
+  value-given-for i =
+      ap (λ (c : List Float). getD c i zeroF) (m .by-values) ∙ ap (λ (x : Res Done). getD (valueColumn x (l .values)) i zeroF) e
       ∙ column-place (λ x. x) zeroF (valueList (ok d)) (l .values) i ∙ ap (λ (c : List Float). getD c i zeroF) (map-itself (valueList (ok d)))
       ∙ List·getD-map (λ v. Option·getD v zeroF) (d .values) i none
 
-  pub row-given : (i j : ℕ) → cell (r .rows) i j ≡ cell (rowsNumbers 0 0 (d .rows) (d .sources)) i j
+  pub row-given-for : (i j : ℕ) → cell (r .rows) i j ≡ cell (rowsNumbers 0 0 (d .rows) (d .sources)) i j
   unfolding rowColumn
-  row-given i j =
-      ap (λ (c : List (List ℕ)). cell c i j) (m .by-rows) ∙ ap (λ (o : Res Done). cell (rowColumn o (l .rows)) i j) e
+  row-given-for i j =
+      ap (λ (c : List (List ℕ)). cell c i j) (m .by-rows) ∙ ap (λ (x : Res Done). cell (rowColumn x (l .rows)) i j) e
       ∙ column-cell (λ x. x) 6 (rowsNumbers 0 0 (d .rows) (d .sources)) (l .rows) i j ∙ ap (λ (c : List (List ℕ)). cell c i j) (map-itself (rowsNumbers 0 0 (d .rows) (d .sources)))
 
-  pub object-given : (i : ℕ) → i < length (d .rows) → cell (r .rows) i 0 ≡ getD (d .rows) i noRow .object
-  object-given i h = row-given i 0 ∙ row-cells 0 0 (d .rows) (d .sources) i h .0
+  object-given : (i : ℕ) → i < length (d .rows) → cell (r .rows) i 0 ≡ getD (d .rows) i noRow .object
+  object-given i h = row-given-for i 0 ∙ row-cells 0 0 (d .rows) (d .sources) i h .0
 
-  -- an attribute's 32 bits are its id
-  id-held : (i : ℕ) → i < length (d .rows) → held (getD (d .rows) i noRow .id) ≡ true
-  id-held i h =
-      let same = run-rows (bookIn b) (fitIn b) (roomsOf l) d (is-run b l d e) in
+  id-held : FineRows (d .rows) → (i : ℕ) → i < length (d .rows) → held (getD (d .rows) i noRow .id) ≡ true
+  id-held fine i h =
       let row = getD (d .rows) i noRow in
       and-left (held (row .id)) (finite (row .base) && every? (λ x. finite (originValue (x .origin))) (row .entries))
-      (every-at (λ x. held (x .id) && (finite (x .base) && every? (λ y. finite (originValue (y .origin))) (x .entries))) (d .rows) i noRow
-      (subst (λ (rs : List Row). every? (λ x. held (x .id) && (finite (x .base) && every? (λ y. finite (originValue (y .origin))) (x .entries))) rs ≡ true) (sym same) (sheet-rows b l d e)) h)
+      (every-at (λ x. held (x .id) && (finite (x .base) && every? (λ y. finite (originValue (y .origin))) (x .entries))) (d .rows) i noRow fine h)
 
-  pub attribute-given : (i : ℕ) → i < length (d .rows) → signed (cell (r .rows) i 1) ≡ getD (d .rows) i noRow .id
-  attribute-given i h = ap signed (row-given i 1 ∙ row-cells 0 0 (d .rows) (d .sources) i h .1) ∙ held-is (getD (d .rows) i noRow .id) (id-held i h)
+  attribute-given : FineRows (d .rows) → (i : ℕ) → i < length (d .rows) → signed (cell (r .rows) i 1) ≡ getD (d .rows) i noRow .id
+  attribute-given fine i h = ap signed (row-given-for i 1 ∙ row-cells 0 0 (d .rows) (d .sources) i h .1) ∙ held-is (getD (d .rows) i noRow .id) (id-held fine i h)
+
+  -- each value that comes back is the one that the rules give with no memory for the object and the attribute of its row
+  pub no-memory-for : (k : Book) (f : Fit) (q : Rooms) → run k f q ≡ ok d → Sound f → FineRows (rowsIn k f) → NoLoop (worldOf k f (q .sources))
+      → (i : ℕ) → i < r .counts .rows → fresh (worldOf k f (q .sources)) (cell (r .rows) i 0) (signed (cell (r .rows) i 1)) ≡ ok (getD (r .values) i zeroF)
+  no-memory-for k f q ran sound fine free i h =
+      let inside : i < length (d .rows) = subst (λ (n : ℕ). i < n) row-count-for h in
+      let v = run-no-memory k f q free d sound ran i inside in
+      rw (object-given i inside, attribute-given (subst FineRows (sym (run-rows k f q d ran)) fine) i inside)
+      (v .is ∙ ap ok (sym (value-given-for i ∙ ap (λ (x : Option Float). Option·getD x zeroF) (v .has))))
+
+-- the same of any bytes
+module _ (b : List ℕ) (l : Lent) (r : Result) (m : Meets b l r) (d : Done) (e : outcome b l ≡ ok d) where
+  pub row-count : r .counts .rows ≡ length (d .rows)
+  row-count = row-count-for (outcome b l) l r m d e
+
+  pub value-given : (i : ℕ) → getD (r .values) i zeroF ≡ Option·getD (getD (d .values) i none) zeroF
+  value-given = value-given-for (outcome b l) l r m d e
+
+  pub row-given : (i j : ℕ) → cell (r .rows) i j ≡ cell (rowsNumbers 0 0 (d .rows) (d .sources)) i j
+  row-given = row-given-for (outcome b l) l r m d e
 
 -- ---- no memory
 
@@ -103,10 +131,7 @@ pub no-memory-given : (b : List ℕ) (l : Lent) (r : Result) → Meets b l r →
 no-memory-given b l r m z free i h =
     let o = is-done b l r m z in
     let d = o .done in
-    let inside : i < length (d .rows) = subst (λ (n : ℕ). i < n) (row-count b l r m d (o .is)) h in
-    let v = no-memory b l d (o .is) free i inside in
-    rw (object-given b l r m d (o .is) i inside, attribute-given b l r m d (o .is) i inside)
-    (v .is ∙ ap ok (sym (value-given b l r m d (o .is) i ∙ ap (λ (x : Option Float). Option·getD x zeroF) (v .has))))
+    no-memory-for (outcome b l) l r m d (o .is) (bookIn b) (fitIn b) (roomsOf l) (is-run b l d (o .is)) (sheet-sound b l d (o .is)) (sheet-rows b l d (o .is)) free i h
 
 -- ---- the same values
 
@@ -141,7 +166,7 @@ same-values-given b c l n r s a m k y z free =
 
 -- ---- more depth
 
-unless-so : (short : ℕ → Refusal) (n : ℕ) → ((p : ℕ) → number (Refused (short p)) ≡ n) → {x y : Res Done} → Unless short x y → (number (answerOf x) ≡ n → ⊥) → y ≡ x
+pub unless-so : (short : ℕ → Refusal) (n : ℕ) → ((p : ℕ) → number (Refused (short p)) ≡ n) → {x y : Res Done} → Unless short x y → (number (answerOf x) ≡ n → ⊥) → y ≡ x
 unless-so short n k (refused-so p e) h = absurd (h (ap (λ (o : Res Done). number (answerOf o)) e ∙ k p))
 unless-so short n k (the-same e) h = e
 
@@ -155,11 +180,10 @@ more-depth-given b c l r s d m n h =
 
 -- ---- more room
 
--- "More room": lists k lend at least as much as l in every column: a result that is not 7 ROOM is the same with more, in number, place,
--- counts and every column, with zeros behind
-pub more-room-given : (b : List ℕ) (l k : Lent) (r s : Result) → Longer l k → Meets b l r → Meets b k s → (r .number ≡ 7 → ⊥) → SameResult r s
+-- what comes back of one outcome, in columns of other lengths
+pub same-result : (o p : Res Done) (l k : Lent) (r s : Result) → o ≡ p → MeetsFor o l r → MeetsFor p k s → SameResult r s
 unfolding collectedColumn collectedValueColumn rowColumn baseColumn valueColumn entryColumn entryValueColumn plainColumn sourceColumn sourceFloatColumn
-more-room-given b l k r s w m n h =
+same-result o p l k r s same m n =
     record {
       number = m .by-number ∙ ap (λ (x : Res Done). number (answerOf x)) same ∙ sym (n .by-number);
       place = m .by-place ∙ ap (λ (x : Res Done). place (answerOf x)) same ∙ sym (n .by-place);
@@ -176,12 +200,9 @@ more-room-given b l k r s w m n h =
       sources = columns-same zeroSource sourceColumn (λ x. map sourceNumbers (sourceList x)) (λ x. column-place sourceNumbers zeroSource (sourceList x)) o p (l .sources) (k .sources) (m .by-sources) (n .by-sources) (ap (λ (x : Res Done). map sourceNumbers (sourceList x)) same);
       sourceFloats = columns-same (replicate 2 zeroF) sourceFloatColumn (λ x. map sourceFloats (sourceList x)) (λ x. column-place sourceFloats (replicate 2 zeroF) (sourceList x)) o p (l .sourceFloats) (k .sourceFloats) (m .by-sourceFloats) (n .by-sourceFloats) (ap (λ (x : Res Done). map sourceFloats (sourceList x)) same);
     }
-  where
-    o : Res Done
-    o = outcome b l
 
-    p : Res Done
-    p = outcome b k
-
-    same : o ≡ p
-    same = sym (unless-so Room 7 (λ x. refl) (more-lent b l k w) (λ e. h (m .by-number ∙ e)))
+-- "More room": lists k lend at least as much as l in every column: a result that is not 7 ROOM is the same with more, in number, place,
+-- counts and every column, with zeros behind
+pub more-room-given : (b : List ℕ) (l k : Lent) (r s : Result) → Longer l k → Meets b l r → Meets b k s → (r .number ≡ 7 → ⊥) → SameResult r s
+more-room-given b l k r s w m n h =
+    same-result (outcome b l) (outcome b k) l k r s (sym (unless-so Room 7 (λ x. refl) (more-lent b l k w) (λ e. h (m .by-number ∙ e)))) m n

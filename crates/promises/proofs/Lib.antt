@@ -32,3 +32,7 @@ pub mod Floats
 pub mod Numbers
 pub mod Shown
 pub mod Unused
+pub mod Pilots
+pub mod PoolRows
+pub mod Files
+pub mod PilotsGiven

@@ -54,6 +54,14 @@ module _ (k : Book) (f g : Fit) (q p : Rooms) (sound : Sound f) (same : SameButA
 
 -- ---- any bytes
 
+numbered : (b : List ℕ) (ps : List (List ℕ)) (j : ℕ) → j < length (fitOf b ps .objects) → object (fitOf b ps) j .number ≡ j
+unfolding fitOf
+numbered b ps j m = sym (ap (λ (o : Item). o .number) (table-at objectFrom 6 b ps j (rw (table-length objectFrom 6 b ps) at m) noItem))
+
+-- a fit whose tables are good is sound, of any bytes and pairs
+pub fit-sound : (b : List ℕ) (ps : List (List ℕ)) → fitBad (fitOf b ps) ≡ none → Sound (fitOf b ps)
+fit-sound b ps good = record { objects = objects-good (fitOf b ps) good; bases = bases-good (fitOf b ps) good; numbered = numbered b ps }
+
 -- a sheet that is not refused for its shape is sound, and its run is what comes back
 module _ (b : List ℕ) (l : Lent) (d : Done) (h : outcome b l ≡ ok d) where
   no-table-bad : badShape b ≡ none
@@ -98,12 +106,8 @@ module _ (b : List ℕ) (l : Lent) (d : Done) (h : outcome b l ≡ ok d) where
       by true (some n) e = let z : _≡_ {A = ℕ} 0 1 = cc in absurd (omega arith)
       by false u e = let z : _≡_ {A = ℕ} 0 1 = cc in absurd (omega arith)
 
-  numbered : (j : ℕ) → j < length (fitIn b .objects) → object (fitIn b) j .number ≡ j
-  unfolding fitOf
-  numbered j m = sym (ap (λ (o : Item). o .number) (table-at objectFrom 6 b (pairsOf b) j (rw (table-length objectFrom 6 b (pairsOf b)) at m) noItem))
-
   pub sheet-sound : Sound (fitIn b)
-  sheet-sound = record { objects = objects-good (fitIn b) fit-good; bases = bases-good (fitIn b) fit-good; numbered = numbered }
+  sheet-sound = fit-sound b (pairsOf b) fit-good
 
 -- ---- the theorems
 

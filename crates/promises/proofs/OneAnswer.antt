@@ -11,7 +11,7 @@ use Rattle.rules.specs.declared.Answer.{Answer}
 use Rattle.rules.specs.declared.Answer.the-variants as answer
 use Rattle.rules.specs.declared.Refusal.{Refusal}
 use Rattle.rules.specs.declared.Refusal.the-variants.{Shape, Func, Domain, Category, Operation, Other, Room, Number, Depth}
-use Rattle.promises.specs.Result.{Result, resultFor, Meets}
+use Rattle.promises.specs.Result.{Result, resultFor, MeetsFor, Meets}
 use Rattle.promises.specs.Zeros.{Empty}
 
 -- the numbers are 0 to 9
@@ -45,16 +45,20 @@ empty x l =
       sourceFloats = column-none _ _ (l .sourceFloats);
     }
 
+-- what meets an outcome is what comes back of it
+pub is-the-one-for : (o : Res Done) (l : Lent) (r : Result) → MeetsFor o l r → r ≡ resultFor o l
+is-the-one-for o l r m =
+    let whole : record { number = r .number; place = r .place; counts = r .counts; states = r .states; collected = r .collected; collectedValues = r .collectedValues; rows = r .rows; bases = r .bases; values = r .values; entries = r .entries; entryValues = r .entryValues; plain = r .plain; sources = r .sources; sourceFloats = r .sourceFloats } ≡ resultFor o l =
+    rw (m .by-number, m .by-place, m .by-counts, m .by-states, m .by-collected, m .by-collectedValues, m .by-rows, m .by-bases, m .by-values, m .by-entries, m .by-entryValues, m .by-plain, m .by-sources, m .by-sourceFloats) refl in
+    whole
+
 module _ (b : List ℕ) (l : Lent) where
   -- demand 1: one of ten
   pub one-of-ten : (r : Result) → Meets b l r → r .number < 10
   one-of-ten r m = subst (λ (n : ℕ). n < 10) (sym (m .by-number)) (ten (answerOf (outcome b l)))
 
   pub is-the-one : (r : Result) → Meets b l r → r ≡ resultFor (outcome b l) l
-  is-the-one r m =
-      let whole : record { number = r .number; place = r .place; counts = r .counts; states = r .states; collected = r .collected; collectedValues = r .collectedValues; rows = r .rows; bases = r .bases; values = r .values; entries = r .entries; entryValues = r .entryValues; plain = r .plain; sources = r .sources; sourceFloats = r .sourceFloats } ≡ resultFor (outcome b l) l =
-      rw (m .by-number, m .by-place, m .by-counts, m .by-states, m .by-collected, m .by-collectedValues, m .by-rows, m .by-bases, m .by-values, m .by-entries, m .by-entryValues, m .by-plain, m .by-sources, m .by-sourceFloats) refl in
-      whole
+  is-the-one r m = is-the-one-for (outcome b l) l r m
 
   -- "any pair of results that satisfy it is shown identical"
   pub one-answer : (r s : Result) → Meets b l r → Meets b l s → r ≡ s

@@ -102,7 +102,7 @@ more-room k f q r h =
     copied : Unless Room (full (cond (leb base (q .rows)) none (some 2))) (full (cond (leb base (r .rows)) none (some 2)))
     copied = roomier (λ t. full (cond t none (some 2))) (λ t. full (cond t none (some 2))) (leb base (q .rows)) (leb base (r .rows)) 2 (leb-more base (q .rows) (r .rows) (h .rows)) refl (the-same refl)
 
-rooms-wider : (l m : Lent) → Longer l m → Wider (roomsOf l) (roomsOf m)
+pub rooms-wider : (l m : Lent) → Longer l m → Wider (roomsOf l) (roomsOf m)
 rooms-wider l m h =
     record {
       collected = omega (arith, h .collected, h .collectedValues);

@@ -1,6 +1,5 @@
 -- "More depth" of a sheet's bytes: the sheet with a larger depth reads as the same book, and as the same fit with that depth.
 use Prim.Native.Nat.{ℕ, zero, suc, _+_, _-_, _*_, _≤_, _<_}
-use native.Mathlib.Nat.{zero-add}
 use native.Mathlib.Omega.{arith}
 use mathlib.Core.Path.{_≡_, refl, sym, ap, _∙_}
 use mathlib.Core.Bool.{Bool, true, false, _&&_}
@@ -9,37 +8,24 @@ use mathlib.Core.Option.{Option, none, some}
 use lib.Dec.{leb, eqb}
 use lib.ListN.{length, getD, take, drop}
 use lib.Seq.{getD-take, getD-drop, drop-drop}
-use borrow.Author.Tests.{le-leb, eqb-true}
+use borrow.Author.Tests.{le-leb}
 use Rattle.laws.specs.Lists.{from, every?}
 use Rattle.laws.proofs.Bools.{and-left, and-right}
-use Rattle.laws.proofs.Every.{every-at}
-use Rattle.laws.proofs.From.{from-at, table-same}
+use Rattle.laws.proofs.From.{table-same}
 use Rattle.laws.proofs.Maps.{map-same}
-use Rattle.rules.specs.Bytes.{u32At, pairsOf, countOf, offsetOf, widthOf, limitOf, recordAt}
+use Rattle.rules.specs.Bytes.{u32At, pairsOf, countOf, offsetOf, widthOf, recordAt}
 use Rattle.rules.specs.Sheet.{Book, Fit, table, bookOf, fitOf}
 use Rattle.rules.specs.Answer.{Res, refused}
 use Rattle.rules.specs.Outcome.{Lent, Done, roomsOf, run, outcome}
 use Rattle.rules.specs.declared.Refusal.the-variants.{Shape, Depth}
 use Rattle.rules.specs.Shape.{endOf, placed, headerGood, objectGood, objectsGood, basesGood, buffsGood, asksGood, bookBad, fitBad, badShape}
+use Rattle.rules.proofs.Places.{after-header, at-80, at-92}
 use Rattle.promises.specs.Unless.{Unless, the-same, withDepth}
 use Rattle.promises.specs.Sheets.{Deeper}
 use Rattle.promises.proofs.Depth.{more-depth}
 
 pub second : (x y z u v w : Bool) → x && y && z && u && v && w ≡ true → y ≡ true
 second x y z u v w e = and-right x y (and-left (x && y) z (and-left (x && y && z) u (and-left (x && y && z && u) v (and-left (x && y && z && u && v) w e))))
-
--- tables stand after the header
-pub after-header : (ps : List (List ℕ)) → every? (placed ps) (from 0 10) ≡ true → (t : ℕ) → t < 10 → 100 ≤ offsetOf ps (suc t)
-after-header ps h t l = by t l (at t l)
-  where
-    at : (t : ℕ) → t < 10 → offsetOf ps (suc t) ≡ endOf ps t
-    at t l =
-        let stands : placed ps t ≡ true = ap (placed ps) (sym (from-at 0 10 t 0 l ∙ zero-add t)) ∙ every-at (placed ps) (from 0 10) t 0 h l in
-        eqb-true (offsetOf ps (suc t)) (endOf ps t) (and-right (leb (countOf ps (suc t)) (limitOf (suc t))) (eqb (offsetOf ps (suc t)) (endOf ps t)) stands)
-
-    by : (t : ℕ) → t < 10 → offsetOf ps (suc t) ≡ endOf ps t → 100 ≤ offsetOf ps (suc t)
-    by zero l e = omega (arith, e)
-    by (suc t) l e = let n : 100 ≤ offsetOf ps (suc t) = by t (omega arith) (at t (omega arith)) in omega (arith, e, n)
 
 module _ (b c : List ℕ) (s : Deeper b c) where
   byte-same : (i : ℕ) → i < 92 → getD c i 0 ≡ getD b i 0
@@ -79,20 +65,20 @@ module _ (b c : List ℕ) (s : Deeper b c) where
   header-same = ap (headerGood c) pairs-same ∙ header-at (pairsOf b)
 
   module _ (ps : List (List ℕ)) (good : headerGood b ps ≡ true) where
-    behind : (t : ℕ) → t < 10 → 96 ≤ offsetOf ps (suc t)
+    placed-all : every? (placed ps) (from 0 10) ≡ true
     unfolding headerGood
-    behind t l =
-        let first : every? (placed ps) (from 0 10) ≡ true = second (leb 100 (length b)) (every? (placed ps) (from 0 10)) (eqb (endOf ps 10) (length b)) (leb 1 (u32At b 92)) (leb (u32At b 92) 256) (leb (u32At b 96) 1) good in
-        let far : 100 ≤ offsetOf ps (suc t) = after-header ps first t l in
-        omega (arith, far)
+    placed-all = second (leb 100 (length b)) (every? (placed ps) (from 0 10)) (eqb (endOf ps 10) (length b)) (leb 1 (u32At b 92)) (leb (u32At b 92) 256) (leb (u32At b 96) 1) good
+
+    behind : (t : ℕ) → t < 10 → 96 ≤ offsetOf ps (suc t)
+    behind t l = let far : 100 ≤ offsetOf ps (suc t) = after-header ps placed-all t l in omega (arith, far)
 
     book-at : bookOf c ps ≡ bookOf b ps
     unfolding bookOf
-    book-at = rw (word-same 80 (omega arith), word-same 84 (omega arith), word-same 88 (omega arith), read-same ps 1 (behind 0 (omega arith)), read-same ps 2 (behind 1 (omega arith)), read-same ps 3 (behind 2 (omega arith)), read-same ps 4 (behind 3 (omega arith)), read-same ps 5 (behind 4 (omega arith))) refl
+    book-at = rw (at-80 ps placed-all, word-same 80 (omega arith), word-same 84 (omega arith), word-same 88 (omega arith), read-same ps 1 (behind 0 (omega arith)), read-same ps 2 (behind 1 (omega arith)), read-same ps 3 (behind 2 (omega arith)), read-same ps 4 (behind 3 (omega arith)), read-same ps 5 (behind 4 (omega arith))) refl
 
     fit-at : fitOf c ps ≡ withDepth (u32At c 92) (fitOf b ps)
     unfolding fitOf
-    fit-at = rw (recording-same, read-same ps 6 (behind 5 (omega arith)), read-same ps 7 (behind 6 (omega arith)), read-same ps 8 (behind 7 (omega arith)), read-same ps 9 (behind 8 (omega arith)), read-same ps 10 (behind 9 (omega arith))) refl
+    fit-at = rw (at-92 ps placed-all, recording-same, read-same ps 6 (behind 5 (omega arith)), read-same ps 7 (behind 6 (omega arith)), read-same ps 8 (behind 7 (omega arith)), read-same ps 9 (behind 8 (omega arith)), read-same ps 10 (behind 9 (omega arith))) refl
 
   book-same : headerGood b (pairsOf b) ≡ true → bookOf c (pairsOf c) ≡ bookOf b (pairsOf b)
   book-same good = ap (bookOf c) pairs-same ∙ book-at (pairsOf b) good
@@ -100,9 +86,9 @@ module _ (b c : List ℕ) (s : Deeper b c) where
   fit-same : headerGood b (pairsOf b) ≡ true → fitOf c (pairsOf c) ≡ withDepth (u32At c 92) (fitOf b (pairsOf b))
   fit-same good = ap (fitOf c) pairs-same ∙ fit-at (pairsOf b) good
 
-  deeper : fitOf b (pairsOf b) .depth ≤ u32At c 92
+  deeper : headerGood b (pairsOf b) ≡ true → fitOf b (pairsOf b) .depth ≤ u32At c 92
   unfolding fitOf
-  deeper = s .more
+  deeper good = rw (at-92 (pairsOf b) (placed-all (pairsOf b) good)) (s .more)
 
 -- an outcome by whether the header is good, and what the bytes read as
 abbrev bad : Bool → Book → Fit → Option ℕ
@@ -132,4 +118,4 @@ more-depth-sheet b c l s = by (headerGood b (pairsOf b)) refl
   where
     by : (t : Bool) → headerGood b (pairsOf b) ≡ t → Unless Depth (outcome b l) (outcome c l)
     by false e = the-same (outcome-by c l false (header-same b c s ∙ e) ∙ sym (outcome-by b l false e))
-    by true e = rw (outcome-by b l true e, outcome-by c l true (header-same b c s ∙ e), book-same b c s e, fit-same b c s e) (good-header (bookOf b (pairsOf b)) (fitOf b (pairsOf b)) (u32At c 92) (deeper b c s) l)
+    by true e = rw (outcome-by b l true e, outcome-by c l true (header-same b c s ∙ e), book-same b c s e, fit-same b c s e) (good-header (bookOf b (pairsOf b)) (fitOf b (pairsOf b)) (u32At c 92) (deeper b c s e) l)

@@ -7,3 +7,6 @@ pub mod NoMemory
 pub mod Given
 pub mod Numbers
 pub mod Shown
+pub mod Pilots
+pub mod PoolRows
+pub mod Files

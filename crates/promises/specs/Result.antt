@@ -43,19 +43,23 @@ resultFor o l =
       sourceFloats = sourceFloatColumn o (l .sourceFloats);
     }
 
+-- r is what the outcome o gives, with these lists lent
+pub record MeetsFor (o : Res Done) (l : Lent) (r : Result) : Type 0 where
+  pub by-number : r .number ≡ number (answerOf o)
+  pub by-place : r .place ≡ place (answerOf o)
+  pub by-counts : r .counts ≡ countsOf o
+  pub by-states : r .states ≡ stateColumn o
+  pub by-collected : r .collected ≡ collectedColumn o (l .collected)
+  pub by-collectedValues : r .collectedValues ≡ collectedValueColumn o (l .collectedValues)
+  pub by-rows : r .rows ≡ rowColumn o (l .rows)
+  pub by-bases : r .bases ≡ baseColumn o (l .bases)
+  pub by-values : r .values ≡ valueColumn o (l .values)
+  pub by-entries : r .entries ≡ entryColumn o (l .entries)
+  pub by-entryValues : r .entryValues ≡ entryValueColumn o (l .entryValues)
+  pub by-plain : r .plain ≡ plainColumn o (l .plain)
+  pub by-sources : r .sources ≡ sourceColumn o (l .sources)
+  pub by-sourceFloats : r .sourceFloats ≡ sourceFloatColumn o (l .sourceFloats)
+
 -- r is what the definition gives for the bytes and the lists lent
-pub record Meets (b : List ℕ) (l : Lent) (r : Result) : Type 0 where
-  pub by-number : r .number ≡ number (answerOf (outcome b l))
-  pub by-place : r .place ≡ place (answerOf (outcome b l))
-  pub by-counts : r .counts ≡ countsOf (outcome b l)
-  pub by-states : r .states ≡ stateColumn (outcome b l)
-  pub by-collected : r .collected ≡ collectedColumn (outcome b l) (l .collected)
-  pub by-collectedValues : r .collectedValues ≡ collectedValueColumn (outcome b l) (l .collectedValues)
-  pub by-rows : r .rows ≡ rowColumn (outcome b l) (l .rows)
-  pub by-bases : r .bases ≡ baseColumn (outcome b l) (l .bases)
-  pub by-values : r .values ≡ valueColumn (outcome b l) (l .values)
-  pub by-entries : r .entries ≡ entryColumn (outcome b l) (l .entries)
-  pub by-entryValues : r .entryValues ≡ entryValueColumn (outcome b l) (l .entryValues)
-  pub by-plain : r .plain ≡ plainColumn (outcome b l) (l .plain)
-  pub by-sources : r .sources ≡ sourceColumn (outcome b l) (l .sources)
-  pub by-sourceFloats : r .sourceFloats ≡ sourceFloatColumn (outcome b l) (l .sourceFloats)
+abbrev pub Meets : List ℕ → Lent → Result → Type 0
+Meets b l r = MeetsFor (outcome b l) l r

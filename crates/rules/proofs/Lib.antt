@@ -12,3 +12,6 @@ pub mod States
 pub mod Grey
 pub mod Nearest
 pub mod Rounding
+pub mod Pools
+pub mod MarkedPilots
+pub mod Places

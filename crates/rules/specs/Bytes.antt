@@ -1,6 +1,8 @@
 -- Numbers in a sheet's bytes, and its header. 01, "The sheet".
 use Prim.Native.Nat.{ℕ, _+_, _*_, _-_, _^_}
+use mathlib.Core.Bool.{cond}
 use mathlib.Core.List.{List, [], _∷_, map}
+use lib.Dec.{eqb}
 use lib.ListN.{getD, take, drop}
 use lib.IntN.{ℤ}
 use lib.Ieee.{Float, binary64, ofBits}
@@ -37,6 +39,14 @@ countOf pairs t = getD (getD pairs (t - 1) []) 0 0
 
 abbrev pub offsetOf : List (List ℕ) → ℕ → ℕ
 offsetOf pairs t = getD (getD pairs (t - 1) []) 1 0
+
+-- the three category numbers stand after a sheet's ten pairs, or after a book's five (M-106): a book's first table begins at 52
+abbrev pub categoriesAt : List (List ℕ) → ℕ
+categoriesAt pairs = cond (eqb (offsetOf pairs 1) 52) 40 80
+
+-- depth and recording stand after these, or after a fit's five pairs: a fit's first table begins at 48, where no sheet has one
+abbrev pub depthAt : List (List ℕ) → ℕ
+depthAt pairs = cond (eqb (offsetOf pairs 6) 48) 40 92
 
 -- bytes of a record: "Fields are 4 bytes, floats 8"
 abbrev pub widthOf : ℕ → ℕ

@@ -16,3 +16,5 @@ pub mod Outcome
 pub mod Columns
 pub mod Listing
 pub mod Fresh
+pub mod Pool
+pub mod Files

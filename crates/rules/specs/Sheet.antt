@@ -1,10 +1,10 @@
 -- The ten tables: tables 1 to 5 and the category numbers are the book, tables 6 to 10, depth and recording the fit. 01, "The sheet".
 -- Nothing here says that a sheet is well formed: see Shape.
-use Prim.Native.Nat.{ℕ}
+use Prim.Native.Nat.{ℕ, _+_}
 use mathlib.Core.List.{List, map}
 use lib.IntN.{ℤ}
 use Rattle.laws.specs.Lists.{from, span}
-use Rattle.rules.specs.Bytes.{u32At, i32At, f64At, countOf, recordAt}
+use Rattle.rules.specs.Bytes.{u32At, i32At, f64At, countOf, categoriesAt, depthAt, recordAt}
 use Rattle.rules.specs.declared.DogmaAttribute.{DogmaAttribute}
 use Rattle.rules.specs.declared.DogmaEffect.{DogmaEffect}
 use Rattle.rules.specs.declared.DogmaModifier.{DogmaModifier}
@@ -125,9 +125,9 @@ table read t b pairs = map (λ k. read k (recordAt b pairs t k)) (from 0 (countO
 unfoldable pub bookOf : List ℕ → List (List ℕ) → Book
 bookOf b pairs =
     record {
-      modules = i32At b 80;
-      subsystems = i32At b 84;
-      structureModules = i32At b 88;
+      modules = i32At b (categoriesAt pairs);
+      subsystems = i32At b (categoriesAt pairs + 4);
+      structureModules = i32At b (categoriesAt pairs + 8);
       attributes = table attributeFrom 1 b pairs;
       effects = table effectFrom 2 b pairs;
       modifiers = table modifierFrom 3 b pairs;
@@ -139,8 +139,8 @@ bookOf b pairs =
 unfoldable pub fitOf : List ℕ → List (List ℕ) → Fit
 fitOf b pairs =
     record {
-      depth = u32At b 92;
-      recording = u32At b 96;
+      depth = u32At b (depthAt pairs);
+      recording = u32At b (depthAt pairs + 4);
       objects = table objectFrom 6 b pairs;
       bases = table baseFrom 7 b pairs;
       ids = table idFrom 8 b pairs;

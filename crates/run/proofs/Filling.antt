@@ -1,5 +1,5 @@
 -- What the parts of a run ask for and give: the rooms, the lists, the values.
-use Prim.Native.Nat.{ℕ, _≤_, _<_, _^_, min}
+use Prim.Native.Nat.{ℕ, _+_, _≤_, _<_, _^_, min}
 use native.Mathlib.Omega.{arith}
 use mathlib.Core.Path.{_≡_, sym, ap, _∙_, subst}
 use mathlib.Core.Bool.{Bool}
@@ -7,7 +7,7 @@ use mathlib.Core.List.{List}
 use lib.Dec.{eqb}
 use lib.ListN.{length}
 use Rattle.rules.specs.Answer.{ok, refused}
-use Rattle.rules.specs.Bytes.{countOf, u32At}
+use Rattle.rules.specs.Bytes.{countOf, u32At, depthAt}
 use Rattle.rules.specs.Sheet.{Book, Fit, bookOf, fitOf}
 use Rattle.rules.specs.Outcome.{Rooms, worldOf, startsOf, blank, valued, run, roomsOf, counted, rowsIn}
 use Rattle.rules.specs.declared.Refusal.{Refusal}
@@ -92,13 +92,13 @@ module _ (c : Columns) (s : given.ListRooms) (m : Measured c s) where
 
 -- ---- the lists, then the values
 
-pub recorded : (b : List ℕ) (p : List (List ℕ)) {n : ℕ} → n ≡ u32At b 96 → eqb n 1 ≡ eqb (fitOf b p .recording) 1
+pub recorded : (b : List ℕ) (p : List (List ℕ)) {n : ℕ} → n ≡ u32At b (depthAt p + 4) → eqb n 1 ≡ eqb (fitOf b p .recording) 1
 unfolding fitOf
 recorded b p e = ap (λ (x : ℕ). eqb x 1) e
 
-module _ (b : List ℕ) (p : List (List ℕ)) (sf : SoundFit b p) (c₀ c : Columns) (s : given.ListRooms) (m : Measured c₀ s) (r st : List (List ℕ)) (l : Listed) where
+module _ (a b : List ℕ) (p : List (List ℕ)) (sf : SoundFit b p) (c₀ c : Columns) (s : given.ListRooms) (m : Measured c₀ s) (r st : List (List ℕ)) (l : Listed) where
   abbrev k : Book
-  k = bookOf b p
+  k = bookOf a p
 
   abbrev f : Fit
   f = fitOf b p

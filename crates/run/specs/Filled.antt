@@ -13,7 +13,11 @@ use Rattle.laws.specs.Floats.{zeroF}
 use Rattle.laws.specs.Lists.{flat}
 use Rattle.rules.specs.Answer.{Res, ok, refused}
 use Rattle.rules.specs.Columns.{collectedNumbers, rowsNumbers, entryNumbers, originValue, plainNumbers, sourceNumbers, sourceFloats}
-use Rattle.rules.specs.Outcome.{Lent, Done}
+use Rattle.rules.specs.Outcome.{Lent, Rooms, Done, run}
+use Rattle.rules.specs.Sheet.{Book, Fit}
+use Rattle.rules.specs.declared.Refusal.the-variants.{Shape}
+use Rattle.shape.specs.declared.Shaped.{Shaped}
+use Rattle.shape.specs.declared.Shaped.the-variants.{Sound, Bad}
 use Rattle.clear.specs.declared.KeptCounts.{KeptCounts}
 use Rattle.run.specs.declared.lists.ListCounts as lists
 use Rattle.values.specs.declared.walk.Valued.{Valued}
@@ -107,3 +111,8 @@ abbrev pub ranBy : Valued → lists.ListCounts → ℕ → Ran
 ranBy (valued.At used) n objects =
     ran.Done (record { objects = objects; collected = n .collected; rows = n .rows; entries = n .entries; plain = n .plain; sources = used })
 ranBy (valued.Refused y) n objects = ran.Refused y
+
+-- what is sound is run; a bad table is refused
+abbrev pub decided : Shaped → Book → Fit → Rooms → Res Done
+decided Sound k f q = run k f q
+decided (Bad t) k f q = refused (Shape t)

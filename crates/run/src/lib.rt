@@ -83,18 +83,19 @@ pub fn fill(
     plain: &mut [PlainRow],
     sources: &mut [SourceRow],
     source_values: &mut [SourceFloats],
-    sheet: &[u8],
+    book: &[u8],
+    fit: &[u8],
     pairs: &TablePairs,
 ) -> Ran
-    requires sound_book { ⌜ SoundBook (now sheet) (now pairs) ⌝ }
-    requires sound_fit { ⌜ SoundFit (now sheet) (now pairs) ⌝ }
+    requires sound_book { ⌜ SoundBook (now book) (now pairs) ⌝ }
+    requires sound_fit { ⌜ SoundFit (now fit) (now pairs) ⌝ }
     ensures defined { λ r.
         let lists = lentColumns collected «collected_values» rows bases values entries «entry_values» plain sources «source_values» in
-        let k = bookOf (now (sheet .entry)) (now (pairs .entry)) in
-        let f = fitOf (now (sheet .entry)) (now (pairs .entry)) in
+        let k = bookOf (now (book .entry)) (now (pairs .entry)) in
+        let f = fitOf (now (fit .entry)) (now (pairs .entry)) in
         ⌜ RanAs (outcome.run k f (outcome.roomsOf (lentOf (lists .entry)))) r (now (states .exit)) (lists .entry) (lists .exit) ⌝ }
 {
-    correct_states(states, sheet, sheet, pairs);
+    correct_states(states, book, fit, pairs);
     let rooms = ListRooms {
         collected: room_of(collected.len(), collected_values.len()) as usize,
         rows: room_of(rows.len(), least_of(bases.len(), values.len())) as usize,
@@ -103,7 +104,7 @@ pub fn fill(
     };
     let run = Recording {
         room: room_of(sources.len(), source_values.len()),
-        recording: recording_of(sheet) == 1,
+        recording: recording_of(fit, pairs) == 1,
     };
     let listed = set_lists(
         collected,
@@ -113,8 +114,8 @@ pub fn fill(
         entries,
         entry_values,
         plain,
-        sheet,
-        sheet,
+        book,
+        fit,
         pairs,
         rooms,
     );
@@ -129,8 +130,8 @@ pub fn fill(
                 entries,
                 entry_values,
                 states,
-                sheet,
-                sheet,
+                book,
+                fit,
                 pairs,
                 n.rows,
                 run,

@@ -1,4 +1,4 @@
-// Any bytes: SHAPE, then a run (calculate.rs).
+// A verdict on the shape, then a run (calculate.rs).
 use super::Ran;
 use super::fill;
 use columns::AttributeRow;
@@ -8,14 +8,15 @@ use columns::PlainRow;
 use columns::SourceFloats;
 use columns::SourceRow;
 use columns::States;
-use info::header::pairs_of;
+use columns::TablePairs;
 use rules::Refusal;
 use shape::Shaped;
-use shape::shape;
 ghost use Rattle.rules.specs.Outcome as outcome;
-ghost use Rattle.run.specs.Filled.{lentColumns, lentOf, RanAs};
+ghost use Rattle.rules.specs.Sheet.{bookOf, fitOf};
+ghost use Rattle.shape.specs.Shaped.{SoundBy};
+ghost use Rattle.run.specs.Filled.{lentColumns, lentOf, RanAs, decided};
 
-// Any bytes, any lists: SHAPE comes first, then the run. After a refusal the columns may hold anything: who lent them clears them.
+// Any bytes that are judged, any lists: SHAPE's refusal, or the run. After a refusal the columns may hold anything: who lent them clears them.
 pub fn filled(
     states: &mut States,
     collected: &mut [CollectedRow],
@@ -28,17 +29,21 @@ pub fn filled(
     plain: &mut [PlainRow],
     sources: &mut [SourceRow],
     source_values: &mut [SourceFloats],
-    sheet: &[u8],
+    book: &[u8],
+    fit: &[u8],
+    pairs: &TablePairs,
+    verdict: Shaped,
 ) -> Ran
+    requires sound { ⌜ SoundBy verdict (now book) (now fit) (now pairs) ⌝ }
     ensures defined { λ r.
         let lists = lentColumns collected «collected_values» rows bases values entries «entry_values» plain sources «source_values» in
-        ⌜ RanAs (outcome.outcome (now (sheet .entry)) (lentOf (lists .entry))) r (now (states .exit)) (lists .entry) (lists .exit) ⌝ }
+        let k = bookOf (now (book .entry)) (now (pairs .entry)) in
+        let f = fitOf (now (fit .entry)) (now (pairs .entry)) in
+        ⌜ RanAs (decided verdict k f (outcome.roomsOf (lentOf (lists .entry)))) r (now (states .exit)) (lists .entry) (lists .exit) ⌝ }
 {
-    let verdict = shape(sheet);
     match verdict {
         Shaped::Bad(table) => Ran::Refused(Refusal::Shape(table)),
         Shaped::Sound => {
-            let pairs = pairs_of(sheet);
             fill(
                 states,
                 collected,
@@ -51,8 +56,9 @@ pub fn filled(
                 plain,
                 sources,
                 source_values,
-                sheet,
-                &pairs,
+                book,
+                fit,
+                pairs,
             )
         }
     }

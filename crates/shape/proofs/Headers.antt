@@ -12,8 +12,9 @@ use borrow.Author.Tests.{le-leb, lt-leb, eq-eqb, ne-eqb, leb-true, eqb-true}
 use Rattle.laws.specs.Lists.{from, every?}
 use Rattle.rules.specs.Bytes.{u32At, countOf, offsetOf, widthOf, limitOf}
 use Rattle.rules.specs.Shape.{endOf, placed, headerGood}
+use Rattle.rules.proofs.Places.{begins, at-80, at-92}
 use Rattle.info.specs.Sound.{Nth, Held, HeldBook, HeldFit}
-use Rattle.laws.proofs.Bools.{and-left, and-right, and-assoc}
+use Rattle.laws.proofs.Bools.{and-left, and-assoc}
 use Rattle.laws.proofs.Every.{every-at}
 use Rattle.laws.proofs.From.{from-at}
 use Rattle.shape.proofs.Scans.{scan, Scan, scan-all, scan-next, scan-failed}
@@ -25,7 +26,7 @@ nth {t} h d = sym (from-at 0 10 t d h ∙ zero-add t)
 each-table : (p : ℕ → Bool) → every? p (from 0 10) ≡ true → {t : ℕ} → t < 10 → p t ≡ true
 each-table p e {t} h = rw (← (nth h t)) at (every-at p (from 0 10) t t e h)
 
-at-most : (f : ℕ → ℕ) (m : ℕ) → every? (λ k. leb (f k) m) (from 0 10) ≡ true → {t : ℕ} → t < 10 → f t ≤ m
+pub at-most : (f : ℕ → ℕ) (m : ℕ) → every? (λ k. leb (f k) m) (from 0 10) ≡ true → {t : ℕ} → t < 10 → f t ≤ m
 at-most f m e {t} h = leb-true (f t) m (each-table (λ k. leb (f k) m) e h)
 
 module _ (pairs : List (List ℕ)) (n : ℕ) where
@@ -102,9 +103,6 @@ module _ (b : List ℕ) (pairs : List (List ℕ)) (good : headerGood b pairs ≡
   few : (t : ℕ) → t < 10 → countOf pairs (suc t) ≤ limitOf (suc t)
   few t h = leb-true _ _ (and-left (leb (countOf pairs (suc t)) (limitOf (suc t))) (eqb (offsetOf pairs (suc t)) (endOf pairs t)) (here-placed t h))
 
-  begins : (t : ℕ) → t < 10 → offsetOf pairs (suc t) ≡ endOf pairs t
-  begins t h = eqb-true _ _ (and-right (leb (countOf pairs (suc t)) (limitOf (suc t))) (eqb (offsetOf pairs (suc t)) (endOf pairs t)) (here-placed t h))
-
   -- the ends grow, and the last is the length
   ends-inside : (k t : ℕ) → t + k ≡ 10 → endOf pairs t ≤ length b
   ends-inside zero t e = rw (past) (omega (arith, eqb-true (endOf pairs 10) (length b) (parts .2)))
@@ -114,15 +112,18 @@ module _ (b : List ℕ) (pairs : List (List ℕ)) (good : headerGood b pairs ≡
   ends-inside (suc k) t e = le-trans (grows t (omega arith)) (ends-inside k (suc t) (omega arith))
     where
       grows : (u : ℕ) → u < 10 → endOf pairs u ≤ endOf pairs (suc u)
-      grows u h = rw (← (begins u h)) (le-add-right _ _)
+      grows u h = rw (← (begins pairs (parts .1) u h)) (le-add-right _ _)
 
   held : (k t : ℕ) → t + k ≡ 9 → Held b pairs (suc t)
   held k t e = record { within = ends-inside k (suc t) (omega arith); few = few t (omega arith) }
 
+  pub long : 100 ≤ length b
+  long = leb-true 100 (length b) (parts .0)
+
   pub held-book : HeldBook b pairs
   held-book =
       record {
-        header = leb-true 100 (length b) (parts .0);
+        header = omega (arith, at-80 pairs (parts .1), long);
         attributes = held 9 0 refl;
         effects = held 8 1 refl;
         modifiers = held 7 2 refl;
@@ -133,7 +134,7 @@ module _ (b : List ℕ) (pairs : List (List ℕ)) (good : headerGood b pairs ≡
   pub held-fit : HeldFit b pairs
   held-fit =
       record {
-        header = leb-true 100 (length b) (parts .0);
+        header = omega (arith, at-92 pairs (parts .1), long);
         objects = held 4 5 refl;
         bases = held 3 6 refl;
         ids = held 2 7 refl;

@@ -1,5 +1,5 @@
 -- The first bad table, from the verdicts on header, book and fit; and what a sheet without one gives.
-use Prim.Native.Nat.{ℕ, _<_}
+use Prim.Native.Nat.{ℕ, _≤_, _<_}
 use mathlib.Core.Path.{_≡_, refl, sym, ap, _∙_}
 use mathlib.Core.Bool.{Bool, true, false}
 use mathlib.Core.List.{List}
@@ -13,7 +13,7 @@ use Rattle.shape.specs.declared.Shaped.{Shaped}
 use Rattle.shape.specs.declared.Shaped.the-variants.{Sound, Bad}
 use Rattle.shape.specs.Shaped.{shapedOf}
 use Rattle.info.specs.Sound.{SoundBook, SoundFit}
-use Rattle.shape.proofs.Headers.{held-book, held-fit}
+use Rattle.shape.proofs.Headers.{long, held-book, held-fit}
 
 -- ---- what a verdict says
 
@@ -28,6 +28,14 @@ told-shaped (some t) = refl
 
 said : {r : Shaped} (o : Option ℕ) → r ≡ shapedOf o → o ≡ told r
 said o e = sym (told-shaped o) ∙ sym (ap told e)
+
+pub bad-said : (o : Option ℕ) {t : ℕ} → Bad t ≡ shapedOf o → o ≡ some t
+unfolding told
+bad-said o e = said o e
+
+pub sound-said : (o : Option ℕ) → Sound ≡ shapedOf o → o ≡ none
+unfolding told
+sound-said o e = said o e
 
 -- ---- from the verdicts on the parts to the sheet's, with the pairs p as they were read
 
@@ -66,8 +74,7 @@ module _ (b : List ℕ) where
 
   module _ (s : Sound ≡ shapedOf (badShape b)) where
     no-bad : badShape b ≡ none
-    unfolding told
-    no-bad = said (badShape b) s
+    no-bad = sound-said (badShape b) s
 
     good-header : (h : Bool) → headerGood b (pairsOf b) ≡ h → h ≡ true
     good-header true e = refl
@@ -75,6 +82,9 @@ module _ (b : List ℕ) where
 
     pub header-good : headerGood b (pairsOf b) ≡ true
     header-good = good-header (headerGood b (pairsOf b)) refl
+
+    pub sound-long : 100 ≤ length b
+    sound-long = long b (pairsOf b) header-good
 
     good-book : (o : Option ℕ) → bookBad (bookOf b (pairsOf b)) ≡ o → o ≡ none
     good-book none e = refl

@@ -9,10 +9,9 @@ use fit_tables::bases_good;
 use fit_tables::buffs_good;
 use fit_tables::objects_good;
 use info::header::count_of;
-use info::header::depth_of;
 use info::header::offset_of;
 use info::header::pairs_of;
-use info::header::recording_of;
+use info::little_endian::u32_at;
 ghost use mathlib.Core.Path.{_≡_};
 ghost use mathlib.Core.Bool.{_&&_};
 ghost use Prim.Native.Nat.{_≤_};
@@ -37,16 +36,18 @@ const WIDTHS: [usize; 10] = [24, 24, 28, 12, 16, 68, 12, 4, 12, 8];
 // Most records of each table.
 const LIMITS: [usize; 10] = [2048, 1024, 4096, 4096, 64, 1024, 16384, 4096, 64, 1024];
 
-fn width_of(t: usize) -> usize
-    requires { ⌜ (1 ≤ t) × (t ≤ 10) ⌝ }
-    ensures { λ r. ⌜ r ≡ widthOf t ⌝ }
+// Bytes of a record of a table.
+pub fn width_of(t: usize) -> usize
+    requires a_table { ⌜ (1 ≤ t) × (t ≤ 10) ⌝ }
+    ensures defined { λ r. ⌜ r ≡ widthOf t ⌝ }
 {
     WIDTHS[t - 1]
 }
 
-fn limit_of(t: usize) -> usize
-    requires { ⌜ (1 ≤ t) × (t ≤ 10) ⌝ }
-    ensures { λ r. ⌜ r ≡ limitOf t ⌝ }
+// The most records of a table.
+pub fn limit_of(t: usize) -> usize
+    requires a_table { ⌜ (1 ≤ t) × (t ≤ 10) ⌝ }
+    ensures defined { λ r. ⌜ r ≡ limitOf t ⌝ }
 {
     LIMITS[t - 1]
 }
@@ -79,8 +80,8 @@ pub fn header_good(b: &[u8], pairs: &TablePairs) -> bool
     ensures defined { λ r. ⌜ r ≡ headerGood (now (b .entry)) (now (pairs .entry)) ⌝ }
 {
     let tables = placed(pairs, b.len());
-    let depth = depth_of(b);
-    let recording = recording_of(b);
+    let depth = u32_at(b, 92);
+    let recording = u32_at(b, 96);
     tables & (1 <= depth) & (depth <= 256) & (recording <= 1)
 }
 

@@ -253,7 +253,7 @@ fn all_states(book: &[u8], fit: &[u8], pairs: &TablePairs) -> States
     requires { ⌜ SoundFit (now fit) (now pairs) ⌝ }
     ensures { λ r. ⌜ r ≡ rowsOf (bookAt book pairs) (fitAt fit pairs) ⌝ }
 {
-    let c = categories_of(book);
+    let c = categories_of(book, pairs);
     let structure = is_structure_fit(fit, pairs);
     let n = count_of(pairs, 6);
     let zeros = [0u32; STATE_WIDTH];

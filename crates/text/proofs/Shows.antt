@@ -15,6 +15,7 @@ use mir.Facts.{toZ-ofZ}
 use Rattle.laws.specs.Columns.{column}
 use Rattle.laws.specs.Floats.{zeroF}
 use Rattle.laws.proofs.Laid.{column-row}
+use Rattle.laws.proofs.Maps.{same-default}
 use Rattle.rules.specs.Answer.{Res, ok, refused}
 use Rattle.rules.specs.Bytes.{bits, pairsOf}
 use Rattle.rules.specs.Collect.{moves}
@@ -32,7 +33,7 @@ use Rattle.reading.specs.Held.{noRow}
 use Rattle.values.proofs.Sheets.{sound-rows}
 use Rattle.values.proofs.Starts.{valued-grows}
 use Rattle.promises.specs.Result.{Result, Meets}
-use Rattle.promises.proofs.NoMemoryGoes.{passes, got}
+use Rattle.rules.proofs.Results.{got, then}
 use Rattle.calculate.proofs.Clearing.{numbers-length}
 use Rattle.listing.specs.Pieces.{Shown}
 
@@ -62,12 +63,6 @@ has-room enc z xs n e =
     let c = length-replicate (n - length xs) z in
     omega (arith, a, b, c, e)
 
--- past the last the same default
-same-default : {A : Type 0} (xs : List A) (i : ℕ) (a b : A) → i < length xs → getD xs i a ≡ getD xs i b
-same-default [] i a b h = absurd (not-suc-le-zero h)
-same-default (x ∷ xs) zero a b h = refl
-same-default (x ∷ xs) (suc i) a b h = same-default xs i a b (le-of-suc-le-suc h)
-
 -- ---- a run that is done
 
 module _ (k : Book) (f : Fit) (q : Rooms) (d : Done) (e : run k f q ≡ ok d) where
@@ -82,10 +77,10 @@ module _ (k : Book) (f : Fit) (q : Rooms) (d : Done) (e : run k f q ≡ ok d) wh
   unfolding run
   ran =
       let base = length (baseKeys f) in
-      let a = passes (full (cond (leb base (q .rows)) none (some 2))) _ d e in
-      let b = passes (collected q 0 0 (moves k f)) _ d (a .rest) in
-      let c = passes (full (fullAt (q .rows) (q .entries) (baseKeys f) base 0 (hitKeys k f (collectedIn k f)))) _ d (b .rest) in
-      let m = passes (valued world (f .depth) (startsOf f (world .rows)) (blank (world .rows))) _ d (c .rest) in
+      let a = then (full (cond (leb base (q .rows)) none (some 2))) _ d e in
+      let b = then (collected q 0 0 (moves k f)) _ d (a .rest) in
+      let c = then (full (fullAt (q .rows) (q .entries) (baseKeys f) base 0 (hitKeys k f (collectedIn k f)))) _ d (b .rest) in
+      let m = then (valued world (f .depth) (startsOf f (world .rows)) (blank (world .rows))) _ d (c .rest) in
       record {
         long =
             ap (λ (x : Done). length (x .values)) (sym (got (m .rest)))

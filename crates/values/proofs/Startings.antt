@@ -11,7 +11,7 @@ use lib.Seq.{take-all}
 use Rattle.laws.proofs.Every.{every-at}
 use Rattle.laws.proofs.Maps.{take-next, map-at}
 use Rattle.rules.specs.Answer.{Res, ok, refused, _>>=_}
-use Rattle.rules.specs.Bytes.{u32At}
+use Rattle.rules.specs.Bytes.{u32At, depthAt}
 use Rattle.rules.specs.Dispatch.{Row}
 use Rattle.rules.specs.Outcome.{valued, walkOrder}
 use Rattle.rules.specs.Sheet.{Fit, fitOf}
@@ -94,7 +94,7 @@ module _ {t : Tables} {run : Recording} {v₀ : List Float} {s₁ : List (List �
 
 -- ---- the sheet's depth, and an ask's object
 
-pub depth-is : (b : List ℕ) (pairs : List (List ℕ)) {d : ℕ} → d ≡ u32At b 92 → fitOf b pairs .depth ≡ d
+pub depth-is : (b : List ℕ) (pairs : List (List ℕ)) {d : ℕ} → d ≡ u32At b (depthAt pairs) → fitOf b pairs .depth ≡ d
 unfolding fitOf
 depth-is b pairs e = sym e
 

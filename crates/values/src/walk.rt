@@ -68,7 +68,7 @@ fn asks(
         ⌜ StartsGive t values sources floats run r (λ w. valued w (f .depth) (f .asks)) ⌝ }
 {
     let n = count_of(pairs, TABLE_ASKS);
-    let depth = depth_of(fit);
+    let depth = depth_of(fit, pairs);
     let mut used: u32 = 0;
     let mut i: usize = 0;
     while i < n {
@@ -203,7 +203,7 @@ fn walk(
         ⌜ WalkGives t values sources floats run before fit r (λ w. valued w (f .depth) (map askOf (walkOrder (f .objects) (w .rows)))) ⌝ }
 {
     let n = rows.len();
-    let depth = depth_of(fit);
+    let depth = depth_of(fit, pairs);
     let turns = turns_of(rows, fit, pairs);
     let mut used = before;
     let mut k: usize = 0;

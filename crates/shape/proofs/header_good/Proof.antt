@@ -9,4 +9,4 @@ use Rattle.rules.specs.Shape.{headerGood}
 pub header-good-spec : {M : Type 1} → statement M
 unfolding headerGood
 header-good-spec =
-    tie.close (tie.spec (λ c κs. search needs) (λ c κs. search needs) (λ c κs. search needs) (λ c. rw (c .before .before .placed .ensures, c .before .depth-of .ensures, c .recording-of .ensures, le-leb 100 _ (c .before .before .before .before .pre)) (search needs)))
+    tie.close (tie.spec (λ c κs. search needs) (λ c κs. search needs) (λ c κs. search needs) (λ c. rw (c .before .before .placed .ensures, c .before .u32-at .ensures, c .u32-at2 .ensures, le-leb 100 _ (c .before .before .before .before .pre)) (search needs)))

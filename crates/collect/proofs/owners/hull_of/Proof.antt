@@ -6,4 +6,4 @@ use Rattle.collect.proofs.owners.hull_of.Tie as tie
 
 pub hull-of-spec : {M : Type 1} → statement M
 hull-of-spec =
-    tie.close (tie.spec (λ c κs. search needs) (λ c κs. search needs) (λ c κs. search needs) (λ c. record { categories = c .before .before .categories-of .ensures (c .before .before .before .before .before .args .pairs .now); structure = c .before .is-structure-fit .ensures; character = c .char-of .ensures }))
+    tie.close (tie.spec (λ c κs. search needs) (λ c κs. search needs) (λ c κs. search needs) (λ c. record { categories = c .before .before .categories-of .ensures; structure = c .before .is-structure-fit .ensures; character = c .char-of .ensures }))

@@ -15,4 +15,4 @@ categories-of-spec =
     (λ c κs. search needs)
     (λ c κs. search needs)
     (λ c κs. search needs)
-    (λ c. λ pairs. record { modules = kept (sfits-of (c .before .before .category-module .ok)) (c .before .before .category-module .ensures); subsystems = kept (sfits-of (c .before .category-subsystem .ok)) (c .before .category-subsystem .ensures); structureModules = kept (sfits-of (c .category-structure-module .ok)) (c .category-structure-module .ensures) }))
+    (λ c. record { modules = kept (sfits-of (c .before .before .category-module .ok)) (c .before .before .category-module .ensures); subsystems = kept (sfits-of (c .before .category-subsystem .ok)) (c .before .category-subsystem .ensures); structureModules = kept (sfits-of (c .category-structure-module .ok)) (c .category-structure-module .ensures) }))

@@ -1,0 +1,3 @@
+pub mod Backed
+pub mod Lends
+pub mod Lent
