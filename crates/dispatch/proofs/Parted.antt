@@ -14,14 +14,14 @@ use lib.Seq.{length-take-le, getD-take, take-at, take-all}
 use mir.Syntax.{w32}
 use mir.Val.{SFits, ofZ}
 use borrow.Author.Tests.{eq-eqb, ne-eqb, ltb-true}
-use Rattle.laws.specs.Lists.{eqZ, keep, some?, every?, flat, from, ascends, insert, insertAll}
+use Rattle.laws.specs.Lists.{eqZ, keep, some?, every?, flat, from, ascends, insert, insertAll, total}
 use Rattle.laws.specs.Columns.{laid, Col}
 use Rattle.laws.specs.Floats.{zeroF}
 use Rattle.laws.proofs.Bools.{and-left, and-right}
 use Rattle.laws.proofs.Maps.{map-same, map-map, map-take, map-at, map-itself}
 use Rattle.laws.proofs.Keep.{keep-map, every-kept}
 use Rattle.laws.proofs.Every.{every-at, every-by, every-map, every-weaker, every-take, every-drop, some-map, some-flat}
-use Rattle.laws.proofs.Flat.{total, flat-map, flat-length}
+use Rattle.laws.proofs.Flat.{flat-map, flat-length}
 use Rattle.laws.proofs.From.{table-of, table-same}
 use Rattle.laws.proofs.Order.{eqZ-sym}
 use Rattle.laws.proofs.Signs.{eqZ-bits}

@@ -9,10 +9,10 @@ use mathlib.Core.Logic.{_⊎_, inl, inr}
 use lib.IntN.{ℤ}
 use lib.ListN.{length}
 use lib.Signed.{ltZ}
-use Rattle.laws.specs.Lists.{eqZ, some?, every?, put, keep, flat, ascends}
+use Rattle.laws.specs.Lists.{eqZ, some?, every?, put, keep, flat, ascends, total}
 use Rattle.laws.proofs.Ascending.{ascends-head, ascends-tail}
 use Rattle.laws.proofs.Bools.{both-ways, true-or-false, not-passed, and-left, and-right}
-use Rattle.laws.proofs.Flat.{total, flat-append}
+use Rattle.laws.proofs.Flat.{flat-append}
 use Rattle.laws.proofs.Keep.{keep-append, keep-same, keep-keep, keep-nothing}
 use Rattle.laws.proofs.Order.{eqZ-true, eqZ-sym, ltZ-apart}
 use Rattle.rules.specs.Columns.{yes1}

@@ -7,12 +7,11 @@ use mathlib.Core.List.{List, [], _∷_, _++_, map, append-assoc}
 use lib.Dec.{eqb}
 use lib.IntN.{ℤ}
 use lib.ListN.{length, take, getD, replicate, length-append, length-map, List·getD-append}
-use Rattle.laws.specs.Lists.{eqZ, every?, put, keep, flat, span}
+use Rattle.laws.specs.Lists.{eqZ, every?, put, keep, flat, span, total}
 use Rattle.laws.specs.Floats.{finite}
 use Rattle.laws.specs.Columns.{column}
 use Rattle.laws.proofs.Bools.{and-left, and-right}
 use Rattle.laws.proofs.Every.{every-at, every-weaker, map-where}
-use Rattle.laws.proofs.Flat.{total}
 use Rattle.laws.proofs.Keep.{keep-map, keep-same}
 use Rattle.laws.proofs.Maps.{map-append, map-at, map-map, map-itself}
 use Rattle.laws.proofs.Spans.{span-between}
