@@ -20,6 +20,7 @@ use Rattle.clear.specs.Ends.{cleared}
 use Rattle.clear.specs.declared.KeptCounts as clear
 use Rattle.clear.proofs.Columned.{cleared-column, cleared-all, cleared-same}
 use Rattle.promises.specs.Result.{MeetsFor}
+use Rattle.promises.proofs.Ends.{numbers-length}
 use Rattle.run.specs.Filled.{Columns, lentOf, Filled, RanAs}
 use Rattle.calculate.specs.Given.{countsGiven, answerGiven, resultOf}
 use Rattle.calculate.specs.declared.Outcome.{Outcome}
@@ -33,12 +34,6 @@ held enc z xs {n = n} e k t = e ∙ cleared-column enc z xs n k t
 
 emptied : {R B : Type 0} (enc : R → B) (z : B) (c₀ c : List B) {c′ : List B} → c′ ≡ cleared z 0 c → length c ≡ length c₀ → c′ ≡ column enc z [] (length c₀)
 emptied enc z c₀ c e t = e ∙ cleared-all enc z c 0 refl ∙ ap (column enc z []) t
-
--- a row's numbers for each row
-pub numbers-length : (e s : ℕ) (rs : List Row) (qs : List (List Source)) → length (rowsNumbers e s rs qs) ≡ length rs
-numbers-length e s [] qs = refl
-numbers-length e s (r ∷ rs) [] = ap suc (numbers-length (e + length (r .entries)) s rs [])
-numbers-length e s (r ∷ rs) (q ∷ qs) = ap suc (numbers-length (e + length (r .entries)) (s + length q) rs qs)
 
 -- ---- all columns
 

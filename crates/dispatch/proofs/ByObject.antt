@@ -10,11 +10,11 @@ use lib.Dec.{eqb, ltb}
 use lib.IntN.{ℤ}
 use lib.ListN.{length, length-map}
 use borrow.Author.Tests.{eqb-true, eq-eqb, ne-eqb, ltb-true}
-use Rattle.laws.specs.Lists.{eqZ, keep, put, some?, every?, flat, from, ascends, insert, insertAll}
+use Rattle.laws.specs.Lists.{eqZ, keep, put, some?, every?, flat, from, ascends, insert, insertAll, total}
 use Rattle.laws.proofs.Bools.{true-or-false, same-test, both-ways, and-left, and-right}
 use Rattle.laws.proofs.Maps.{map-same, map-map}
 use Rattle.laws.proofs.Every.{some-map, some-flat, some-same}
-use Rattle.laws.proofs.Flat.{total, flat-length}
+use Rattle.laws.proofs.Flat.{flat-length}
 use Rattle.laws.proofs.From.{table-same, table-of}
 use Rattle.laws.proofs.Order.{eqZ-true, eqZ-refl}
 use Rattle.laws.proofs.Inserts.{insert-member, insert-length, insert-there, ascends-insert}

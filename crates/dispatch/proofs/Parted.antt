@@ -14,18 +14,18 @@ use lib.Seq.{length-take-le, getD-take, take-at, take-all}
 use mir.Syntax.{w32}
 use mir.Val.{SFits, ofZ}
 use borrow.Author.Tests.{eq-eqb, ne-eqb, ltb-true}
-use Rattle.laws.specs.Lists.{eqZ, keep, some?, every?, flat, from, ascends, insert, insertAll}
+use Rattle.laws.specs.Lists.{eqZ, keep, some?, every?, flat, from, ascends, insert, insertAll, total}
 use Rattle.laws.specs.Columns.{laid, Col}
 use Rattle.laws.specs.Floats.{zeroF}
 use Rattle.laws.proofs.Bools.{and-left, and-right}
 use Rattle.laws.proofs.Maps.{map-same, map-map, map-take, map-at, map-itself}
 use Rattle.laws.proofs.Keep.{keep-map, every-kept}
 use Rattle.laws.proofs.Every.{every-at, every-by, every-map, every-weaker, every-take, every-drop, some-map, some-flat}
-use Rattle.laws.proofs.Flat.{total, flat-map, flat-length}
+use Rattle.laws.proofs.Flat.{flat-map, flat-length}
 use Rattle.laws.proofs.From.{table-of, table-same}
 use Rattle.laws.proofs.Order.{eqZ-sym}
 use Rattle.laws.proofs.Signs.{eqZ-bits}
-use Rattle.laws.proofs.Inserts.{insert-every}
+use Rattle.laws.proofs.Inserts.{insertAll-every}
 use Rattle.rules.specs.Bytes.{bits, signed, u32At, countOf, recordAt}
 use Rattle.rules.specs.Sheet.{Book, Fit, fitOf, baseFrom, basesOf}
 use Rattle.rules.specs.Item.{object, noItem}
@@ -62,10 +62,6 @@ same-ids a w [] h = refl
 same-ids a w (x ∷ l) h =
     ap (λ (t : Bool). t || some? (λ y. eqb (bits y) (bits a)) l) (eqZ-bits {w = w32} x a (narrow-fits x (and-left (narrow? x) (every? narrow? l) h)) w ∙ eqZ-sym x a)
     ∙ ap (λ (t : Bool). eqZ a x || t) (same-ids a w l (and-right (narrow? x) (every? narrow? l) h))
-
-insertAll-every : (p : ℤ → Bool) (xs l : List ℤ) → every? p xs ≡ true → every? p l ≡ true → every? p (insertAll xs l) ≡ true
-insertAll-every p [] l h e = e
-insertAll-every p (x ∷ xs) l h e = insertAll-every p xs (insert x l) (and-right (p x) (every? p xs) h) (insert-every x p l (and-left (p x) (every? p xs) h) e)
 
 -- the row of a key among rows, by its numbers
 row-test : (o x e : ℕ) (rs : List Row) → some? (isRow o x) (rowsNumbers e 0 rs []) ≡ some? (λ r. eqb (r .object) o && eqb (bits (r .id)) x) rs

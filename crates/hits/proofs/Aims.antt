@@ -7,7 +7,7 @@ use mathlib.Core.List.{List}
 use lib.Dec.{eqb, leb, ltb}
 use lib.ListN.{length, getD}
 use borrow.Author.Tests.{eqb-true, eq-eqb, ne-eqb, leb-true, ltb-true, le-leb, lt-ltb, le-ltb}
-use Rattle.laws.proofs.Bools.{and-left, and-right, and-both, and-assoc, and-false-right, or-none-right, or-true-right, same-test}
+use Rattle.laws.proofs.Bools.{either, and-left, and-right, and-both, and-assoc, and-false-right, or-none-right, or-true-right, same-test}
 use Rattle.rules.specs.Sheet.{Book, Fit}
 use Rattle.rules.specs.Item.{object, isShip, isChar, isItem, isCharge, isSkill, isInShip, isOnChar, isOwnerModifiable, charOf}
 use Rattle.rules.specs.Dispatch.{carrier, inLocation, inSkillLocation}
@@ -20,7 +20,6 @@ use Rattle.hits.specs.declared.Test.the-variants.{All, Requiring}
 use Rattle.info.specs.Stands.{isFitted, Stands}
 use Rattle.hits.specs.Reach.{requiredBits, reachOf}
 use Rattle.hits.specs.Who.{askedOf, passesBy, within, meets, Aims, atLocation, charItems, bySkill, byOwner, alone, nobody}
-use Rattle.info.proofs.StandingLaws.{either}
 
 -- ---- an aim by a column, and one at a single object
 

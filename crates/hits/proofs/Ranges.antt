@@ -10,7 +10,7 @@ use lib.ListN.{length, getD}
 use borrow.Author.Tests.{le-leb, lt-leb, lt-ltb, le-ltb}
 use Rattle.laws.specs.Lists.{put, keep, from}
 use Rattle.laws.proofs.Bools.{and-false-right}
-use Rattle.laws.proofs.Keep.{keep-append, keep-keep, keep-map, keep-same}
+use Rattle.laws.proofs.Keep.{keep-append, keep-keep, keep-map, keep-same, keep-nothing}
 use Rattle.laws.proofs.Maps.{map-map}
 use Rattle.laws.proofs.From.{from-append, table-of}
 
@@ -18,10 +18,6 @@ use Rattle.laws.proofs.From.{from-append, table-of}
 pub keep-from-same : (p q : ℕ → Bool) (a n : ℕ) → ((i : ℕ) → a ≤ i → i < a + n → p i ≡ q i) → keep p (from a n) ≡ keep q (from a n)
 keep-from-same p q a zero e = refl
 keep-from-same p q a (suc n) e = rw (e a (omega arith) (omega arith), keep-from-same p q (suc a) n (λ i l m. e i (omega arith) (omega arith))) refl
-
-pub keep-nothing : {A : Type 0} (xs : List A) → keep (λ x. false) xs ≡ []
-keep-nothing [] = refl
-keep-nothing (x ∷ xs) = keep-nothing xs
 
 keep-from-none : (p : ℕ → Bool) (a n : ℕ) → ((i : ℕ) → a ≤ i → i < a + n → p i ≡ false) → keep p (from a n) ≡ []
 keep-from-none p a n e = keep-from-same p (λ i. false) a n e ∙ keep-nothing (from a n)

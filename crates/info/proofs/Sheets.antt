@@ -14,7 +14,7 @@ use mir.Val.{SFits}
 use borrow.Author.Tests.{eqb-true, eq-eqb, ne-eqb, leb-true, leb-false, le-leb}
 use Rattle.laws.specs.Lists.{ascends, every?}
 use Rattle.laws.specs.Floats.{finite}
-use Rattle.laws.proofs.Bools.{and-left, and-right, both-ways, same-test, true-or-false, not-failed}
+use Rattle.laws.proofs.Bools.{and-left, and-right, both-ways, either, same-test, true-or-false, not-failed}
 use Rattle.laws.proofs.Every.{every-at}
 use Rattle.rules.specs.Bytes.{u32At, recordAt}
 use Rattle.rules.specs.Sheet.{Fit, fitOf, objectFrom, basesOf}
@@ -26,7 +26,7 @@ use Rattle.rules.proofs.Verdicts.{bases-good}
 use Rattle.info.specs.declared.standing.Spans.{Spans}
 use Rattle.info.specs.Stands.{isFitted, FirstSkill, Sized, Stands}
 use Rattle.info.proofs.Narrow.{signed-narrow}
-use Rattle.info.proofs.StandingLaws.{Place, ship, mode, char, later, Standing, standing, either}
+use Rattle.info.proofs.StandingLaws.{Place, ship, mode, char, later, Standing, standing}
 
 bases-ascend : (f : Fit) → basesGood f ≡ true → (i : ℕ) → i < length (f .objects) → ascends (map (λ r. r .«attribute_id») (basesOf f (object f i))) ≡ true
 unfolding basesGood

@@ -8,7 +8,7 @@ use mathlib.Core.List.{List, [], _∷_}
 use lib.Dec.{eqb, leb}
 use lib.ListN.{length, getD}
 use borrow.Author.Tests.{eqb-true, eqb-false, leb-true, not-true}
-use Rattle.laws.proofs.Bools.{and-left, and-right, both-ways}
+use Rattle.laws.proofs.Bools.{and-left, and-right, both-ways, either}
 use Rattle.rules.specs.Shape.{follows, standAfter, stand}
 
 -- what stands right after one of kind a
@@ -16,10 +16,6 @@ pub data Next (a k : ℕ) : Type 0 where
   mode : a ≡ 0 → k ≡ 1 → Next a k
   char : a ≤ 1 → k ≡ 2 → Next a k
   later : 2 ≤ a → 3 ≤ k → (a ≡ 5 → k ≡ 5) → Next a k
-
-pub either : {X : Type 0} (s t : Bool) → (s ≡ true → X) → (t ≡ true → X) → s || t ≡ true → X
-either true t f g e = f refl
-either false t f g e = g e
 
 pub next : (a k : ℕ) → follows a k ≡ true → Next a k
 unfolding follows

@@ -2,7 +2,7 @@
 use Prim.Native.Nat.{ℕ, _+_, _≤_, _<_}
 use mathlib.Core.Path.{_≡_}
 use mathlib.Core.Bool.{Bool, true, false, _||_}
-use mathlib.Core.List.{List, map}
+use mathlib.Core.List.{List, [], map}
 use lib.ListN.{length, getD}
 use lib.Dec.{eqb, leb}
 use lib.IntN.{pos}
@@ -11,6 +11,7 @@ use mir.Val.{SFits}
 use Rattle.laws.specs.Lists.{ascends}
 use Rattle.laws.specs.Floats.{zeroF}
 use Rattle.rules.specs.Sheet.{Fit, basesOf}
+use Rattle.rules.specs.Columns.{collectedNumbers}
 use Rattle.rules.specs.Dispatch.{Numbered}
 use Rattle.rules.specs.Item.{object, isShip, isChar, isItem, isCharge, isSkill, charOf}
 use Rattle.rules.specs.declared.Item.{Item}
@@ -92,6 +93,10 @@ noEffect =
 
 abbrev pub effectAt : List Pass2Effect → ℕ → Pass2Effect
 effectAt es j = getD es j noEffect
+
+-- the first rows of list 1 are those of the effects
+abbrev pub AllCollected : List Pass2Effect → List (List ℕ) → Type 0
+AllCollected es c = (j : ℕ) → j < length es → getD c j [] ≡ collectedNumbers (effectAt es j)
 
 -- with its number
 abbrev pub numberedAt : List Pass2Effect → ℕ → Numbered

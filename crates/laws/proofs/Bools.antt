@@ -2,6 +2,7 @@
 use mathlib.Core.Path.{_≡_, refl, sym, _∙_}
 use mathlib.Core.Bool.{Bool, true, false, not, _&&_, _||_, true≢false}
 use mathlib.Core.Logic.{_⊎_, inl, inr}
+use lib.Dec.{T}
 
 -- a test that passed and failed
 pub both-ways : {X : Type 0} {t : Bool} → t ≡ true → t ≡ false → X
@@ -10,6 +11,15 @@ both-ways p q = absurd (true≢false (sym p ∙ q))
 pub true-or-false : (t : Bool) → (t ≡ true) ⊎ (t ≡ false)
 true-or-false true = inl refl
 true-or-false false = inr refl
+
+pub passed : (t : Bool) → T t → t ≡ true
+passed true h = refl
+passed false h = absurd h
+
+-- by whichever of two tests passed
+pub either : {X : Type 0} (s t : Bool) → (s ≡ true → X) → (t ≡ true → X) → s || t ≡ true → X
+either true t f g e = f refl
+either false t f g e = g e
 
 pub not-passed : (t : Bool) → (t ≡ true → ⊥) → t ≡ false
 not-passed true n = absurd (n refl)

@@ -117,3 +117,10 @@ module _ {A B : Type 0} (p : B → Bool) where
   pub some-flat : (f : A → List B) (xs : List A) → some? p (flat f xs) ≡ some? (λ x. some? p (f x)) xs
   some-flat f [] = refl
   some-flat f (x ∷ xs) = some-append p (f x) (flat f xs) ∙ ap (λ (t : Bool). some? p (f x) || t) (some-flat f xs)
+
+-- where a test passes on all of a list, functions that agree where it does
+pub map-where : {A B : Type 0} (p : A → Bool) (f g : A → B) → ((x : A) → p x ≡ true → f x ≡ g x) → (xs : List A) → every? p xs ≡ true → map f xs ≡ map g xs
+map-where p f g e [] h = refl
+map-where {A} {B} p f g e (x ∷ xs) h =
+    ap (λ (y : B). y ∷ map f xs) (e x (and-left (p x) (every? p xs) h))
+    ∙ ap (λ (l : List B). g x ∷ l) (map-where p f g e xs (and-right (p x) (every? p xs) h))

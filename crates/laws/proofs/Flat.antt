@@ -4,13 +4,8 @@ use mathlib.Core.Path.{_≡_, refl, sym, ap, _∙_}
 use mathlib.Core.Bool.{Bool, true, false, cond}
 use mathlib.Core.List.{List, [], _∷_, _++_, map, append-nil, append-assoc}
 use lib.ListN.{length, take, getD, length-append}
-use Rattle.laws.specs.Lists.{put, keep, flat}
+use Rattle.laws.specs.Lists.{put, keep, flat, total}
 use Rattle.laws.proofs.Maps.{take-next, map-append}
-
--- the sum of a list
-abbrev pub total : List ℕ → ℕ
-total [] = 0
-total (n ∷ r) = n + total r
 
 module _ {A B : Type 0} (f : A → List B) where
   pub flat-append : (xs ys : List A) → flat f (xs ++ ys) ≡ flat f xs ++ flat f ys

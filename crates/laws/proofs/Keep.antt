@@ -81,3 +81,8 @@ module _ {A B : Type 0} (p : B → Bool) (f : A → B) where
   pub keep-map : (xs : List A) → keep p (map f xs) ≡ map f (keep (λ x. p (f x)) xs)
   keep-map [] = refl
   keep-map (x ∷ xs) = ap (put (p (f x)) (f x)) (keep-map xs) ∙ put-map (p (f x)) x (keep (λ y. p (f y)) xs)
+
+-- a test that nothing passes
+pub keep-nothing : {A : Type 0} (xs : List A) → keep (λ x. false) xs ≡ []
+keep-nothing [] = refl
+keep-nothing (x ∷ xs) = keep-nothing xs

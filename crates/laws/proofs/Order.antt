@@ -8,11 +8,7 @@ use lib.Signed.{ltZ, leZ, ltZ-yes, leZ-yes, <ℤ-≤ℤ-trans, <ℤ-irrefl}
 use native.Mathlib.Omega.{arith}
 use borrow.Author.Tests.{eqb-true, eq-eqb, ltb-true, ltb-false, le-leb, lt-leb, not-true, not-false}
 use Rattle.laws.specs.Lists.{eqZ}
-use Rattle.laws.proofs.Bools.{both-ways, not-passed, not-failed, same-test}
-
-passed : (t : Bool) → T t → t ≡ true
-passed true h = refl
-passed false h = absurd h
+use Rattle.laws.proofs.Bools.{both-ways, passed, not-passed, not-failed, same-test}
 
 pub eqZ-refl : (a : ℤ) → eqZ a a ≡ true
 eqZ-refl (pos a) = eq-eqb a a refl

@@ -6,10 +6,10 @@ use mathlib.Core.Path.{_≡_, refl, sym, ap, _∙_}
 use mathlib.Core.List.{List, [], _∷_, _++_, map}
 use lib.ListN.{length, take, drop, getD}
 use lib.Seq.{split-at}
-use Rattle.laws.specs.Lists.{flat, span}
+use Rattle.laws.specs.Lists.{flat, span, total}
 use Rattle.laws.specs.Columns.{sums}
 use Rattle.laws.proofs.Maps.{take-next, map-take}
-use Rattle.laws.proofs.Flat.{total, flat-append, flat-length}
+use Rattle.laws.proofs.Flat.{flat-append, flat-length}
 use Rattle.laws.proofs.Spans.{span-between}
 
 pub total-append : (xs ys : List ℕ) → total (xs ++ ys) ≡ total xs + total ys

@@ -77,3 +77,8 @@ insert a (x ∷ r) = let rest = x ∷ insert a r in cond (ltZ a x) (a ∷ x ∷ 
 abbrev pub insertAll : List ℤ → List ℤ → List ℤ
 insertAll [] l = l
 insertAll (a ∷ r) l = insertAll r (insert a l)
+
+-- the sum of a list
+abbrev pub total : List ℕ → ℕ
+total [] = 0
+total (n ∷ r) = n + total r

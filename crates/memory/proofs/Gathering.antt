@@ -15,7 +15,7 @@ use mir.Syntax.{w32}
 use mir.Val.{toZ}
 use Rattle.laws.specs.Floats.{finite}
 use Rattle.laws.proofs.Bools.{true-or-false}
-use Rattle.laws.proofs.Flat.{total}
+use Rattle.laws.specs.Lists.{total}
 use Rattle.laws.proofs.Maps.{take-next, map-at}
 use Rattle.rules.specs.Answer.{Res, ok, refused, _>>=_}
 use Rattle.rules.specs.Dispatch.{Row}

@@ -11,7 +11,7 @@ use lib.IntN.{ℤ}
 use lib.ListN.{length, getD, set}
 use lib.Seq.{getD-set-same}
 use Rattle.laws.specs.Floats.{finite, nans}
-use Rattle.laws.proofs.Flat.{total}
+use Rattle.laws.specs.Lists.{total}
 use Rattle.laws.proofs.Maps.{map-at}
 use Rattle.rules.specs.Answer.{Res, ok, refused, _>>=_}
 use Rattle.rules.specs.Codes.{operators}

@@ -10,7 +10,7 @@ use lib.ListN.{length, getD, take}
 use mir.Syntax.{w32}
 use mir.Val.{toZ}
 use Rattle.laws.specs.Floats.{finite}
-use Rattle.laws.proofs.Flat.{total}
+use Rattle.laws.specs.Lists.{total}
 use Rattle.rules.specs.Answer.{Res, ok, refused}
 use Rattle.rules.specs.Dispatch.{Row}
 use Rattle.rules.specs.Info.{getDogmaAttribute, highIsGood}

@@ -4,12 +4,10 @@ use mathlib.Core.Path.{_≡_, refl, sym, ap, _∙_}
 use mathlib.Core.Bool.{Bool, true, false}
 use mathlib.Core.List.{List, [], _∷_, _++_}
 use mathlib.Core.Option.{Option, some}
-use lib.IntN.{ℤ}
 use lib.ListN.{getD, set, drop}
-use Rattle.laws.specs.Lists.{every?, flat, first, orElse, span, insert, insertAll}
+use Rattle.laws.specs.Lists.{every?, flat, first, orElse, span}
 use Rattle.laws.proofs.Bools.{and-left, and-right, and-both}
 use Rattle.laws.proofs.Every.{every-append, every-take, every-drop}
-use Rattle.laws.proofs.Inserts.{insert-every}
 
 module _ {A : Type 0} (p : A → Bool) where
   pub every-all : ((x : A) → p x ≡ true) → (xs : List A) → every? p xs ≡ true
@@ -47,7 +45,3 @@ flat-every p q f h (x ∷ xs) e = every-both q (f x) (flat f xs) (h x (and-left 
 
 pub flat-all : {A B : Type 0} (q : B → Bool) (f : A → List B) → ((x : A) → every? q (f x) ≡ true) → (xs : List A) → every? q (flat f xs) ≡ true
 flat-all q f h xs = flat-every (λ x. true) q f (λ x e. h x) xs (every-all (λ x. true) (λ x. refl) xs)
-
-pub insertAll-every : (p : ℤ → Bool) (xs l : List ℤ) → every? p xs ≡ true → every? p l ≡ true → every? p (insertAll xs l) ≡ true
-insertAll-every p [] l h e = e
-insertAll-every p (x ∷ xs) l h e = insertAll-every p xs (insert x l) (and-right (p x) (every? p xs) h) (insert-every x p l (and-left (p x) (every? p xs) h) e)

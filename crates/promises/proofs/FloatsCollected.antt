@@ -15,6 +15,7 @@ use Rattle.laws.specs.Lists.{eqZ, every?, keep, flat, span, first}
 use Rattle.laws.specs.Floats.{finite}
 use Rattle.laws.proofs.Bools.{and-left, and-right, and-both}
 use Rattle.laws.proofs.Every.{every-map}
+use Rattle.laws.proofs.Inserts.{insertAll-every}
 use Rattle.laws.proofs.Keep.{every-kept}
 use Rattle.laws.proofs.Order.{eqZ-refl, eqZ-true}
 use Rattle.rules.specs.Bytes.{signed, bits}
@@ -44,7 +45,7 @@ use Rattle.rules.specs.declared.Pass2Effect.{Pass2Effect}
 use Rattle.rules.specs.declared.ProjectedBuff.{ProjectedBuff}
 use Rattle.rules.specs.declared.Refusal.the-variants.{Func, Category}
 use Rattle.rules.specs.declared.TypeDogmaEffect.{TypeDogmaEffect}
-use Rattle.promises.proofs.Everywhere.{every-both, every-span, every-first, flat-every, flat-all, insertAll-every}
+use Rattle.promises.proofs.Everywhere.{every-both, every-span, every-first, flat-every, flat-all}
 
 -- ---- ids of 32 bits
 

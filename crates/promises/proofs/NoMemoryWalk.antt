@@ -10,7 +10,7 @@ use borrow.Author.Tests.{eqb-true, eq-eqb, leb-true, le-leb}
 use lib.Dec.{eqb, leb}
 use lib.ListN.{length, getD}
 use Rattle.laws.specs.Lists.{some?, every?, put, keep}
-use Rattle.laws.proofs.Bools.{both-ways, not-failed, and-left, and-right, and-both, or-true-right}
+use Rattle.laws.proofs.Bools.{both-ways, either, not-failed, and-left, and-right, and-both, or-true-right}
 use Rattle.laws.proofs.Every.{some-append, some-flat, some-by, every-at, every-map, Place, some-place}
 use Rattle.rules.specs.Sheet.{Book, Fit}
 use Rattle.rules.specs.Shape.{follows, standAfter, stand, objectGood, objectsGood}
@@ -25,28 +25,21 @@ use Rattle.promises.proofs.NoMemoryRows.{absent}
 
 -- ---- kinds are at most 6
 
-either : (s t : Bool) → s || t ≡ true → (s ≡ true) ⊎ (t ≡ true)
-either true t h = inl refl
-either false t h = inr h
-
 six : (k n : ℕ) (t : Bool) → n ≤ 6 → eqb k n && t ≡ true → k ≤ 6
 six k n t l h = omega (arith, eqb-true k n (and-left (eqb k n) t h))
 
 follows-six : (a k : ℕ) → follows a k ≡ true → k ≤ 6
 unfolding follows
-follows-six a k h =
-    ⊎-elim
-    (λ h5. ⊎-elim
-    (λ h4. ⊎-elim
-    (λ h3. ⊎-elim
-    (λ h2. ⊎-elim (λ h0. six k 1 (eqb a 0) (omega arith) h0) (λ h1. six k 2 (leb a 1) (omega arith) h1) (either (eqb k 1 && eqb a 0) (eqb k 2 && leb a 1) h2))
-    (λ e. six k 6 (eqb a 2 || eqb a 6) (omega arith) e) (either (eqb k 1 && eqb a 0 || eqb k 2 && leb a 1) (eqb k 6 && (eqb a 2 || eqb a 6)) h3))
-    (λ e. six k 3 (leb 2 a && not (eqb a 5)) (omega arith) e)
-    (either (eqb k 1 && eqb a 0 || eqb k 2 && leb a 1 || eqb k 6 && (eqb a 2 || eqb a 6)) (eqb k 3 && (leb 2 a && not (eqb a 5))) h4))
-    (λ e. six k 4 (eqb a 3) (omega arith) e)
-    (either (eqb k 1 && eqb a 0 || eqb k 2 && leb a 1 || eqb k 6 && (eqb a 2 || eqb a 6) || eqb k 3 && (leb 2 a && not (eqb a 5))) (eqb k 4 && eqb a 3) h5))
-    (λ e. six k 5 (leb 2 a) (omega arith) e)
-    (either (eqb k 1 && eqb a 0 || eqb k 2 && leb a 1 || eqb k 6 && (eqb a 2 || eqb a 6) || eqb k 3 && (leb 2 a && not (eqb a 5)) || eqb k 4 && eqb a 3) (eqb k 5 && leb 2 a) h)
+follows-six a k =
+    either _ _
+    (either _ _
+    (either _ _
+    (either _ _
+    (either _ _ (six k 1 (eqb a 0) (omega arith)) (six k 2 (leb a 1) (omega arith)))
+    (six k 6 (eqb a 2 || eqb a 6) (omega arith)))
+    (six k 3 (leb 2 a && not (eqb a 5)) (omega arith)))
+    (six k 4 (eqb a 3) (omega arith)))
+    (six k 5 (leb 2 a) (omega arith))
 
 after-six : (a : ℕ) (l : List ℕ) → standAfter a l ≡ true → every? (λ k. leb k 6) l ≡ true
 unfolding standAfter

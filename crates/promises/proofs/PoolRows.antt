@@ -10,7 +10,7 @@ use lib.Dec.{ltb}
 use lib.ListN.{length, getD}
 use borrow.Author.Tests.{ltb-true, ltb-false, lt-ltb}
 use Rattle.laws.specs.Lists.{some?, orElse, first, from}
-use Rattle.laws.proofs.Bools.{and-left, and-right, and-both, not-passed, both-ways, true-or-false, or-true-right}
+use Rattle.laws.proofs.Bools.{either, and-left, and-right, and-both, not-passed, both-ways, true-or-false, or-true-right}
 use Rattle.laws.proofs.Every.{some-place, some-by, none-by}
 use Rattle.laws.proofs.First.{first-at, first-none, none-first}
 use Rattle.laws.proofs.From.{from-at, from-length}
@@ -63,10 +63,6 @@ first-of t a (suc n) x e = first-cons t a n x (t a) refl (first-of t (suc a) n x
 
 -- ---- one list
 
-either-true : (s t : Bool) → s || t ≡ true → (s ≡ true) ⊎ (t ≡ true)
-either-true true t e = inl refl
-either-true false t e = inr e
-
 left-true : (s t : Bool) → s ≡ true → s || t ≡ true
 left-true s t e = ap (λ (b : Bool). b || t) e
 
@@ -75,14 +71,16 @@ right-true s t e = ap (λ (b : Bool). s || b) e ∙ or-true-right s
 
 module _ (rooms : List ℕ) (ss : List (List (List ℕ))) where
   astray-list : (p l : ℕ) → IsList l → astrayIn rooms ss p l ≡ true → Astray rooms ss p
-  astray-list p l k e = by (either-true (leaves (getD rooms (l - 1) 0) (stretchOf ss p l)) (some? (λ q. overlaps (stretchOf ss p l) (stretchOf ss q l)) (from 0 p)) e)
+  astray-list p l k e = either (leaves (getD rooms (l - 1) 0) (stretchOf ss p l)) (some? (λ q. overlaps (stretchOf ss p l) (stretchOf ss q l)) (from 0 p)) past-the-pool a-lower-one e
     where
-      by : (leaves (getD rooms (l - 1) 0) (stretchOf ss p l) ≡ true) ⊎ (some? (λ q. overlaps (stretchOf ss p l) (stretchOf ss q l)) (from 0 p) ≡ true) → Astray rooms ss p
-      by (inl h) =
+      past-the-pool : leaves (getD rooms (l - 1) 0) (stretchOf ss p l) ≡ true → Astray rooms ss p
+      past-the-pool h =
           let long = ltb-true 0 (lengthAt ss p l) (and-left (ltb 0 (lengthAt ss p l)) (ltb (getD rooms (l - 1) 0) (endOf (stretchOf ss p l))) h) in
           let past = ltb-true (getD rooms (l - 1) 0) (endOf (stretchOf ss p l)) (and-right (ltb 0 (lengthAt ss p l)) (ltb (getD rooms (l - 1) 0) (endOf (stretchOf ss p l))) h) in
           leaving l (firstAt ss p l + lengthAt ss p l - 1) k (record { from = omega (arith, long); below = omega (arith, long) }) (omega (arith, past, long))
-      by (inr h) =
+
+      a-lower-one : some? (λ q. overlaps (stretchOf ss p l) (stretchOf ss q l)) (from 0 p) ≡ true → Astray rooms ss p
+      a-lower-one h =
           let o = some-number (λ q. overlaps (stretchOf ss p l) (stretchOf ss q l)) 0 p h in
           let q = o .at in
           let meet = ltb-true (max (firstAt ss p l) (firstAt ss q l)) (min (endOf (stretchOf ss p l)) (endOf (stretchOf ss q l))) (o .passes) in

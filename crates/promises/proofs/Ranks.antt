@@ -11,14 +11,14 @@ use borrow.Author.Tests.{eq-eqb}
 use lib.Dec.{T}
 use lib.ListN.{length, getD, length-map}
 use Rattle.laws.specs.Lists.{some?, put, keep, flat}
-use Rattle.laws.proofs.Bools.{both-ways, not-passed, not-failed, and-both, or-true-right}
+use Rattle.laws.proofs.Bools.{both-ways, passed, not-passed, not-failed, and-both, or-true-right}
 use Rattle.laws.proofs.Every.{some-append, some-map}
 use Rattle.laws.proofs.Keep.{keep-none, keep-length}
 use Rattle.laws.proofs.Order.{eqZ-refl}
 use Rattle.rules.specs.Dispatch.{Row, Key, sameKey}
 use Rattle.rules.specs.Value.{World, Found, findRow}
 use Rattle.rules.specs.Fresh.{needsOf, needsAt, Leads, last, next}
-use Rattle.rules.proofs.Ranked.{passed, same-key}
+use Rattle.rules.proofs.Ranked.{same-key}
 use Rattle.promises.specs.NoMemory.{keyOf, keyAt, noRow, Needs, NoLoop}
 use Rattle.promises.proofs.NoMemorySteps.{Each}
 

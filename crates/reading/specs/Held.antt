@@ -50,12 +50,16 @@ abbrev pub ascending : List Row → Bool
 ascending [] = true
 ascending (r ∷ rs) = every? (λ s. rowBefore (s .object) (s .id) r) rs && ascending rs
 
+-- the rows' ids have 32 bits
+abbrev pub NarrowIds : List Row → Type 0
+NarrowIds rs = (i : ℕ) → i < length rs → SFits w32 (getD rs i noRow .id)
+
 -- list 2 has the rows rs, in order: what is looked for in it
 pub record RowsHeld (rs : List Row) (c : List (List ℕ)) : Type 0 where
   pub long : length c ≡ length rs
   pub object : (i : ℕ) → i < length rs → getD (getD c i []) 0 0 ≡ getD rs i noRow .object
   pub id : (i : ℕ) → i < length rs → getD (getD c i []) 1 0 ≡ bits (getD rs i noRow .id)
-  pub narrow : (i : ℕ) → i < length rs → SFits w32 (getD rs i noRow .id)
+  pub narrow : NarrowIds rs
   pub ordered : ascending rs ≡ true
 
 abbrev pub placed : Found → Option ℕ

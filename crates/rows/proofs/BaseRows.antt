@@ -9,12 +9,11 @@ use lib.Ieee.{Float}
 use lib.ListN.{length, set, getD, length-map}
 use mir.Syntax.{w32}
 use mir.Val.{SFits}
-use Rattle.laws.specs.Lists.{every?, span, ascends}
+use Rattle.laws.specs.Lists.{every?, span, ascends, total}
 use Rattle.laws.specs.Columns.{Col}
 use Rattle.laws.proofs.Bools.{and-both}
 use Rattle.laws.proofs.Maps.{map-snoc, map-map}
 use Rattle.laws.proofs.Every.{every-snoc}
-use Rattle.laws.proofs.Flat.{total}
 use Rattle.laws.proofs.Spans.{span-length, map-span-next}
 use Rattle.laws.proofs.Laid.{col-none, col-next}
 use Rattle.rules.specs.Bytes.{bits}

@@ -14,13 +14,6 @@ use Rattle.laws.specs.Lists.{every?}
 use Rattle.laws.proofs.Bools.{and-left, and-right}
 use Rattle.rows.specs.Tallies.{narrow?}
 
--- the same function where the test passes
-pub map-where : {A B : Type 0} (p : A → Bool) (f g : A → B) → ((x : A) → p x ≡ true → f x ≡ g x) → (xs : List A) → every? p xs ≡ true → map f xs ≡ map g xs
-map-where p f g e [] h = refl
-map-where {A} {B} p f g e (x ∷ xs) h =
-    ap (λ (y : B). y ∷ map f xs) (e x (and-left (p x) (every? p xs) h))
-    ∙ ap (λ (l : List B). g x ∷ l) (map-where p f g e xs (and-right (p x) (every? p xs) h))
-
 pub narrow-fits : (a : ℤ) → narrow? a ≡ true → SFits w32 a
 narrow-fits a h = record { sfits = ltb-true (mag a) (2 ^ 31) h }
 

@@ -10,13 +10,13 @@ use lib.Ieee.{Float}
 use lib.ListN.{length, getD, take, drop, length-map}
 use lib.Seq.{take-at, length-take-le}
 use borrow.Author.Tests.{ltb-true, lt-ltb}
-use Rattle.laws.specs.Lists.{eqZ, keep, flat, every?, ascends, insertAll}
+use Rattle.laws.specs.Lists.{eqZ, keep, flat, every?, ascends, insertAll, total}
 use Rattle.laws.specs.Columns.{laid, Col}
 use Rattle.laws.proofs.Bools.{and-both}
 use Rattle.laws.proofs.Maps.{map-same, map-map, map-at, map-itself}
 use Rattle.laws.proofs.Every.{every-at, every-by, every-map, every-flat}
 use Rattle.laws.proofs.Keep.{every-kept}
-use Rattle.laws.proofs.Flat.{total, flat-same, flat-map, map-flat}
+use Rattle.laws.proofs.Flat.{flat-same, flat-map, map-flat}
 use Rattle.laws.proofs.Laid.{laid-length, drop-laid}
 use Rattle.rules.specs.Bytes.{bits}
 use Rattle.rules.specs.Sheet.{Book, Fit, basesOf}

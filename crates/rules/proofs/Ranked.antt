@@ -7,16 +7,12 @@ use mathlib.Core.List.{List, [], _∷_}
 use borrow.Author.Tests.{eqb-true, ltb-true}
 use lib.Dec.{T, eqb, ltb}
 use Rattle.laws.specs.Lists.{eqZ, some?, every?, put, keep, flat}
-use Rattle.laws.proofs.Bools.{both-ways, and-left, and-right}
+use Rattle.laws.proofs.Bools.{both-ways, passed, and-left, and-right}
 use Rattle.laws.proofs.Every.{some-append}
 use Rattle.laws.proofs.Order.{eqZ-true}
 use Rattle.rules.specs.Dispatch.{Row, Key, sameKey}
 use Rattle.rules.specs.Value.{World}
 use Rattle.rules.specs.Fresh.{needsOf, needsAt, Leads, last, next, LeadsBack}
-
-pub passed : (t : Bool) → T t → t ≡ true
-passed true h = refl
-passed false h = absurd h
 
 pub same-key : (a b : Key) → sameKey a b ≡ true → a ≡ b
 same-key a b e = λ i. record { object = o i; id = d i }

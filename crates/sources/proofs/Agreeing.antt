@@ -8,7 +8,7 @@ use lib.Ieee.{Float, nan}
 use lib.ListN.{length, getD, take, drop, length-map, length-append, List·getD-append}
 use lib.Seq.{getD-append-add, take-at}
 use Rattle.laws.specs.Columns.{Col}
-use Rattle.laws.proofs.Flat.{total}
+use Rattle.laws.specs.Lists.{total}
 use Rattle.laws.proofs.Laid.{col-row}
 use Rattle.laws.proofs.Maps.{map-itself}
 use Rattle.rules.specs.Dispatch.{Row}

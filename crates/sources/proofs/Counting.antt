@@ -6,8 +6,7 @@ use mathlib.Core.Bool.{Bool, true, false, _&&_, cond}
 use mathlib.Core.List.{List, [], map}
 use lib.Ieee.{Float, nan}
 use lib.ListN.{length, getD}
-use Rattle.laws.specs.Lists.{span}
-use Rattle.laws.proofs.Flat.{total}
+use Rattle.laws.specs.Lists.{span, total}
 use Rattle.laws.proofs.Spans.{map-span-next}
 use Rattle.laws.proofs.Sums.{total-snoc}
 use Rattle.rules.specs.Operate.{hasPenalty}

@@ -8,7 +8,7 @@ use mathlib.Core.List.{List, [], _∷_, map}
 use lib.ListN.{length, getD, take}
 use mir.Syntax.{w32}
 use mir.Val.{SFits}
-use Rattle.laws.proofs.Flat.{total}
+use Rattle.laws.specs.Lists.{total}
 use Rattle.rules.specs.Bytes.{bits}
 use Rattle.rules.specs.Dispatch.{Row}
 use Rattle.rules.specs.Columns.{rowsNumbers}

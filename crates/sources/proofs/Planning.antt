@@ -12,10 +12,9 @@ use lib.IntN.{ℤ, pos}
 use lib.Ieee.{Float, lt}
 use lib.ListN.{length, getD, set, length-append, length-map, length-set, List·getD-eq-default}
 use lib.Seq.{getD-set-same, getD-set-other}
-use Rattle.laws.specs.Lists.{eqZ}
+use Rattle.laws.specs.Lists.{eqZ, total}
 use Rattle.laws.specs.Floats.{zeroF}
 use Rattle.laws.proofs.Bools.{true-or-false}
-use Rattle.laws.proofs.Flat.{total}
 use Rattle.rules.proofs.Results.{apart as no-answer, got}
 use Rattle.rules.specs.Answer.{Res, ok, refused, _>>=_}
 use Rattle.rules.specs.Codes.{operators, sameOperator}

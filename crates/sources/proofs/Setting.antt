@@ -7,9 +7,9 @@ use mathlib.Core.List.{List, [], _∷_, _++_, map}
 use lib.Ieee.{Float}
 use lib.ListN.{length, getD, take, drop, set, length-map, length-take, length-set}
 use lib.Seq.{set-at, getD-at, getD-take, length-take-le, take-all, append-snoc}
-use Rattle.laws.specs.Lists.{span}
+use Rattle.laws.specs.Lists.{span, total}
 use Rattle.laws.proofs.Maps.{take-next, map-at}
-use Rattle.laws.proofs.Flat.{total, flat-length}
+use Rattle.laws.proofs.Flat.{flat-length}
 use Rattle.laws.proofs.Sums.{total-next, total-take, flat-part, part-start}
 use Rattle.laws.proofs.Scans.{drop-step}
 use Rattle.rules.specs.Dispatch.{Row}

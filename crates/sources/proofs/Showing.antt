@@ -7,7 +7,7 @@ use mathlib.Core.List.{List, [], _∷_, _++_, map}
 use mathlib.Core.Option.{Option, none, some}
 use lib.ListN.{length, getD, take, set, length-append, length-take, length-set}
 use lib.Seq.{set-append-left, take-set-le, take-set-lt}
-use Rattle.laws.proofs.Flat.{total}
+use Rattle.laws.specs.Lists.{total}
 use Rattle.sources.specs.Shown.{filled, places, overlaid, shown, firstOf}
 
 set-append-far : {A : Type 0} (xs ys : List A) (k : ℕ) (x : A) → set (xs ++ ys) (length xs + k) x ≡ xs ++ set ys k x

@@ -6,7 +6,7 @@ use mathlib.Core.List.{List, [], _∷_, map}
 use mathlib.Core.Option.{none}
 use lib.IntN.{ℤ}
 use lib.ListN.{length, getD}
-use Rattle.laws.proofs.Flat.{total}
+use Rattle.laws.specs.Lists.{total}
 use Rattle.rules.specs.Answer.{ok}
 use Rattle.rules.specs.Codes.{sameOperator}
 use Rattle.rules.specs.Dispatch.{Row}

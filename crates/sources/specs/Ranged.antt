@@ -3,8 +3,7 @@ use Prim.Native.Nat.{ℕ, _+_, _≤_, _<_}
 use mathlib.Core.List.{List, [], map}
 use lib.Ieee.{Float, nan}
 use lib.ListN.{length, getD}
-use Rattle.laws.specs.Lists.{span}
-use Rattle.laws.proofs.Flat.{total}
+use Rattle.laws.specs.Lists.{span, total}
 use Rattle.rules.specs.declared.Effect.{Effect}
 use Rattle.reading.specs.Held.{EntryHeld, Sourced, isRunning}
 use Rattle.sources.specs.Planned.{plannedIf}

@@ -4,8 +4,7 @@ use mathlib.Core.Path.{_≡_}
 use mathlib.Core.List.{List, [], _∷_, map}
 use lib.Ieee.{Float}
 use lib.ListN.{length, take}
-use Rattle.laws.specs.Lists.{flat}
-use Rattle.laws.proofs.Flat.{total}
+use Rattle.laws.specs.Lists.{flat, total}
 use Rattle.rules.specs.Bytes.{bits}
 use Rattle.rules.specs.Dispatch.{Row}
 use Rattle.rules.specs.Columns.{rowsNumbers}

@@ -5,7 +5,7 @@ use mathlib.Core.List.{List, [], _∷_, _++_}
 use mathlib.Core.Option.{Option, none, some}
 use lib.Dec.{ltb}
 use lib.ListN.{take, set}
-use Rattle.laws.proofs.Flat.{total}
+use Rattle.laws.specs.Lists.{total}
 
 module _ {A : Type 0} where
   -- n places, of which the first hold q

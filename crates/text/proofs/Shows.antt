@@ -34,7 +34,7 @@ use Rattle.values.proofs.Sheets.{sound-rows}
 use Rattle.values.proofs.Starts.{valued-grows}
 use Rattle.promises.specs.Result.{Result, Meets}
 use Rattle.rules.proofs.Results.{got, then}
-use Rattle.calculate.proofs.Clearing.{numbers-length}
+use Rattle.promises.proofs.Ends.{numbers-length}
 use Rattle.listing.specs.Pieces.{Shown}
 
 -- ---- columns

@@ -9,11 +9,11 @@ use mathlib.Core.Logic.{_⊎_, inl, inr}
 use lib.IntN.{ℤ}
 use lib.ListN.{length}
 use lib.Signed.{ltZ}
-use Rattle.laws.specs.Lists.{eqZ, some?, every?, put, keep, flat, ascends}
+use Rattle.laws.specs.Lists.{eqZ, some?, every?, put, keep, flat, ascends, total}
 use Rattle.laws.proofs.Ascending.{ascends-head, ascends-tail}
 use Rattle.laws.proofs.Bools.{both-ways, true-or-false, not-passed, and-left, and-right}
-use Rattle.laws.proofs.Flat.{total, flat-append}
-use Rattle.laws.proofs.Keep.{keep-append, keep-same, keep-keep}
+use Rattle.laws.proofs.Flat.{flat-append}
+use Rattle.laws.proofs.Keep.{keep-append, keep-same, keep-keep, keep-nothing}
 use Rattle.laws.proofs.Order.{eqZ-true, eqZ-sym, ltZ-apart}
 use Rattle.rules.specs.Columns.{yes1}
 
@@ -28,10 +28,6 @@ flat-flat g h [] = refl
 flat-flat {A} {B} {C} g h (x ∷ xs) = flat-append g (h x) (flat h xs) ∙ ap (λ (l : List C). flat g (h x) ++ l) (flat-flat g h xs)
 
 -- ---- what is kept, counted
-
-keep-nothing : {A : Type 0} (xs : List A) → keep (λ x. false) xs ≡ []
-keep-nothing [] = refl
-keep-nothing (x ∷ xs) = keep-nothing xs
 
 -- tests that all fail
 pub keep-failing : {A : Type 0} (p : A → Bool) → ((x : A) → p x ≡ false) → (xs : List A) → keep p xs ≡ []

@@ -7,12 +7,11 @@ use mathlib.Core.List.{List, [], _∷_, _++_, map, append-assoc}
 use lib.Dec.{eqb}
 use lib.IntN.{ℤ}
 use lib.ListN.{length, take, getD, replicate, length-append, length-map, List·getD-append}
-use Rattle.laws.specs.Lists.{eqZ, every?, put, keep, flat, span}
+use Rattle.laws.specs.Lists.{eqZ, every?, put, keep, flat, span, total}
 use Rattle.laws.specs.Floats.{finite}
 use Rattle.laws.specs.Columns.{column}
 use Rattle.laws.proofs.Bools.{and-left, and-right}
-use Rattle.laws.proofs.Every.{every-at, every-weaker}
-use Rattle.laws.proofs.Flat.{total}
+use Rattle.laws.proofs.Every.{every-at, every-weaker, map-where}
 use Rattle.laws.proofs.Keep.{keep-map, keep-same}
 use Rattle.laws.proofs.Maps.{map-append, map-at, map-map, map-itself}
 use Rattle.laws.proofs.Spans.{span-between}
@@ -81,11 +80,6 @@ map-front {R} {B} enc (r ∷ rs) ys = ap (λ (l : List B). enc r ∷ l) (map-fro
 column-front : {R B : Type 0} (enc : R → B) (z : B) (rs : List R) (n : ℕ) → take (length rs) (column enc z rs n) ≡ map enc rs
 unfolding column
 column-front enc z rs n = map-front enc rs (replicate (n - length rs) z)
-
--- where a test passes on all of a list, functions that agree where it does
-map-where : {A B : Type 0} (p : A → Bool) (g h : A → B) → ((x : A) → p x ≡ true → g x ≡ h x) → (xs : List A) → every? p xs ≡ true → map g xs ≡ map h xs
-map-where p g h e [] a = refl
-map-where {A} {B} p g h e (x ∷ xs) a = ap₂ (λ (y : B) (l : List B). y ∷ l) (e x (and-left (p x) (every? p xs) a)) (map-where p g h e xs (and-right (p x) (every? p xs) a))
 
 -- ---- the entries of list 2's rows, in list 3
 

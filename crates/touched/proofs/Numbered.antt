@@ -9,9 +9,8 @@ use borrow.Author.Tests.{eq-eqb, ne-eqb}
 use lib.Dec.{eqb}
 use lib.IntN.{ℤ}
 use lib.ListN.{length, getD}
-use Rattle.laws.specs.Lists.{eqZ, some?, put, keep}
+use Rattle.laws.specs.Lists.{eqZ, some?, put, keep, total}
 use Rattle.laws.proofs.Bools.{and-false-right, and-true-right, or-true-right}
-use Rattle.laws.proofs.Flat.{total}
 use Rattle.laws.proofs.Order.{eqZ-refl}
 use Rattle.rules.specs.Item.{noItem}
 use Rattle.rules.specs.Columns.{yes1}

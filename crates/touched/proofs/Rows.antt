@@ -9,11 +9,11 @@ use borrow.Author.Tests.{eq-eqb}
 use lib.Dec.{eqb}
 use lib.IntN.{ℤ}
 use lib.ListN.{length, getD, length-map}
-use Rattle.laws.specs.Lists.{eqZ, some?, every?, keep, flat, ascends}
+use Rattle.laws.specs.Lists.{eqZ, some?, every?, keep, flat, ascends, total}
 use Rattle.laws.specs.Floats.{finite}
 use Rattle.laws.proofs.Bools.{and-left, and-right, and-both}
 use Rattle.laws.proofs.Every.{every-at, every-weaker, every-map}
-use Rattle.laws.proofs.Flat.{total, flat-length, flat-map}
+use Rattle.laws.proofs.Flat.{flat-length, flat-map}
 use Rattle.laws.proofs.Inserts.{ascends-insertAll, insertAll-member}
 use Rattle.laws.proofs.Keep.{keep-map, keep-keep, keep-same}
 use Rattle.laws.proofs.Maps.{map-same}

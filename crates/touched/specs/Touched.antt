@@ -5,8 +5,7 @@ use mathlib.Core.List.{List, map}
 use lib.IntN.{ℤ, pos}
 use lib.Dec.{eqb}
 use lib.ListN.{length, take, getD}
-use Rattle.laws.specs.Lists.{eqZ, keep, flat, span}
-use Rattle.laws.proofs.Flat.{total}
+use Rattle.laws.specs.Lists.{eqZ, keep, flat, span, total}
 use Rattle.rules.specs.Bytes.{signed}
 use Rattle.rules.specs.Sheet.{Book, Fit}
 use Rattle.rules.specs.Item.{object}

@@ -13,7 +13,7 @@ use lib.IntN.{ℤ}
 use lib.ListN.{length, getD, set, length-set, length-map}
 use lib.Seq.{getD-set-other}
 use Rattle.laws.proofs.Bools.{true-or-false}
-use Rattle.laws.proofs.Flat.{total}
+use Rattle.laws.specs.Lists.{total}
 use Rattle.laws.proofs.Maps.{map-at}
 use Rattle.rules.specs.Answer.{ok}
 use Rattle.rules.specs.Dispatch.{Row}

@@ -7,7 +7,7 @@ use mathlib.Core.List.{List, [], _∷_, _++_, map}
 use mathlib.Core.Option.{none, some}
 use lib.Ieee.{Float}
 use lib.ListN.{length, getD, set, length-set, length-append}
-use Rattle.laws.proofs.Flat.{total}
+use Rattle.laws.specs.Lists.{total}
 use Rattle.rules.specs.Answer.{ok}
 use Rattle.rules.specs.Dispatch.{Row}
 use Rattle.rules.specs.Outcome.{valued, blank}

@@ -11,7 +11,8 @@ use lib.Ieee.{Float, nan}
 use lib.ListN.{length, getD, List·getD-eq-default}
 use Rattle.laws.specs.Floats.{zeroF}
 use Rattle.laws.proofs.Bools.{true-or-false}
-use Rattle.laws.proofs.Flat.{total, flat-length}
+use Rattle.laws.specs.Lists.{total}
+use Rattle.laws.proofs.Flat.{flat-length}
 use Rattle.rules.specs.Answer.{ok}
 use Rattle.rules.specs.Columns.{sourceNumbers, sourceFloats}
 use Rattle.rules.specs.Outcome.{valued, blank}

@@ -7,8 +7,7 @@ use mathlib.Core.List.{List, [], _∷_, map}
 use lib.IntN.{ℤ}
 use lib.ListN.{length, getD, take, length-append, List·getD-append}
 use lib.Seq.{getD-append-add}
-use Rattle.laws.specs.Lists.{eqZ, keep, flat}
-use Rattle.laws.proofs.Flat.{total}
+use Rattle.laws.specs.Lists.{eqZ, keep, flat, total}
 use Rattle.rules.specs.Sheet.{Book, Fit}
 use Rattle.rules.specs.Dispatch.{Row, Numbered, numbered, entry, hit, hitsOn, idsOf, rowOf, rows}
 use Rattle.rules.specs.declared.Effect.{Effect}

@@ -7,9 +7,9 @@ use mathlib.Core.List.{List, [], _∷_, map}
 use mathlib.Core.Option.{Option, some}
 use lib.ListN.{length, getD, take, length-map}
 use lib.Seq.{take-all}
-use Rattle.laws.specs.Lists.{flat}
+use Rattle.laws.specs.Lists.{flat, total}
 use Rattle.laws.specs.Columns.{laid, Col}
-use Rattle.laws.proofs.Flat.{total, flat-length}
+use Rattle.laws.proofs.Flat.{flat-length}
 use Rattle.laws.proofs.Laid.{laid-length}
 use Rattle.laws.proofs.Maps.{map-append}
 use Rattle.sources.specs.Shown.{filled, places, overlaid, shown}

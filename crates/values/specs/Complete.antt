@@ -6,10 +6,9 @@ use mathlib.Core.Option.{Option, none, some, Option·getD}
 use lib.Ieee.{Float}
 use lib.IntN.{ℤ}
 use lib.ListN.{length, getD}
-use Rattle.laws.specs.Lists.{flat}
+use Rattle.laws.specs.Lists.{flat, total}
 use Rattle.laws.specs.Columns.{Col}
 use Rattle.laws.specs.Floats.{zeroF}
-use Rattle.laws.proofs.Flat.{total}
 use Rattle.rules.specs.Answer.{ok}
 use Rattle.rules.specs.Dispatch.{Row}
 use Rattle.rules.specs.Columns.{rowsNumbers, sourceNumbers, sourceFloats}

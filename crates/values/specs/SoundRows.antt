@@ -13,7 +13,7 @@ use Rattle.rules.specs.Dispatch.{Row}
 use Rattle.rules.specs.declared.Effect.{Effect}
 use Rattle.rules.specs.declared.Pass2Effect.{Pass2Effect}
 use Rattle.info.specs.Stands.{NarrowOrigin, NarrowId}
-use Rattle.reading.specs.Held.{Sourced, noRow, ascending}
+use Rattle.reading.specs.Held.{Sourced, noRow, NarrowIds, ascending}
 use Rattle.memory.specs.Holding.{Good}
 
 -- what holds of every element
@@ -37,7 +37,7 @@ pub record Readable (e : Effect) : Type 0 where
 
 pub record SoundRows (rs : List Row) : Type 0 where
   pub ordered : ascending rs ≡ true
-  pub narrow : (i : ℕ) → i < length rs → SFits w32 (getD rs i noRow .id)
+  pub narrow : NarrowIds rs
   pub number : (i : ℕ) → i < length rs → T (finite (getD rs i noRow .base))
   pub object : (i : ℕ) → i < length rs → getD rs i noRow .object < 1024
   pub entries : (i j : ℕ) (d : Effect) → i < length rs → j < length (getD rs i noRow .entries) → Readable (getD (getD rs i noRow .entries) j d)
