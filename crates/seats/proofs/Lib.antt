@@ -1,0 +1,15 @@
+pub mod Tiles
+pub mod Rows
+pub mod Apart
+pub mod Examples
+pub mod Loops
+pub mod First
+pub mod Down
+pub mod Lists
+pub mod Fit
+pub mod Same
+pub mod Few
+pub mod Good
+pub mod Gather
+pub mod Ways
+pub mod Join
