@@ -370,7 +370,7 @@ module _ (t : List Stretch) (n k : ℕ) (s : Stretch) (long : length t ≡ 17) (
       sym (put-place k s t n i place-few h) ∙ ap (λ (q : ℕ). putAt q s (take n t) i) e
       ∙ sym (inOrder-at s (take n t) i (let y = taken in omega (arith, y, h)))
 
-  empties-room : length (replicate n empty ++ drop n t) ≡ 17
+  pub empties-room : length (replicate n empty ++ drop n t) ≡ 17
   empties-room =
       let z = length-append (replicate n empty) (drop n t) in
       let y = empties-long n in

@@ -13,3 +13,6 @@ pub mod Good
 pub mod Gather
 pub mod Ways
 pub mod Join
+pub mod Either
+pub mod Reached
+pub mod Whole

@@ -34,16 +34,16 @@ add-i : tie.Need-add-i Inv-loop μ-loop
 add-i c = search needs
 
 returns : tie.Need-returns Inv-loop μ-loop
-returns c = ordered-stop _ _ (omega (arith, c .before .before .before .before .good .0 .1 .0 .1, c .before .before .before .before .pre)) _ (c .before .before .loop-test .taken) (c .before .before .before .loop .inv) (c .before .touches .ensures) (c .if1 .taken)
+returns c = ordered-stop (c .before .before .before .before .args .t1) (c .before .before .before .before .args .n) (omega (arith, c .before .before .before .before .good .0 .1 .0 .1, c .before .before .before .before .pre)) (c .before .before .before .loop .i) (c .before .before .loop-test .taken) (c .before .before .before .loop .inv) (c .before .touches .ensures) (c .if1 .taken)
 
 loop-less : tie.Need-loop-less Inv-loop μ-loop
 loop-less c = search needs
 
 loop-again : tie.Need-loop-again Inv-loop μ-loop
-loop-again c = ordered-next _ _ (omega (arith, c .before .before .before .before .good .0 .1 .0 .1, c .before .before .before .before .pre)) _ (c .before .before .loop-test .taken) (c .before .before .before .loop .inv) (c .before .touches .ensures) (c .if1 .left)
+loop-again c = ordered-next (c .before .before .before .before .args .t1) (c .before .before .before .before .args .n) (omega (arith, c .before .before .before .before .good .0 .1 .0 .1, c .before .before .before .before .pre)) (c .before .before .before .loop .i) (c .before .before .loop-test .taken) (c .before .before .before .loop .inv) (c .before .touches .ensures) (c .if1 .left)
 
 returns-2 : tie.Need-returns-2 Inv-loop μ-loop
-returns-2 c = ordered-end _ _ (omega (arith, c .before .before .good .0 .1 .0 .1, c .before .before .pre)) _ (c .loop-test .left) (c .before .loop .inv)
+returns-2 c = ordered-end (c .before .before .args .t1) (c .before .before .args .n) (omega (arith, c .before .before .good .0 .1 .0 .1, c .before .before .pre)) (c .before .loop .i) (c .loop-test .left) (c .before .loop .inv)
 
 pub ordered-spec : {M : Type 1} → statement M
 ordered-spec =
