@@ -205,6 +205,17 @@ pub fn leave_seats(
     left
 }
 
+// What the caller is told of it.
+fn seat_of(left: Left) -> Seat
+    ensures defined { λ r. ⌜ r ≡ record { number = left .number; place = left .place; free = left .free } ⌝ }
+{
+    Seat {
+        number: left.number,
+        place: left.place,
+        free: left.free,
+    }
+}
+
 // Whether a pilot leaves; its rows are zero and free again, joined to their neighbours. Nothing is required.
 #[no_mangle]
 pub extern "C" fn dogma_leave(
@@ -249,12 +260,9 @@ pub extern "C" fn dogma_leave(
         count,
         pilot,
     );
-    if left.number == 0 {
+    let seat = seat_of(left);
+    if seat.number == 0 {
         store(free, leave_table(t, count, left.start, left.length));
     }
-    Seat {
-        number: left.number,
-        place: left.place,
-        free: left.free,
-    }
+    seat
 }
