@@ -17,7 +17,7 @@ use Rattle.seats.specs.Told.{hallOf, toldLeft, leaver, roomed}
 use Rattle.seats.proofs.Good.{seat-end}
 use Rattle.seats.proofs.Ways.{roomed-small, roomed-wide}
 use Rattle.seats.proofs.Either.{LeaveWay, left, kept-in, leave-way}
-use Rattle.hall.specs.Leaving.{LeavesSeats, poolRows, clearedOf, leftPool}
+use Rattle.evenings.specs.Leaving.{LeavesSeats, poolRows, clearedOf, leftPool}
 
 low : (a b : ℕ) → min a b ≤ a
 low a b = omega arith

@@ -12,7 +12,7 @@ use Rattle.seats.specs.declared.Seat.{Seat}
 use Rattle.seats.specs.Seats.{cutFirst, admit}
 use Rattle.seats.specs.Told.{hallOf, told, roomed, Ready, cutTable}
 use Rattle.seats.proofs.Whole.{admit-is, admit-ready}
-use Rattle.hall.specs.Leaving.{AdmitMeets}
+use Rattle.evenings.specs.Leaving.{AdmitMeets}
 
 abbrev pub answer : List Stretch → ℕ → List (List (List ℕ)) → ℕ → ℕ → ℕ → ℕ → Seat
 answer t room ss n m p w = told (roomed room (hallOf t n ss m) (admit (hallOf t n ss m) p w))

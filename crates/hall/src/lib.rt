@@ -24,7 +24,7 @@ ghost use mathlib.Core.Path.{_≡_};
 ghost use Prim.Native.Nat.{_+_, _≤_, _<_, min};
 ghost use lib.ListN.{length};
 ghost use Rattle.seats.specs.Told.{hallOf};
-ghost use Rattle.hall.specs.Leaving.{AdmitMeets, LeaveMeets, LeavesSeats, lentPool, poolRows, clearedOf};
+ghost use Rattle.evenings.specs.Leaving.{AdmitMeets, LeaveMeets, LeavesSeats, lentPool, poolRows, clearedOf};
 
 // ---- admission
 

@@ -51,7 +51,7 @@ use Rattle.free_table.specs.declared.Stretch.{Stretch}
 use Rattle.seats.specs.declared.Seat.{Seat}
 use Rattle.free_table.specs.Table.{loaded, stored, pick}
 use Rattle.seats.specs.Told.{Ready}
-use Rattle.hall.specs.Leaving.{AdmitMeets}
+use Rattle.evenings.specs.Leaving.{AdmitMeets}
 use Rattle.hall.proofs.Plan.{answer, seats, cut, admit-meets, cut-ready}
 use Rattle.free_table.proofs.Stretch as T
 use Rattle.free_table.proofs.Stretch.Laws as T′

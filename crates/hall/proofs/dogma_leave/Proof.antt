@@ -55,7 +55,7 @@ use Rattle.seats.specs.declared.Seat.{Seat}
 use Rattle.seats.specs.declared.Left.{Left}
 use Rattle.free_table.specs.Table.{loaded, stored, pick}
 use Rattle.seats.specs.Told.{hallOf, ReadyFor, freedTable}
-use Rattle.hall.specs.Leaving.{LeaveMeets, LeavesSeats, poolRows}
+use Rattle.evenings.specs.Leaving.{LeaveMeets, LeavesSeats, poolRows}
 use Rattle.hall.proofs.Freed.{stretchOf, seatFor, leave-meets, freed-ready}
 use Rattle.free_table.proofs.Stretch as T
 use Rattle.free_table.proofs.Stretch.Laws as T′

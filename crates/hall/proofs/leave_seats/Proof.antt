@@ -13,7 +13,7 @@ use Prim.Native.Nat.{_≤_}
 use native.Mathlib.Omega.{arith}
 use mathlib.Core.Path.{_≡_, refl, sym, ap, _∙_}
 use Rattle.seats.specs.Told.{hallOf}
-use Rattle.hall.specs.Leaving.{poolRows}
+use Rattle.evenings.specs.Leaving.{poolRows}
 use Rattle.hall.proofs.Leaving.{held, rows-are, has-left, has-stayed, has-gone}
 
 sixteen-requires : tie.Need-sixteen-requires

@@ -6,8 +6,12 @@ use Rattle.hall.proofs.pool_rows.Tie as tie
 use Rattle.hall.proofs.pool_rows.Reads as reads
 use Rattle.hall.proofs.pool_rows.Lts as lts
 use Rattle.pool.proofs.lesser.Reads as lesser-reads
+use Prim.Native.Nat.{ℕ, _<_, min}
 use native.Mathlib.Omega.{arith}
 use mathlib.Core.Path.{_≡_, refl, sym, ap, _∙_}
+
+below : (b : ℕ) {r : ℕ} → r ≡ min 4294967295 b → r < 4294967296
+below b e = omega (arith, e)
 
 lesser-requires : tie.Need-lesser-requires
 lesser-requires c κs = search needs
@@ -40,10 +44,10 @@ lesser-requires-10 : tie.Need-lesser-requires-10
 lesser-requires-10 c κs = search needs
 
 cast-result : tie.Need-cast-result
-cast-result c = record { fits = omega arith }
+cast-result c = record { fits = below (c .before .lesser9 .result) (c .lesser10 .ensures) }
 
 returns : tie.Need-returns
-returns c = omega arith
+returns c = c .lesser10 .ensures ∙ ap (min 4294967295) (c .before .lesser9 .ensures ∙ ap (min (c .before .before .before .before .before .before .before .before .before .before .args .collected)) (c .before .before .lesser8 .ensures ∙ ap (min (c .before .before .before .before .before .before .before .before .before .before .args .collected-values)) (c .before .before .before .lesser7 .ensures ∙ ap (min (c .before .before .before .before .before .before .before .before .before .before .args .rows)) (c .before .before .before .before .lesser6 .ensures ∙ ap (min (c .before .before .before .before .before .before .before .before .before .before .args .bases)) (c .before .before .before .before .before .lesser5 .ensures ∙ ap (min (c .before .before .before .before .before .before .before .before .before .before .args .values)) (c .before .before .before .before .before .before .lesser4 .ensures ∙ ap (min (c .before .before .before .before .before .before .before .before .before .before .args .entries)) (c .before .before .before .before .before .before .before .lesser3 .ensures ∙ ap (min (c .before .before .before .before .before .before .before .before .before .before .args .entry-values)) (c .before .before .before .before .before .before .before .before .lesser2 .ensures ∙ ap (min (c .before .before .before .before .before .before .before .before .before .before .args .plain)) (c .before .before .before .before .before .before .before .before .before .lesser .ensures)))))))))
 
 pub pool-rows-spec : {M : Type 1} → statement M
 pool-rows-spec =
