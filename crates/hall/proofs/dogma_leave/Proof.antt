@@ -311,7 +311,7 @@ module _ {M : Type 1} (𝓤 : URA M) (H : Heap 𝓤) (A : Atoms 𝓤) (W : Given
   -- what is entered with: the slice and its token, and the rest
   opens : ent 𝓤 (onEntry 𝓤 H A f.signature (κ₀, (κ₁, (κ₂, (κ₃, (κ₄, (κ₅, (κ₆, (κ₇, (κ₈, (κ₉, (κ₁₀, (κ₁₁, (κ₁₂, tt))))))))))))) (q₀, (q₁, (q₂, (q₃, (q₄, (q₅, (q₆, (q₇, (q₈, (q₉, (q₁₀, (q₁₁, (q₁₂, tt))))))))))))) a at) (⋆ 𝓤 H A (‵ (flft κ₁₁ q₁₁) ∷ ‵ (MutSlice (named 11) κ₁₁ R .own (x γ) (v ∷ [])) ∷ Rest))
   opens =
-      qed W (((‵ (flft κ₀ q₀) ⊛ (‵ (flft κ₁ q₁) ⊛ (‵ (flft κ₂ q₂) ⊛ (‵ (flft κ₃ q₃) ⊛ (‵ (flft κ₄ q₄) ⊛ (‵ (flft κ₅ q₅) ⊛ (‵ (flft κ₆ q₆) ⊛ (‵ (flft κ₇ q₇) ⊛ (‵ (flft κ₈ q₈) ⊛ (‵ (flft κ₉ q₉) ⊛ (‵ (flft κ₁₀ q₁₀) ⊛ (‵ (flft κ₁₁ q₁₁) ⊛ (‵ (flft κ₁₂ q₁₂) ⊛ ‵ ftrue)))))))))))))) ∷ ‵ (owns (MutRef (named 0) κ₀ States ∷ MutSlice (named 1) κ₁ C14 ∷ MutSlice (named 2) κ₂ f64 ∷ MutSlice (named 3) κ₃ C6 ∷ MutSlice (named 4) κ₄ f64 ∷ MutSlice (named 5) κ₅ f64 ∷ MutSlice (named 6) κ₆ C12 ∷ MutSlice (named 7) κ₇ f64 ∷ MutSlice (named 8) κ₈ C2 ∷ MutSlice (named 9) κ₉ C11 ∷ MutSlice (named 10) κ₁₀ F2 ∷ MutSlice (named 11) κ₁₁ R ∷ MutRef (named 12) κ₁₂ Halls ∷ u32 ∷ u32 ∷ []) a at) ∷ []) ∵ split ! $ move ! (1 ∷ []) $ split ! $ move ! (1 ∷ []) $ split ! $ move ! (1 ∷ []) $ split ! $ move ! (1 ∷ []) $ split ! $ move ! (1 ∷ []) $ split ! $ move ! (1 ∷ []) $ split ! $ move ! (1 ∷ []) $ split ! $ move ! (1 ∷ []) $ split ! $ move ! (1 ∷ []) $ split ! $ move ! (1 ∷ []) $ split ! $ move ! (1 ∷ []) $ split ! $ move ! (1 ∷ []) $ split ! $ move ! (14 ∷ []) $ fsplit ! $ move ! (1 ∷ []) $ fsplit ! $ move ! (1 ∷ []) $ fsplit ! $ move ! (1 ∷ []) $ fsplit ! $ move ! (1 ∷ []) $ fsplit ! $ move ! (1 ∷ []) $ fsplit ! $ move ! (1 ∷ []) $ fsplit ! $ move ! (1 ∷ []) $ fsplit ! $ move ! (1 ∷ []) $ fsplit ! $ move ! (1 ∷ []) $ fsplit ! $ move ! (1 ∷ []) $ fsplit ! $ move ! (1 ∷ []) $ fsplit ! $ move ! (1 ∷ []) $ fsplit ! $ move ! (16 ∷ 2 ∷ 27 ∷ 26 ∷ 25 ∷ 24 ∷ 23 ∷ 22 ∷ 21 ∷ 20 ∷ 19 ∷ 18 ∷ 17 ∷ 14 ∷ 13 ∷ 12 ∷ 11 ∷ 10 ∷ 9 ∷ 8 ∷ 7 ∷ 6 ∷ 5 ∷ 4 ∷ 3 ∷ 0 ∷ []) $ keep ! (0 ∷ 1 ∷ 2 ∷ 3 ∷ 4 ∷ 5 ∷ 6 ∷ 7 ∷ 8 ∷ 9 ∷ 10 ∷ 11 ∷ 12 ∷ 13 ∷ 14 ∷ 15 ∷ 16 ∷ 17 ∷ 18 ∷ 19 ∷ 20 ∷ 21 ∷ 22 ∷ 23 ∷ 24 ∷ 25 ∷ []) $ done !
+      qed W (((‵ (flft κ₀ q₀) ⊛ (‵ (flft κ₁ q₁) ⊛ (‵ (flft κ₂ q₂) ⊛ (‵ (flft κ₃ q₃) ⊛ (‵ (flft κ₄ q₄) ⊛ (‵ (flft κ₅ q₅) ⊛ (‵ (flft κ₆ q₆) ⊛ (‵ (flft κ₇ q₇) ⊛ (‵ (flft κ₈ q₈) ⊛ (‵ (flft κ₉ q₉) ⊛ (‵ (flft κ₁₀ q₁₀) ⊛ (‵ (flft κ₁₁ q₁₁) ⊛ (‵ (flft κ₁₂ q₁₂) ⊛ ‵ ftrue)))))))))))))) ∷ ‵ (owns (MutRef (named 0) κ₀ States ∷ MutSlice (named 1) κ₁ C14 ∷ MutSlice (named 2) κ₂ f64 ∷ MutSlice (named 3) κ₃ C6 ∷ MutSlice (named 4) κ₄ f64 ∷ MutSlice (named 5) κ₅ f64 ∷ MutSlice (named 6) κ₆ C12 ∷ MutSlice (named 7) κ₇ f64 ∷ MutSlice (named 8) κ₈ C2 ∷ MutSlice (named 9) κ₉ C11 ∷ MutSlice (named 10) κ₁₀ F2 ∷ MutSlice (named 11) κ₁₁ R ∷ MutRef (named 12) κ₁₂ Halls ∷ u32 ∷ u32 ∷ []) a at) ∷ []) ∵ split ! $ move ! (1 ∷ []) $ split ! $ move ! (1 ∷ []) $ split ! $ move ! (1 ∷ []) $ split ! $ move ! (1 ∷ []) $ split ! $ move ! (1 ∷ []) $ split ! $ move ! (1 ∷ []) $ split ! $ move ! (1 ∷ []) $ split ! $ move ! (1 ∷ []) $ split ! $ move ! (1 ∷ []) $ split ! $ move ! (1 ∷ []) $ split ! $ move ! (1 ∷ []) $ split ! $ move ! (1 ∷ []) $ split ! $ move ! (14 ∷ []) $ fsplit ! $ move ! (1 ∷ []) $ fsplit ! $ move ! (1 ∷ []) $ fsplit ! $ move ! (1 ∷ []) $ fsplit ! $ move ! (1 ∷ []) $ fsplit ! $ move ! (1 ∷ []) $ fsplit ! $ move ! (1 ∷ []) $ fsplit ! $ move ! (1 ∷ []) $ fsplit ! $ move ! (1 ∷ []) $ fsplit ! $ move ! (1 ∷ []) $ fsplit ! $ move ! (1 ∷ []) $ fsplit ! $ move ! (1 ∷ []) $ fsplit ! $ move ! (1 ∷ []) $ fsplit ! $ keep ! (16 ∷ 2 ∷ 27 ∷ 26 ∷ 25 ∷ 24 ∷ 23 ∷ 22 ∷ 21 ∷ 20 ∷ 19 ∷ 18 ∷ 17 ∷ 14 ∷ 13 ∷ 12 ∷ 11 ∷ 10 ∷ 9 ∷ 8 ∷ 7 ∷ 6 ∷ 5 ∷ 4 ∷ 3 ∷ 0 ∷ []) $ done !
 
   module _ (C : Calls 𝓤 H) (Λ : Loops 𝓤 H) (fm : FmC 𝓤 H (W .laws) C) (known-load : Triple 𝓤 (C #free-table·load) (Load 𝓤 H A mem run)) (known-leaves : Triple 𝓤 (C #hall·leave-seats) (Leaves 𝓤 H A mem run)) (known-seat : Triple 𝓤 (C #hall·seat-of) (SeatOf 𝓤 H A mem run)) (known-table : Triple 𝓤 (C #seats·leave-table) (Freed 𝓤 H A mem run)) (known-store : Triple 𝓤 (C #free-table·store) (Store 𝓤 H A mem run)) where
     module _ (l₀ l₁ l₂ l₃ l₄ l₅ l₆ l₇ l₈ l₉ l₁₀ l₁₁ l₁₂ l₁₃ l₁₄ l₁₅ l₁₆ l₁₇ l₁₈ l₁₉ l₂₀ l₂₁ l₂₂ l₂₃ l₂₄ l₂₅ l₂₆ l₂₇ l₂₈ l₂₉ l₃₀ l₃₁ l₃₂ l₃₃ l₃₄ l₃₅ l₃₆ l₃₇ l₃₈ l₃₉ l₄₀ l₄₁ l₄₂ l₄₃ l₄₄ l₄₅ l₄₆ l₄₇ l₄₈ : ℕ) where
