@@ -45,7 +45,7 @@ module _ (ys : List Stretch) (n : ℕ) (ss : List (List (List ℕ))) (p : ℕ) (
         by-table =
             leave-table-is ys n ss m p 0 (e .pilots) refl
             (g ∙ ap (λ (x : Seat). pick (eqb (x .number) 0) (stored ys (freedTable (loaded ys) n (stretchOf l))) ys) f
-                ∙ ap (λ (x : Left). pick (eqb (x .number) 0) (stored ys (freedTable (loaded ys) n (stretchOf x))) ys) (e .by-left));
+            ∙ ap (λ (x : Left). pick (eqb (x .number) 0) (stored ys (freedTable (loaded ys) n (stretchOf x))) ys) (e .by-left));
         by-seats = e .by-seats ∙ sym (leave-roomed ys n ss m p 0 .seats);
         by-pool = e .by-pool ∙ ap (λ (a : Seated). leftPool a (seatOf ss p) p before) (sym (leave-roomed ys n ss m p 0 .answer));
       }

@@ -68,7 +68,7 @@ fn pool_rows(
 ) -> u32
     ensures defined { λ r.
         ⌜ r ≡ min 4294967295 (min collected (min «collected_values» (min rows (min bases (min values (min entries
-            (min «entry_values» (min plain (min sources «source_values»))))))))) ⌝ }
+        (min «entry_values» (min plain (min sources «source_values»))))))))) ⌝ }
 {
     let five = lesser(sources, source_values);
     let four = lesser(plain, five);

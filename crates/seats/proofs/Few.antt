@@ -125,7 +125,7 @@ module _ (n : ℕ) (free ps : List Stretch) (t : Tiles n (free ++ ps)) where
       let last = below-n (u .start) (let z = e (u .start) (omega (arith, up)) in let y = is-in (u .start) u (omega arith) (omega (arith, more)) in omega (arith, z, y)) in
       let here : howMany (endOf s) ps ≡ 1 = (let z = both-rows (endOf s) (omega (arith, up, last)) in let y = e (endOf s) (omega arith) in let x = gap s (u ∷ r) a in omega (arith, z, y, x)) in
       let before : howMany (endOf s - 1) ps ≡ 0 =
-          (let z = both-rows (endOf s - 1) (omega (arith, up, last)) in let y = e (endOf s - 1) (omega (arith, long)) in let x = is-in (endOf s - 1) s (omega (arith, long)) (omega (arith, long)) in omega (arith, z, y, x)) in
+      (let z = both-rows (endOf s - 1) (omega (arith, up, last)) in let y = e (endOf s - 1) (omega (arith, long)) in let x = is-in (endOf s - 1) s (omega (arith, long)) (omega (arith, long)) in omega (arith, z, y, x)) in
       let next = one-begins (endOf s) (endOf u) ps (omega (arith, long)) (omega (arith, up)) (omega (arith, here)) before in omega (arith, rest, next)
 
   few : (l : List Stretch) → free ≡ l → apart l ≡ true → (k : ℕ) → ((e : ℕ) → startsFrom e ps ≤ k) → length l ≤ suc k

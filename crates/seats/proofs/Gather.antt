@@ -86,11 +86,11 @@ seating-next {f} {free} {all} {p} s h k =
       is =
           ap (λ (a : List Stretch). set a (p + 17) (f p))
           (s .is ∙ sym (app-app (take 17 free) (map f (from 0 p)) (drop (17 + p) free))
-              ∙ ap (λ (a : List Stretch). (take 17 free ++ map f (from 0 p)) ++ a) (drop-step free (17 + p) empty (omega (arith, h, k))))
+          ∙ ap (λ (a : List Stretch). (take 17 free ++ map f (from 0 p)) ++ a) (drop-step free (17 + p) empty (omega (arith, h, k))))
           ∙ ap (λ (m : ℕ). set ((take 17 free ++ map f (from 0 p)) ++ (getD free (17 + p) empty ∷ drop (17 + p + 1) free)) m (f p)) (sym (front f free p (omega (arith, h))))
           ∙ set-next (take 17 free ++ map f (from 0 p)) (getD free (17 + p) empty) (f p) (drop (17 + p + 1) free)
           ∙ ap (λ (a : List Stretch). a ++ drop (17 + p + 1) free) (app-app (take 17 free) (map f (from 0 p)) (f p ∷ [])
-              ∙ ap (λ (m : ℕ). take 17 free ++ (map f (from 0 p) ++ (f m ∷ []))) (sym (zero-add p)) ∙ ap (λ (a : List Stretch). take 17 free ++ a) (sym (table-next f 0 p)))
+          ∙ ap (λ (m : ℕ). take 17 free ++ (map f (from 0 p) ++ (f m ∷ []))) (sym (zero-add p)) ∙ ap (λ (a : List Stretch). take 17 free ++ a) (sym (table-next f 0 p)))
           ∙ app-app (take 17 free) (map f (from 0 (p + 1))) (drop (17 + p + 1) free)
           ∙ ap (λ (m : ℕ). take 17 free ++ (map f (from 0 (p + 1)) ++ drop m free)) (let z : 17 + p + 1 ≡ 17 + (p + 1) = omega arith in z);
     }

@@ -93,7 +93,7 @@ tabled-stored ys n fs h k l =
     stored-is ys (tabled (take 17 ys) n fs) h (tabled-long (take 17 ys) n fs (omega (arith, long, k)) (omega (arith, long, l)) ∙ long)
     ∙ app-app fs (replicate (n - length fs) empty ++ drop (max n (length fs)) (take 17 ys)) (drop 17 ys)
     ∙ ap (λ (q : List Stretch). fs ++ q) (app-app (replicate (n - length fs) empty) (drop (max n (length fs)) (take 17 ys)) (drop 17 ys)
-        ∙ ap (λ (q : List Stretch). replicate (n - length fs) empty ++ q) (drop-take (max n (length fs)) 17 ys (omega (arith, k, l))))
+    ∙ ap (λ (q : List Stretch). replicate (n - length fs) empty ++ q) (drop-take (max n (length fs)) 17 ys (omega (arith, k, l))))
 
 -- ---- the two halls
 
@@ -126,7 +126,7 @@ module _ (ys : List Stretch) (n : ℕ) (ss : List (List (List ℕ))) (m : ℕ) w
         ∙ ap (λ (b : Bool). true && b && every? (sameFive ss) (from 0 16) && apart (take n ys) && tiled m (take n ys ++ map (seatOf ss) (from 0 16))) (le-leb n (length ys) (omega (arith, h, k)))
         ∙ ap (λ (q : List Stretch). true && true && every? (sameFive ss) (from 0 16) && apart q && tiled m (q ++ map (seatOf ss) (from 0 16))) (sym (free-same k))
         ∙ sym (ap (λ (b : Bool). b && leb n (length (loaded ys)) && every? (sameFive ss) (from 0 16) && apart (take n (loaded ys)) && tiled m (take n (loaded ys) ++ map (seatOf ss) (from 0 16))) (le-leb 17 (length (loaded ys)) (let z = part-long in omega (arith, z)))
-            ∙ ap (λ (b : Bool). true && b && every? (sameFive ss) (from 0 16) && apart (take n (loaded ys)) && tiled m (take n (loaded ys) ++ map (seatOf ss) (from 0 16))) (le-leb n (length (loaded ys)) (let z = part-long in omega (arith, z, k))))
+        ∙ ap (λ (b : Bool). true && b && every? (sameFive ss) (from 0 16) && apart (take n (loaded ys)) && tiled m (take n (loaded ys) ++ map (seatOf ss) (from 0 16))) (le-leb n (length (loaded ys)) (let z = part-long in omega (arith, z, k))))
 
     -- 18 that are apart are in no good table, so the first seventeen decide
     pub good-same : tableGood whole ≡ tableGood part

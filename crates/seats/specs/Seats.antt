@@ -153,19 +153,19 @@ seat h p w (some c) = record { answer = Done; hall = withSeat h (c .rest) p (rec
 unfoldable pub admit : Hall → ℕ → ℕ → Given
 admit h p w =
     elim (tableGood h) [
-    | false ↦ refused Table h
-    | true ↦ elim (ltb p 16 && eqb (seatOf (h .seats) p .length) 0) [
-      | false ↦ refused (Pilot p) h
-      | true ↦ elim (eqb w 0) [ true ↦ refused (Length p) h | false ↦ seat h p w (cutFirst w (freeOf h)) ]
-    ]
+      | false ↦ refused Table h
+      | true ↦ elim (ltb p 16 && eqb (seatOf (h .seats) p .length) 0) [
+        | false ↦ refused (Pilot p) h
+        | true ↦ elim (eqb w 0) [ true ↦ refused (Length p) h | false ↦ seat h p w (cutFirst w (freeOf h)) ]
+      ]
     ]
 
 unfoldable pub leave : Hall → ℕ → Given
 leave h p =
     elim (tableGood h) [
-    | false ↦ refused Table h
-    | true ↦ elim (ltb p 16 && isIn (h .seats) p) [
-      | false ↦ refused (Pilot p) h
-      | true ↦ record { answer = Done; hall = withSeat h (freed (seatOf (h .seats) p) (freeOf h)) p empty }
-    ]
+      | false ↦ refused Table h
+      | true ↦ elim (ltb p 16 && isIn (h .seats) p) [
+        | false ↦ refused (Pilot p) h
+        | true ↦ record { answer = Done; hall = withSeat h (freed (seatOf (h .seats) p) (freeOf h)) p empty }
+      ]
     ]

@@ -66,7 +66,10 @@ fn same_five(stretches: &PoolStretches, p: usize) -> bool
     let third = stretches[p][2];
     let fourth = stretches[p][3];
     let fifth = stretches[p][4];
-    same_pair(first, second) & same_pair(first, third) & same_pair(first, fourth) & same_pair(first, fifth)
+    same_pair(first, second)
+        & same_pair(first, third)
+        & same_pair(first, fourth)
+        & same_pair(first, fifth)
 }
 
 // Whether some pilot's five pairs differ.
@@ -119,7 +122,10 @@ fn with_free(t: [Stretch; 17], n: usize) -> [Stretch; 33]
     requires few { ⌜ n ≤ 17 ⌝ }
     ensures defined { λ r. ⌜ r ≡ take n t ++ replicate (33 - n) empty ⌝ }
 {
-    let mut all = [Stretch { start: 0, length: 0 }; 33];
+    let mut all = [Stretch {
+        start: 0,
+        length: 0,
+    }; 33];
     let mut i = 0;
     while i < n {
         all[i] = t[i];

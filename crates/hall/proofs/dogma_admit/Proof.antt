@@ -246,7 +246,7 @@ module _ {M : Type 1} (𝓤 : URA M) (H : Heap 𝓤) (A : Atoms 𝓤) (W : Given
           branches ! (loads ! (from ! (stop !)) (look ! 12 refl))
           -- it is admitted: the slice is passed on with the new table
           (λ so. let ready = cut-ready ys n xs m p w m-fits (ap (λ (z : Seat). eqb (z .number) 0) (sym s-e) ∙ is-so (eqb (s .number) 0) so) in assigns ! (addr ! (from ! (fld ! refl (hop ! (look-in ! 36 (sub ! 0 refl (whole !))) (stop !))))) (from ! (stop !)) (init ! 8 refl (tt, tt)) $
-        assigns ! (agg ! (and-then ! (loads ! (from ! (stop !)) (look ! 8 refl)) (and-then ! (loads ! (from ! (fld ! refl (stop !))) (look-in ! 36 (sub ! 1 refl (whole !)))) (no-more !)))) (from ! (stop !)) (init ! 6 refl (tt, (tt, (record { fits = gn .0 }, tt)))) $
+          assigns ! (agg ! (and-then ! (loads ! (from ! (stop !)) (look ! 8 refl)) (and-then ! (loads ! (from ! (fld ! refl (stop !))) (look-in ! 36 (sub ! 1 refl (whole !)))) (no-more !)))) (from ! (stop !)) (init ! 6 refl (tt, (tt, (record { fits = gn .0 }, tt)))) $
           use0 W (raw (Cuts 𝓤 H A mem run .pre (to-table ts u))) (goes-table ts u ts-is (subst (λ (l : List Stretch). Ready l n) (sym ts-e) (ready .1))) $
           calls-at ! fm (Cuts 𝓤 H A mem run) known-table (to-table ts u) (and-then ! (loads ! (from ! (stop !)) (look ! 23 refl)) (and-then ! (loads ! (from ! (stop !)) (look ! 33 refl)) (and-then ! (loads ! (from ! (stop !)) (look ! 27 refl)) (no-more !)))) (λ u₃.
           use1 W (later (some (λ (cs : List Stretch). (‵ ftrue ⊛ ‵ (Table .own cs (u₃ ∷ []))) ⊛ raw (ensured 𝓤 H A admit-table.ended (admit-table.clauses 𝓤 H A mem run) tt (ts, (n, (w, tt))) tt cs)))) (id⊢ 𝓤 _) $ await ! tt $ picks ! (λ cs.
@@ -289,7 +289,7 @@ module _ {M : Type 1} (𝓤 : URA M) (H : Heap 𝓤) (A : Atoms 𝓤) (W : Given
           keep ! (7 ∷ 8 ∷ 1 ∷ 3 ∷ 9 ∷ 10 ∷ 11 ∷ 12 ∷ 13 ∷ 14 ∷ 15 ∷ 16 ∷ 17 ∷ 18 ∷ 19 ∷ 20 ∷ 21 ∷ 22 ∷ 23 ∷ 24 ∷ 25 ∷ 26 ∷ 27 ∷ 28 ∷ 29 ∷ 30 ∷ 31 ∷ 32 ∷ 33 ∷ 34 ∷ 35 ∷ 36 ∷ 37 ∷ 38 ∷ 39 ∷ 40 ∷ 41 ∷ 42 ∷ 43 ∷ 44 ∷ []) $
           assigns ! (bin ! (loads ! (from ! (fld ! refl (stop !))) (look-in ! 20 (sub ! 0 refl (whole !)))) (lit ! tt) tt) (from ! (stop !)) (init ! 12 refl (tt, tt)) $
           first ! $ splits u ts s (zs .1 .1 .0) ts-is (subst (Is S.the-row s) (LL.tells S.the-type S′.the-laws s _ s-is) s-is) ts-e
-          (s-e .0 ∙ ap (λ (l : List Stretch). answer l (length ys) xs n m p w) ts-e)(s-e .1 ∙ ap (λ (l : List Stretch). seats l (length ys) xs n m p w) ts-e))))))
+          (s-e .0 ∙ ap (λ (l : List Stretch). answer l (length ys) xs n m p w) ts-e) (s-e .1 ∙ ap (λ (l : List Stretch). seats l (length ys) xs n m p w) ts-e))))))
 
     walk : ent 𝓤 (onEntry 𝓤 H A f.signature (κ, (ι, tt)) (q, (r, tt)) a at) (WpFn 𝓤 H C Λ code.function (v ∷ vptr c d ∷ vint w32 n ∷ vint w32 m ∷ vint w32 p ∷ vint w32 w ∷ []) Post)
     walk =

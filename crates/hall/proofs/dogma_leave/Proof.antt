@@ -153,7 +153,7 @@ is-not false _ = refl
 module _ {M : Type 1} (𝓤 : URA M) (H : Heap 𝓤) (A : Atoms 𝓤) (W : Given 𝓤 H A) (mem : Memory → SProp 𝓤) (run : Routine → Fun 𝓤) (κ₀ κ₁ κ₂ κ₃ κ₄ κ₅ κ₆ κ₇ κ₈ κ₉ κ₁₀ κ₁₁ κ₁₂ : Lft) (q₀ q₁ q₂ q₃ q₄ q₅ q₆ q₇ q₈ q₉ q₁₀ q₁₁ q₁₂ : Share) (sb so : ℕ) (σ : GName) (st : List (List (List ℕ))) (b₁ o₁ : ℕ) (γ₁ : GName) (w₁ : List (List ℕ)) (b₂ o₂ : ℕ) (γ₂ : GName) (w₂ : List (Float)) (b₃ o₃ : ℕ) (γ₃ : GName) (w₃ : List (List ℕ)) (b₄ o₄ : ℕ) (γ₄ : GName) (w₄ : List (Float)) (b₅ o₅ : ℕ) (γ₅ : GName) (w₅ : List (Float)) (b₆ o₆ : ℕ) (γ₆ : GName) (w₆ : List (List ℕ)) (b₇ o₇ : ℕ) (γ₇ : GName) (w₇ : List (Float)) (b₈ o₈ : ℕ) (γ₈ : GName) (w₈ : List (List ℕ)) (b₉ o₉ : ℕ) (γ₉ : GName) (w₉ : List (List ℕ)) (b₁₀ o₁₀ : ℕ) (γ₁₀ : GName) (w₁₀ : List (List Float)) (b o : ℕ) (γ : GName) (ys : List Stretch) (c d : ℕ) (ε : GName) (xs : List (List (List ℕ))) (n p : ℕ)
     (g₁ : Room C14 (length w₁)) (g₂ : Room f64 (length w₂)) (g₃ : Room C6 (length w₃)) (g₄ : Room f64 (length w₄)) (g₅ : Room f64 (length w₅)) (g₆ : Room C12 (length w₆)) (g₇ : Room f64 (length w₇)) (g₈ : Room C2 (length w₈)) (g₉ : Room C11 (length w₉)) (g₁₀ : Room F2 (length w₁₀)) (gn : Room R (length ys)) (n-fits : n < 2 ^ 32) (p-fits : p < 2 ^ 32) where
   abbrev before : Pool
-  before = (record { states = st; collected = w₁; collectedValues = w₂; rows = w₃; bases = w₄; values = w₅; entries = w₆; entryValues = w₇; plain = w₈; sources = w₉; sourceFloats = w₁₀; })
+  before = (record { states = st; collected = w₁; collectedValues = w₂; rows = w₃; bases = w₄; values = w₅; entries = w₆; entryValues = w₇; plain = w₈; sources = w₉; sourceFloats = w₁₀ })
 
   abbrev y₀ : RefT (List (List (List ℕ)))
   y₀ = record { ptr = (sb, so); name = σ; now = st }
@@ -301,7 +301,7 @@ module _ {M : Type 1} (𝓤 : URA M) (H : Heap 𝓤) (A : Atoms 𝓤) (W : Given
   abbrev Lasts : List Stretch → (List (List (List ℕ)) × (List (List ℕ) × (List (Float) × (List (List ℕ) × (List (Float) × (List (Float) × (List (List ℕ) × (List (Float) × (List (List ℕ) × (List (List ℕ) × (List (List Float) × (List (List (List ℕ)) × (Unit {0} × (Unit {0} × (Unit {0} × (Unit {0} × Unit {0})))))))))))))))) → Item 𝓤
   Lasts ts zs = ‵ (lasts leave-seats.ended (κ₀, (κ₁, (κ₂, (κ₃, (κ₄, (κ₅, (κ₆, (κ₇, (κ₈, (κ₉, (κ₁₀, (κ₁₂, tt)))))))))))) (y₀, (x₁, (x₂, (x₃, (x₄, (x₅, (x₆, (x₇, (x₈, (x₉, (x₁₀, (y, (ts, (length ys, (n, (p, tt)))))))))))))))) zs)
 
-  exits : (s : Seat) (us ts : List Stretch) (zs : (List (List (List ℕ)) × (List (List ℕ) × (List (Float) × (List (List ℕ) × (List (Float) × (List (Float) × (List (List ℕ) × (List (Float) × (List (List ℕ) × (List (List ℕ) × (List (List Float) × (List (List (List ℕ)) × (Unit {0} × (Unit {0} × (Unit {0} × (Unit {0} × Unit {0}))))))))))))))))) → Is S.the-row s (svals s) → LeaveMeets (hallOf ys n xs (poolRows before)) p before (record { states = zs .0; collected = zs .1 .0; collectedValues = zs .1 .1 .0; rows = zs .1 .1 .1 .0; bases = zs .1 .1 .1 .1 .0; values = zs .1 .1 .1 .1 .1 .0; entries = zs .1 .1 .1 .1 .1 .1 .0; entryValues = zs .1 .1 .1 .1 .1 .1 .1 .0; plain = zs .1 .1 .1 .1 .1 .1 .1 .1 .0; sources = zs .1 .1 .1 .1 .1 .1 .1 .1 .1 .0; sourceFloats = zs .1 .1 .1 .1 .1 .1 .1 .1 .1 .1 .0; }) s us (zs .1 .1 .1 .1 .1 .1 .1 .1 .1 .1 .1 .0) → length us ≡ length ys
+  exits : (s : Seat) (us ts : List Stretch) (zs : (List (List (List ℕ)) × (List (List ℕ) × (List (Float) × (List (List ℕ) × (List (Float) × (List (Float) × (List (List ℕ) × (List (Float) × (List (List ℕ) × (List (List ℕ) × (List (List Float) × (List (List (List ℕ)) × (Unit {0} × (Unit {0} × (Unit {0} × (Unit {0} × Unit {0}))))))))))))))))) → Is S.the-row s (svals s) → LeaveMeets (hallOf ys n xs (poolRows before)) p before (record { states = zs .0; collected = zs .1 .0; collectedValues = zs .1 .1 .0; rows = zs .1 .1 .1 .0; bases = zs .1 .1 .1 .1 .0; values = zs .1 .1 .1 .1 .1 .0; entries = zs .1 .1 .1 .1 .1 .1 .0; entryValues = zs .1 .1 .1 .1 .1 .1 .1 .0; plain = zs .1 .1 .1 .1 .1 .1 .1 .1 .0; sources = zs .1 .1 .1 .1 .1 .1 .1 .1 .1 .0; sourceFloats = zs .1 .1 .1 .1 .1 .1 .1 .1 .1 .1 .0 }) s us (zs .1 .1 .1 .1 .1 .1 .1 .1 .1 .1 .1 .0) → length us ≡ length ys
       → ent 𝓤 (⋆ 𝓤 H A (‵ (flft κ₁₁ q₁₁) ∷ ‵ (finally R γ us) ∷ Tokens ∷ Lasts ts zs ∷ [])) (Post (S′.lowered s))
   exits s us ts zs s-is e same =
       qed W (‵ (flft κ₁₁ q₁₁) ∷ ‵ (finally R γ us) ∷ Tokens ∷ Lasts ts zs ∷ []) ∵ move ! (2 ∷ []) $ split ! $ move ! (1 ∷ []) $ split ! $ move ! (1 ∷ []) $ split ! $ move ! (1 ∷ []) $ split ! $ move ! (1 ∷ []) $ split ! $ move ! (1 ∷ []) $ split ! $ move ! (1 ∷ []) $ split ! $ move ! (1 ∷ []) $ split ! $ move ! (1 ∷ []) $ split ! $ move ! (1 ∷ []) $ split ! $ move ! (1 ∷ []) $ split ! $ move ! (1 ∷ []) $ split ! $ move ! (15 ∷ []) $ fsplit ! $ move ! (1 ∷ []) $ fsplit ! $ fsplit ! $ move ! (1 ∷ []) $ feqL ! (λ same₁. move ! (1 ∷ []) $ fsplit ! $ fsplit ! $ move ! (1 ∷ []) $ feqL ! (λ same₂. move ! (1 ∷ []) $ fsplit ! $ fsplit ! $ move ! (1 ∷ []) $ feqL ! (λ same₃. move ! (1 ∷ []) $ fsplit ! $ fsplit ! $ move ! (1 ∷ []) $ feqL ! (λ same₄. move ! (1 ∷ []) $ fsplit ! $ fsplit ! $ move ! (1 ∷ []) $ feqL ! (λ same₅. move ! (1 ∷ []) $ fsplit ! $ fsplit ! $ move ! (1 ∷ []) $ feqL ! (λ same₆. move ! (1 ∷ []) $ fsplit ! $ fsplit ! $ move ! (1 ∷ []) $ feqL ! (λ same₇. move ! (1 ∷ []) $ fsplit ! $ fsplit ! $ move ! (1 ∷ []) $ feqL ! (λ same₈. move ! (1 ∷ []) $ fsplit ! $ fsplit ! $ move ! (1 ∷ []) $ feqL ! (λ same₉. move ! (1 ∷ []) $ fsplit ! $ fsplit ! $ move ! (1 ∷ []) $ feqL ! (λ same₁₀. move ! (1 ∷ []) $ fsplit ! $ keep ! (26 ∷ 27 ∷ 25 ∷ 24 ∷ 23 ∷ 22 ∷ 21 ∷ 20 ∷ 19 ∷ 18 ∷ 17 ∷ 16 ∷ 15 ∷ 13 ∷ 12 ∷ 11 ∷ 10 ∷ 9 ∷ 8 ∷ 7 ∷ 6 ∷ 5 ∷ 4 ∷ 3 ∷ 2 ∷ 0 ∷ []) $
@@ -328,7 +328,7 @@ module _ {M : Type 1} (𝓤 : URA M) (H : Heap 𝓤) (A : Atoms 𝓤) (W : Given
       abbrev Done : Seat → List Stretch → List Stretch → (List (List (List ℕ)) × (List (List ℕ) × (List (Float) × (List (List ℕ) × (List (Float) × (List (Float) × (List (List ℕ) × (List (Float) × (List (List ℕ) × (List (List ℕ) × (List (List Float) × (List (List (List ℕ)) × (Unit {0} × (Unit {0} × (Unit {0} × (Unit {0} × Unit {0})))))))))))))))) → List (Item 𝓤)
       Done s us ts zs = ‵ (flft κ₁₁ q₁₁) ∷ ‵ (finally R γ us) ∷ Tokens ∷ Lasts ts zs ∷ ‵ (froom array l₄₈ 0) ∷ ‵ (fdies array l₄₈) ∷ ‵ (froom (sliceTy (tyRef erased mut (pointee (R .written)))) l₄₇ 0) ∷ ‵ (fdies (sliceTy (tyRef erased mut (pointee (R .written)))) l₄₇) ∷ ‵ (froom (tyRef erased mut (pointee (R .written))) l₄₆ 0) ∷ ‵ (fdies (tyRef erased mut (pointee (R .written))) l₄₆) ∷ ‵ (froom tyUnit l₄₅ 0) ∷ ‵ (fdies tyUnit l₄₅) ∷ ‵ (froom tyBool l₄₄ 0) ∷ ‵ (fdies tyBool l₄₄) ∷ ‵ (froom (tyRef erased mut (pointee (Halls .written))) l₄₃ 0) ∷ ‵ (fdies (tyRef erased mut (pointee (Halls .written))) l₄₃) ∷ ‵ (froom (sliceTy (tyRef erased mut (pointee (F2 .written)))) l₄₂ 0) ∷ ‵ (fdies (sliceTy (tyRef erased mut (pointee (F2 .written)))) l₄₂) ∷ ‵ (froom (tyRef erased mut (pointee (F2 .written))) l₄₁ 0) ∷ ‵ (fdies (tyRef erased mut (pointee (F2 .written))) l₄₁) ∷ ‵ (froom (sliceTy (tyRef erased mut (pointee (C11 .written)))) l₄₀ 0) ∷ ‵ (fdies (sliceTy (tyRef erased mut (pointee (C11 .written)))) l₄₀) ∷ ‵ (froom (tyRef erased mut (pointee (C11 .written))) l₃₉ 0) ∷ ‵ (fdies (tyRef erased mut (pointee (C11 .written))) l₃₉) ∷ ‵ (froom (sliceTy (tyRef erased mut (pointee (C2 .written)))) l₃₈ 0) ∷ ‵ (fdies (sliceTy (tyRef erased mut (pointee (C2 .written)))) l₃₈) ∷ ‵ (froom (tyRef erased mut (pointee (C2 .written))) l₃₇ 0) ∷ ‵ (fdies (tyRef erased mut (pointee (C2 .written))) l₃₇) ∷ ‵ (froom (sliceTy (tyRef erased mut (pointee (f64 .written)))) l₃₆ 0) ∷ ‵ (fdies (sliceTy (tyRef erased mut (pointee (f64 .written)))) l₃₆) ∷ ‵ (froom (tyRef erased mut (pointee (f64 .written))) l₃₅ 0) ∷ ‵ (fdies (tyRef erased mut (pointee (f64 .written))) l₃₅) ∷ ‵ (froom (sliceTy (tyRef erased mut (pointee (C12 .written)))) l₃₄ 0) ∷ ‵ (fdies (sliceTy (tyRef erased mut (pointee (C12 .written)))) l₃₄) ∷ ‵ (froom (tyRef erased mut (pointee (C12 .written))) l₃₃ 0) ∷ ‵ (fdies (tyRef erased mut (pointee (C12 .written))) l₃₃) ∷ ‵ (froom (sliceTy (tyRef erased mut (pointee (f64 .written)))) l₃₂ 0) ∷ ‵ (fdies (sliceTy (tyRef erased mut (pointee (f64 .written)))) l₃₂) ∷ ‵ (froom (tyRef erased mut (pointee (f64 .written))) l₃₁ 0) ∷ ‵ (fdies (tyRef erased mut (pointee (f64 .written))) l₃₁) ∷ ‵ (froom (sliceTy (tyRef erased mut (pointee (f64 .written)))) l₃₀ 0) ∷ ‵ (fdies (sliceTy (tyRef erased mut (pointee (f64 .written)))) l₃₀) ∷ ‵ (froom (tyRef erased mut (pointee (f64 .written))) l₂₉ 0) ∷ ‵ (fdies (tyRef erased mut (pointee (f64 .written))) l₂₉) ∷ ‵ (froom (sliceTy (tyRef erased mut (pointee (C6 .written)))) l₂₈ 0) ∷ ‵ (fdies (sliceTy (tyRef erased mut (pointee (C6 .written)))) l₂₈) ∷ ‵ (froom (tyRef erased mut (pointee (C6 .written))) l₂₇ 0) ∷ ‵ (fdies (tyRef erased mut (pointee (C6 .written))) l₂₇) ∷ ‵ (froom (sliceTy (tyRef erased mut (pointee (f64 .written)))) l₂₆ 0) ∷ ‵ (fdies (sliceTy (tyRef erased mut (pointee (f64 .written)))) l₂₆) ∷ ‵ (froom (tyRef erased mut (pointee (f64 .written))) l₂₅ 0) ∷ ‵ (fdies (tyRef erased mut (pointee (f64 .written))) l₂₅) ∷ ‵ (froom (sliceTy (tyRef erased mut (pointee (C14 .written)))) l₂₄ 0) ∷ ‵ (fdies (sliceTy (tyRef erased mut (pointee (C14 .written)))) l₂₄) ∷ ‵ (froom (tyRef erased mut (pointee (C14 .written))) l₂₃ 0) ∷ ‵ (fdies (tyRef erased mut (pointee (C14 .written))) l₂₃) ∷ ‵ (froom (tyRef erased mut (pointee (States .written))) l₂₂ 0) ∷ ‵ (fdies (tyRef erased mut (pointee (States .written))) l₂₂) ∷ ‵ (froom (sliceTy (tyRef erased imm (pointee (R .written)))) l₂₁ 0) ∷ ‵ (fdies (sliceTy (tyRef erased imm (pointee (R .written)))) l₂₁) ∷ ‵ (froom (tyRef erased imm (pointee (R .written))) l₂₀ 0) ∷ ‵ (fdies (tyRef erased imm (pointee (R .written))) l₂₀) ∷ ‵ (fat fullShare S′.mir l₁₉ 0 (S′.lowered s)) ∷ ‵ (fdies S′.mir l₁₉) ∷ ‵ (froom L′.mir l₁₈ 0) ∷ ‵ (fdies L′.mir l₁₈) ∷ ‵ (froom array l₁₇ 0) ∷ ‵ (fdies array l₁₇) ∷ ‵ (froom word l₁₆ 0) ∷ ‵ (fdies word l₁₆) ∷ ‵ (froom half l₁₅ 0) ∷ ‵ (fdies half l₁₅) ∷ ‵ (froom half l₁₄ 0) ∷ ‵ (fdies half l₁₄) ∷ ‵ (froom (tyRef (named 12) mut (pointee (Halls .written))) l₁₃ 0) ∷ ‵ (fdies (tyRef (named 12) mut (pointee (Halls .written))) l₁₃) ∷ ‵ (froom (sliceTy (tyRef (named 11) mut (pointee (R .written)))) l₁₂ 0) ∷ ‵ (fdies (sliceTy (tyRef (named 11) mut (pointee (R .written)))) l₁₂) ∷ ‵ (froom (sliceTy (tyRef (named 10) mut (pointee (F2 .written)))) l₁₁ 0) ∷ ‵ (fdies (sliceTy (tyRef (named 10) mut (pointee (F2 .written)))) l₁₁) ∷ ‵ (froom (sliceTy (tyRef (named 9) mut (pointee (C11 .written)))) l₁₀ 0) ∷ ‵ (fdies (sliceTy (tyRef (named 9) mut (pointee (C11 .written)))) l₁₀) ∷ ‵ (froom (sliceTy (tyRef (named 8) mut (pointee (C2 .written)))) l₉ 0) ∷ ‵ (fdies (sliceTy (tyRef (named 8) mut (pointee (C2 .written)))) l₉) ∷ ‵ (froom (sliceTy (tyRef (named 7) mut (pointee (f64 .written)))) l₈ 0) ∷ ‵ (fdies (sliceTy (tyRef (named 7) mut (pointee (f64 .written)))) l₈) ∷ ‵ (froom (sliceTy (tyRef (named 6) mut (pointee (C12 .written)))) l₇ 0) ∷ ‵ (fdies (sliceTy (tyRef (named 6) mut (pointee (C12 .written)))) l₇) ∷ ‵ (froom (sliceTy (tyRef (named 5) mut (pointee (f64 .written)))) l₆ 0) ∷ ‵ (fdies (sliceTy (tyRef (named 5) mut (pointee (f64 .written)))) l₆) ∷ ‵ (froom (sliceTy (tyRef (named 4) mut (pointee (f64 .written)))) l₅ 0) ∷ ‵ (fdies (sliceTy (tyRef (named 4) mut (pointee (f64 .written)))) l₅) ∷ ‵ (froom (sliceTy (tyRef (named 3) mut (pointee (C6 .written)))) l₄ 0) ∷ ‵ (fdies (sliceTy (tyRef (named 3) mut (pointee (C6 .written)))) l₄) ∷ ‵ (froom (sliceTy (tyRef (named 2) mut (pointee (f64 .written)))) l₃ 0) ∷ ‵ (fdies (sliceTy (tyRef (named 2) mut (pointee (f64 .written)))) l₃) ∷ ‵ (froom (sliceTy (tyRef (named 1) mut (pointee (C14 .written)))) l₂ 0) ∷ ‵ (fdies (sliceTy (tyRef (named 1) mut (pointee (C14 .written)))) l₂) ∷ ‵ (froom (tyRef (named 0) mut (pointee (States .written))) l₁ 0) ∷ ‵ (fdies (tyRef (named 0) mut (pointee (States .written))) l₁) ∷ ‵ (froom S′.mir l₀ 0) ∷ ‵ (fdies S′.mir l₀) ∷ []
 
-      leaves : (s : Seat) (us ts : List Stretch) (zs : (List (List (List ℕ)) × (List (List ℕ) × (List (Float) × (List (List ℕ) × (List (Float) × (List (Float) × (List (List ℕ) × (List (Float) × (List (List ℕ) × (List (List ℕ) × (List (List Float) × (List (List (List ℕ)) × (Unit {0} × (Unit {0} × (Unit {0} × (Unit {0} × Unit {0}))))))))))))))))) → Is S.the-row s (svals s) → LeaveMeets (hallOf ys n xs (poolRows before)) p before (record { states = zs .0; collected = zs .1 .0; collectedValues = zs .1 .1 .0; rows = zs .1 .1 .1 .0; bases = zs .1 .1 .1 .1 .0; values = zs .1 .1 .1 .1 .1 .0; entries = zs .1 .1 .1 .1 .1 .1 .0; entryValues = zs .1 .1 .1 .1 .1 .1 .1 .0; plain = zs .1 .1 .1 .1 .1 .1 .1 .1 .0; sources = zs .1 .1 .1 .1 .1 .1 .1 .1 .1 .0; sourceFloats = zs .1 .1 .1 .1 .1 .1 .1 .1 .1 .1 .0; }) s us (zs .1 .1 .1 .1 .1 .1 .1 .1 .1 .1 .1 .0) → length us ≡ length ys → Sq W (Done s us ts zs) (runs C Λ En mir.t-31 (atRet En Post))
+      leaves : (s : Seat) (us ts : List Stretch) (zs : (List (List (List ℕ)) × (List (List ℕ) × (List (Float) × (List (List ℕ) × (List (Float) × (List (Float) × (List (List ℕ) × (List (Float) × (List (List ℕ) × (List (List ℕ) × (List (List Float) × (List (List (List ℕ)) × (Unit {0} × (Unit {0} × (Unit {0} × (Unit {0} × Unit {0}))))))))))))))))) → Is S.the-row s (svals s) → LeaveMeets (hallOf ys n xs (poolRows before)) p before (record { states = zs .0; collected = zs .1 .0; collectedValues = zs .1 .1 .0; rows = zs .1 .1 .1 .0; bases = zs .1 .1 .1 .1 .0; values = zs .1 .1 .1 .1 .1 .0; entries = zs .1 .1 .1 .1 .1 .1 .0; entryValues = zs .1 .1 .1 .1 .1 .1 .1 .0; plain = zs .1 .1 .1 .1 .1 .1 .1 .1 .0; sources = zs .1 .1 .1 .1 .1 .1 .1 .1 .1 .0; sourceFloats = zs .1 .1 .1 .1 .1 .1 .1 .1 .1 .1 .0 }) s us (zs .1 .1 .1 .1 .1 .1 .1 .1 .1 .1 .1 .0) → length us ≡ length ys → Sq W (Done s us ts zs) (runs C Λ En mir.t-31 (atRet En Post))
       leaves s us ts zs s-is e same =
           assigns ! (of-opd ! (loads ! (from ! (stop !)) (look ! 62 refl))) (from ! (stop !)) (init ! 100 refl (LL.lawful S.the-type S′.the-laws 𝓤 H A W .typed s _ s-is .0)) $
           returns ! (look ! 100 refl) $ forget ! 62 refl $ forget ! 100 refl $
@@ -341,14 +341,14 @@ module _ {M : Type 1} (𝓤 : URA M) (H : Heap 𝓤) (A : Atoms 𝓤) (W : Given
       abbrev Then : Post′ 𝓤 H
       Then = anyQ (afterSeq 𝓤 H (Wp 𝓤 H C Λ En mir.t-31 (atReturn 𝓤 H En Post)) (atReturn 𝓤 H En Post))
 
-      splits : (u : Val) (ts : List Stretch) (l : Left) (s : Seat) (zs : (List (List (List ℕ)) × (List (List ℕ) × (List (Float) × (List (List ℕ) × (List (Float) × (List (Float) × (List (List ℕ) × (List (Float) × (List (List ℕ) × (List (List ℕ) × (List (List Float) × (List (List (List ℕ)) × (Unit {0} × (Unit {0} × (Unit {0} × (Unit {0} × Unit {0}))))))))))))))))) → Is Table ts (u ∷ []) → Is S.the-row s (svals s) → ts ≡ loaded ys → s ≡ seatFor l → LeavesSeats (length ys) (hallOf (loaded ys) n xs (poolRows before)) p before (record { states = zs .0; collected = zs .1 .0; collectedValues = zs .1 .1 .0; rows = zs .1 .1 .1 .0; bases = zs .1 .1 .1 .1 .0; values = zs .1 .1 .1 .1 .1 .0; entries = zs .1 .1 .1 .1 .1 .1 .0; entryValues = zs .1 .1 .1 .1 .1 .1 .1 .0; plain = zs .1 .1 .1 .1 .1 .1 .1 .1 .0; sources = zs .1 .1 .1 .1 .1 .1 .1 .1 .1 .0; sourceFloats = zs .1 .1 .1 .1 .1 .1 .1 .1 .1 .1 .0; }) l (zs .1 .1 .1 .1 .1 .1 .1 .1 .1 .1 .1 .0)
+      splits : (u : Val) (ts : List Stretch) (l : Left) (s : Seat) (zs : (List (List (List ℕ)) × (List (List ℕ) × (List (Float) × (List (List ℕ) × (List (Float) × (List (Float) × (List (List ℕ) × (List (Float) × (List (List ℕ) × (List (List ℕ) × (List (List Float) × (List (List (List ℕ)) × (Unit {0} × (Unit {0} × (Unit {0} × (Unit {0} × Unit {0}))))))))))))))))) → Is Table ts (u ∷ []) → Is S.the-row s (svals s) → ts ≡ loaded ys → s ≡ seatFor l → LeavesSeats (length ys) (hallOf (loaded ys) n xs (poolRows before)) p before (record { states = zs .0; collected = zs .1 .0; collectedValues = zs .1 .1 .0; rows = zs .1 .1 .1 .0; bases = zs .1 .1 .1 .1 .0; values = zs .1 .1 .1 .1 .1 .0; entries = zs .1 .1 .1 .1 .1 .1 .0; entryValues = zs .1 .1 .1 .1 .1 .1 .1 .0; plain = zs .1 .1 .1 .1 .1 .1 .1 .1 .0; sources = zs .1 .1 .1 .1 .1 .1 .1 .1 .1 .0; sourceFloats = zs .1 .1 .1 .1 .1 .1 .1 .1 .1 .1 .0 }) l (zs .1 .1 .1 .1 .1 .1 .1 .1 .1 .1 .1 .0)
           → Sq W (Before u l s ts zs) (runs C Λ En mir.s-30 Then)
       splits u ts l s zs ts-is s-is ts-e s-e l-e =
           branches ! (loads ! (from ! (stop !)) (look ! 12 refl))
           -- it has left: the slice is passed on with the new table
           (λ so. let ready = freed-ready ys n xs p before l-e (ap (λ (z : Seat). eqb (z .number) 0) (sym s-e) ∙ is-so (eqb (s .number) 0) so) in
           assigns ! (addr ! (from ! (fld ! refl (hop ! (look-in ! 76 (sub ! 0 refl (whole !))) (stop !))))) (from ! (stop !)) (init ! 8 refl (tt, tt)) $
-        assigns ! (agg ! (and-then ! (loads ! (from ! (stop !)) (look ! 8 refl)) (and-then ! (loads ! (from ! (fld ! refl (stop !))) (look-in ! 76 (sub ! 1 refl (whole !)))) (no-more !)))) (from ! (stop !)) (init ! 6 refl (tt, (tt, (record { fits = gn .0 }, tt)))) $
+          assigns ! (agg ! (and-then ! (loads ! (from ! (stop !)) (look ! 8 refl)) (and-then ! (loads ! (from ! (fld ! refl (stop !))) (look-in ! 76 (sub ! 1 refl (whole !)))) (no-more !)))) (from ! (stop !)) (init ! 6 refl (tt, (tt, (record { fits = gn .0 }, tt)))) $
           use0 W (raw (Freed 𝓤 H A mem run .pre (to-table ts u l))) (goes-table ts u l ts-is (subst (λ (q : List Stretch). ReadyFor q n (stretchOf l)) (sym ts-e) (ready .1))) $
           calls-at ! fm (Freed 𝓤 H A mem run) known-table (to-table ts u l) (and-then ! (loads ! (from ! (stop !)) (look ! 67 refl)) (and-then ! (loads ! (from ! (stop !)) (look ! 73 refl)) (and-then ! (loads ! (from ! (fld ! refl (stop !))) (look-in ! 65 (sub ! 3 refl (whole !)))) (and-then ! (loads ! (from ! (fld ! refl (stop !))) (look-in ! 65 (sub ! 4 refl (whole !)))) (no-more !))))) (λ u₃.
           use1 W (later (some (λ (cs : List Stretch). (‵ ftrue ⊛ ‵ (Table .own cs (u₃ ∷ []))) ⊛ raw (ensured 𝓤 H A leave-table.ended (leave-table.clauses 𝓤 H A mem run) tt (ts, (n, (l .start, (l .length, tt)))) tt cs)))) (id⊢ 𝓤 _) $ await ! tt $ picks ! (λ cs.
@@ -381,8 +381,8 @@ module _ {M : Type 1} (𝓤 : URA M) (H : Heap 𝓤) (A : Atoms 𝓤) (W : Given
           move ! (2 ∷ []) $ use1 W (raw (Leaves 𝓤 H A mem run .pre (to-leaves ts u))) (goes-leaves ts u ts-is) $
           calls-at ! fm (Leaves 𝓤 H A mem run) known-leaves (to-leaves ts u) (and-then ! (loads ! (from ! (stop !)) (look ! 55 refl)) (and-then ! (loads ! (from ! (stop !)) (look ! 51 refl)) (and-then ! (loads ! (from ! (stop !)) (look ! 47 refl)) (and-then ! (loads ! (from ! (stop !)) (look ! 43 refl)) (and-then ! (loads ! (from ! (stop !)) (look ! 39 refl)) (and-then ! (loads ! (from ! (stop !)) (look ! 35 refl)) (and-then ! (loads ! (from ! (stop !)) (look ! 31 refl)) (and-then ! (loads ! (from ! (stop !)) (look ! 27 refl)) (and-then ! (loads ! (from ! (stop !)) (look ! 23 refl)) (and-then ! (loads ! (from ! (stop !)) (look ! 19 refl)) (and-then ! (loads ! (from ! (stop !)) (look ! 15 refl)) (and-then ! (loads ! (from ! (stop !)) (look ! 13 refl)) (and-then ! (loads ! (from ! (stop !)) (look ! 65 refl)) (and-then ! (loads ! (from ! (stop !)) (look ! 67 refl)) (and-then ! (loads ! (from ! (stop !)) (look ! 71 refl)) (and-then ! (loads ! (from ! (stop !)) (look ! 69 refl)) (no-more !))))))))))))))))) (λ u₂.
           use1 W (later (some (λ (l : Left). (Tokens ⊛ ‵ (L.the-row .own l (u₂ ∷ []))) ⊛ raw (ensured 𝓤 H A leave-seats.ended (leave-seats.clauses 𝓤 H A mem run) (κ₀, (κ₁, (κ₂, (κ₃, (κ₄, (κ₅, (κ₆, (κ₇, (κ₈, (κ₉, (κ₁₀, (κ₁₂, tt)))))))))))) (y₀, (x₁, (x₂, (x₃, (x₄, (x₅, (x₆, (x₇, (x₈, (x₉, (x₁₀, (y, (ts, (length ys, (n, (p, tt)))))))))))))))) tt l)))) (id⊢ 𝓤 _) $ await ! tt $ picks ! (λ l.
-          split ! $ move ! (1 ∷ []) $ use1 W (some (λ (zs : (List (List (List ℕ)) × (List (List ℕ) × (List (Float) × (List (List ℕ) × (List (Float) × (List (Float) × (List (List ℕ) × (List (Float) × (List (List ℕ) × (List (List ℕ) × (List (List Float) × (List (List (List ℕ)) × (Unit {0} × (Unit {0} × (Unit {0} × (Unit {0} × Unit {0}))))))))))))))))). Lasts ts zs ⊛ raw (fact 𝓤 (LeavesSeats (length ys) (hallOf ts n xs (poolRows before)) p before (record { states = zs .0; collected = zs .1 .0; collectedValues = zs .1 .1 .0; rows = zs .1 .1 .1 .0; bases = zs .1 .1 .1 .1 .0; values = zs .1 .1 .1 .1 .1 .0; entries = zs .1 .1 .1 .1 .1 .1 .0; entryValues = zs .1 .1 .1 .1 .1 .1 .1 .0; plain = zs .1 .1 .1 .1 .1 .1 .1 .1 .0; sources = zs .1 .1 .1 .1 .1 .1 .1 .1 .1 .0; sourceFloats = zs .1 .1 .1 .1 .1 .1 .1 .1 .1 .1 .0; }) l (zs .1 .1 .1 .1 .1 .1 .1 .1 .1 .1 .1 .0))))) (id⊢ 𝓤 _) $ picks ! (λ zs.
-          split ! $ move ! (1 ∷ []) $ heard ! (LeavesSeats (length ys) (hallOf ts n xs (poolRows before)) p before (record { states = zs .0; collected = zs .1 .0; collectedValues = zs .1 .1 .0; rows = zs .1 .1 .1 .0; bases = zs .1 .1 .1 .1 .0; values = zs .1 .1 .1 .1 .1 .0; entries = zs .1 .1 .1 .1 .1 .1 .0; entryValues = zs .1 .1 .1 .1 .1 .1 .1 .0; plain = zs .1 .1 .1 .1 .1 .1 .1 .1 .0; sources = zs .1 .1 .1 .1 .1 .1 .1 .1 .1 .0; sourceFloats = zs .1 .1 .1 .1 .1 .1 .1 .1 .1 .1 .0; }) l (zs .1 .1 .1 .1 .1 .1 .1 .1 .1 .1 .1 .0)) (λ l-e.
+          split ! $ move ! (1 ∷ []) $ use1 W (some (λ (zs : (List (List (List ℕ)) × (List (List ℕ) × (List (Float) × (List (List ℕ) × (List (Float) × (List (Float) × (List (List ℕ) × (List (Float) × (List (List ℕ) × (List (List ℕ) × (List (List Float) × (List (List (List ℕ)) × (Unit {0} × (Unit {0} × (Unit {0} × (Unit {0} × Unit {0}))))))))))))))))). Lasts ts zs ⊛ raw (fact 𝓤 (LeavesSeats (length ys) (hallOf ts n xs (poolRows before)) p before (record { states = zs .0; collected = zs .1 .0; collectedValues = zs .1 .1 .0; rows = zs .1 .1 .1 .0; bases = zs .1 .1 .1 .1 .0; values = zs .1 .1 .1 .1 .1 .0; entries = zs .1 .1 .1 .1 .1 .1 .0; entryValues = zs .1 .1 .1 .1 .1 .1 .1 .0; plain = zs .1 .1 .1 .1 .1 .1 .1 .1 .0; sources = zs .1 .1 .1 .1 .1 .1 .1 .1 .1 .0; sourceFloats = zs .1 .1 .1 .1 .1 .1 .1 .1 .1 .1 .0 }) l (zs .1 .1 .1 .1 .1 .1 .1 .1 .1 .1 .1 .0))))) (id⊢ 𝓤 _) $ picks ! (λ zs.
+          split ! $ move ! (1 ∷ []) $ heard ! (LeavesSeats (length ys) (hallOf ts n xs (poolRows before)) p before (record { states = zs .0; collected = zs .1 .0; collectedValues = zs .1 .1 .0; rows = zs .1 .1 .1 .0; bases = zs .1 .1 .1 .1 .0; values = zs .1 .1 .1 .1 .1 .0; entries = zs .1 .1 .1 .1 .1 .1 .0; entryValues = zs .1 .1 .1 .1 .1 .1 .1 .0; plain = zs .1 .1 .1 .1 .1 .1 .1 .1 .0; sources = zs .1 .1 .1 .1 .1 .1 .1 .1 .1 .0; sourceFloats = zs .1 .1 .1 .1 .1 .1 .1 .1 .1 .1 .0 }) l (zs .1 .1 .1 .1 .1 .1 .1 .1 .1 .1 .1 .0)) (λ l-e.
           -- [what is said last; the tokens and the result; the slice; its token; the locals]
           move ! (1 ∷ []) $ split ! $ move ! (1 ∷ []) $ peeks ! L.the-row (Is L.the-row) (shows 𝓤 H A L.the-row) l (u₂ ∷ []) (λ l-is.
           -- [what the result owns; the tokens; what is said last; the slice; its token; the locals]
@@ -398,7 +398,7 @@ module _ {M : Type 1} (𝓤 : URA M) (H : Heap 𝓤) (A : Atoms 𝓤) (W : Given
           keep ! (2 ∷ 3 ∷ 4 ∷ 5 ∷ 6 ∷ 7 ∷ 8 ∷ 9 ∷ 10 ∷ 11 ∷ 12 ∷ 13 ∷ 14 ∷ 15 ∷ 16 ∷ 17 ∷ 18 ∷ 19 ∷ 20 ∷ 21 ∷ 22 ∷ 23 ∷ 24 ∷ 25 ∷ 26 ∷ 27 ∷ 28 ∷ 29 ∷ 30 ∷ 31 ∷ 32 ∷ 33 ∷ 34 ∷ 35 ∷ 36 ∷ 37 ∷ 38 ∷ 39 ∷ 40 ∷ 41 ∷ 42 ∷ 43 ∷ 44 ∷ 45 ∷ 46 ∷ 47 ∷ 48 ∷ 49 ∷ 50 ∷ 51 ∷ 52 ∷ 53 ∷ 54 ∷ 55 ∷ 56 ∷ 57 ∷ 58 ∷ 59 ∷ 60 ∷ 61 ∷ 62 ∷ 63 ∷ 64 ∷ 65 ∷ 66 ∷ 67 ∷ 68 ∷ 69 ∷ 70 ∷ 71 ∷ 72 ∷ 73 ∷ 74 ∷ 75 ∷ 76 ∷ 77 ∷ 78 ∷ 79 ∷ 80 ∷ 81 ∷ 82 ∷ 83 ∷ 84 ∷ 85 ∷ 86 ∷ 87 ∷ 88 ∷ 89 ∷ 90 ∷ 91 ∷ 92 ∷ 93 ∷ 94 ∷ 95 ∷ 96 ∷ 97 ∷ 98 ∷ 99 ∷ 100 ∷ 101 ∷ 102 ∷ 103 ∷ []) $
           assigns ! (bin ! (loads ! (from ! (fld ! refl (stop !))) (look-in ! 62 (sub ! 0 refl (whole !)))) (lit ! tt) tt) (from ! (stop !)) (init ! 12 refl (tt, tt)) $
           first ! $ splits u ts l s zs ts-is (subst (Is S.the-row s) (LL.tells S.the-type S′.the-laws s _ s-is) s-is) ts-e s-e
-          (subst (λ (q : List Stretch). LeavesSeats (length ys) (hallOf q n xs (poolRows before)) p before (record { states = zs .0; collected = zs .1 .0; collectedValues = zs .1 .1 .0; rows = zs .1 .1 .1 .0; bases = zs .1 .1 .1 .1 .0; values = zs .1 .1 .1 .1 .1 .0; entries = zs .1 .1 .1 .1 .1 .1 .0; entryValues = zs .1 .1 .1 .1 .1 .1 .1 .0; plain = zs .1 .1 .1 .1 .1 .1 .1 .1 .0; sources = zs .1 .1 .1 .1 .1 .1 .1 .1 .1 .0; sourceFloats = zs .1 .1 .1 .1 .1 .1 .1 .1 .1 .1 .0; }) l (zs .1 .1 .1 .1 .1 .1 .1 .1 .1 .1 .1 .0)) ts-e l-e))))))))))
+          (subst (λ (q : List Stretch). LeavesSeats (length ys) (hallOf q n xs (poolRows before)) p before (record { states = zs .0; collected = zs .1 .0; collectedValues = zs .1 .1 .0; rows = zs .1 .1 .1 .0; bases = zs .1 .1 .1 .1 .0; values = zs .1 .1 .1 .1 .1 .0; entries = zs .1 .1 .1 .1 .1 .1 .0; entryValues = zs .1 .1 .1 .1 .1 .1 .1 .0; plain = zs .1 .1 .1 .1 .1 .1 .1 .1 .0; sources = zs .1 .1 .1 .1 .1 .1 .1 .1 .1 .0; sourceFloats = zs .1 .1 .1 .1 .1 .1 .1 .1 .1 .1 .0 }) l (zs .1 .1 .1 .1 .1 .1 .1 .1 .1 .1 .1 .0)) ts-e l-e))))))))))
 
       -- what was loaded stands in `_17`: [the slice; its token; the rest; the locals]
       abbrev Mid : Val → List (Item 𝓤)
@@ -408,16 +408,16 @@ module _ {M : Type 1} (𝓤 : URA M) (H : Heap 𝓤) (A : Atoms 𝓤) (W : Given
       lends u ts ts-is ts-e =
           assigns ! (addr ! (from ! (hop ! (look ! 97 refl) (stop !)))) (from ! (stop !)) (init ! 55 refl (tt, tt)) $
           assigns ! (addr ! (from ! (fld ! refl (hop ! (look-in ! 95 (sub ! 0 refl (whole !))) (stop !))))) (from ! (stop !)) (init ! 53 refl (tt, tt)) $
-        assigns ! (agg ! (and-then ! (loads ! (from ! (stop !)) (look ! 53 refl)) (and-then ! (loads ! (from ! (fld ! refl (stop !))) (look-in ! 95 (sub ! 1 refl (whole !)))) (no-more !)))) (from ! (stop !)) (init ! 51 refl (tt, (tt, (record { fits = g₁ .0 }, tt)))) $ assigns ! (addr ! (from ! (fld ! refl (hop ! (look-in ! 93 (sub ! 0 refl (whole !))) (stop !))))) (from ! (stop !)) (init ! 49 refl (tt, tt)) $
-        assigns ! (agg ! (and-then ! (loads ! (from ! (stop !)) (look ! 49 refl)) (and-then ! (loads ! (from ! (fld ! refl (stop !))) (look-in ! 93 (sub ! 1 refl (whole !)))) (no-more !)))) (from ! (stop !)) (init ! 47 refl (tt, (tt, (record { fits = g₂ .0 }, tt)))) $ assigns ! (addr ! (from ! (fld ! refl (hop ! (look-in ! 91 (sub ! 0 refl (whole !))) (stop !))))) (from ! (stop !)) (init ! 45 refl (tt, tt)) $
-        assigns ! (agg ! (and-then ! (loads ! (from ! (stop !)) (look ! 45 refl)) (and-then ! (loads ! (from ! (fld ! refl (stop !))) (look-in ! 91 (sub ! 1 refl (whole !)))) (no-more !)))) (from ! (stop !)) (init ! 43 refl (tt, (tt, (record { fits = g₃ .0 }, tt)))) $ assigns ! (addr ! (from ! (fld ! refl (hop ! (look-in ! 89 (sub ! 0 refl (whole !))) (stop !))))) (from ! (stop !)) (init ! 41 refl (tt, tt)) $
-        assigns ! (agg ! (and-then ! (loads ! (from ! (stop !)) (look ! 41 refl)) (and-then ! (loads ! (from ! (fld ! refl (stop !))) (look-in ! 89 (sub ! 1 refl (whole !)))) (no-more !)))) (from ! (stop !)) (init ! 39 refl (tt, (tt, (record { fits = g₄ .0 }, tt)))) $ assigns ! (addr ! (from ! (fld ! refl (hop ! (look-in ! 87 (sub ! 0 refl (whole !))) (stop !))))) (from ! (stop !)) (init ! 37 refl (tt, tt)) $
-        assigns ! (agg ! (and-then ! (loads ! (from ! (stop !)) (look ! 37 refl)) (and-then ! (loads ! (from ! (fld ! refl (stop !))) (look-in ! 87 (sub ! 1 refl (whole !)))) (no-more !)))) (from ! (stop !)) (init ! 35 refl (tt, (tt, (record { fits = g₅ .0 }, tt)))) $ assigns ! (addr ! (from ! (fld ! refl (hop ! (look-in ! 85 (sub ! 0 refl (whole !))) (stop !))))) (from ! (stop !)) (init ! 33 refl (tt, tt)) $
-        assigns ! (agg ! (and-then ! (loads ! (from ! (stop !)) (look ! 33 refl)) (and-then ! (loads ! (from ! (fld ! refl (stop !))) (look-in ! 85 (sub ! 1 refl (whole !)))) (no-more !)))) (from ! (stop !)) (init ! 31 refl (tt, (tt, (record { fits = g₆ .0 }, tt)))) $ assigns ! (addr ! (from ! (fld ! refl (hop ! (look-in ! 83 (sub ! 0 refl (whole !))) (stop !))))) (from ! (stop !)) (init ! 29 refl (tt, tt)) $
-        assigns ! (agg ! (and-then ! (loads ! (from ! (stop !)) (look ! 29 refl)) (and-then ! (loads ! (from ! (fld ! refl (stop !))) (look-in ! 83 (sub ! 1 refl (whole !)))) (no-more !)))) (from ! (stop !)) (init ! 27 refl (tt, (tt, (record { fits = g₇ .0 }, tt)))) $ assigns ! (addr ! (from ! (fld ! refl (hop ! (look-in ! 81 (sub ! 0 refl (whole !))) (stop !))))) (from ! (stop !)) (init ! 25 refl (tt, tt)) $
-        assigns ! (agg ! (and-then ! (loads ! (from ! (stop !)) (look ! 25 refl)) (and-then ! (loads ! (from ! (fld ! refl (stop !))) (look-in ! 81 (sub ! 1 refl (whole !)))) (no-more !)))) (from ! (stop !)) (init ! 23 refl (tt, (tt, (record { fits = g₈ .0 }, tt)))) $ assigns ! (addr ! (from ! (fld ! refl (hop ! (look-in ! 79 (sub ! 0 refl (whole !))) (stop !))))) (from ! (stop !)) (init ! 21 refl (tt, tt)) $
-        assigns ! (agg ! (and-then ! (loads ! (from ! (stop !)) (look ! 21 refl)) (and-then ! (loads ! (from ! (fld ! refl (stop !))) (look-in ! 79 (sub ! 1 refl (whole !)))) (no-more !)))) (from ! (stop !)) (init ! 19 refl (tt, (tt, (record { fits = g₉ .0 }, tt)))) $ assigns ! (addr ! (from ! (fld ! refl (hop ! (look-in ! 77 (sub ! 0 refl (whole !))) (stop !))))) (from ! (stop !)) (init ! 17 refl (tt, tt)) $
-        assigns ! (agg ! (and-then ! (loads ! (from ! (stop !)) (look ! 17 refl)) (and-then ! (loads ! (from ! (fld ! refl (stop !))) (look-in ! 77 (sub ! 1 refl (whole !)))) (no-more !)))) (from ! (stop !)) (init ! 15 refl (tt, (tt, (record { fits = g₁₀ .0 }, tt)))) $
+          assigns ! (agg ! (and-then ! (loads ! (from ! (stop !)) (look ! 53 refl)) (and-then ! (loads ! (from ! (fld ! refl (stop !))) (look-in ! 95 (sub ! 1 refl (whole !)))) (no-more !)))) (from ! (stop !)) (init ! 51 refl (tt, (tt, (record { fits = g₁ .0 }, tt)))) $ assigns ! (addr ! (from ! (fld ! refl (hop ! (look-in ! 93 (sub ! 0 refl (whole !))) (stop !))))) (from ! (stop !)) (init ! 49 refl (tt, tt)) $
+          assigns ! (agg ! (and-then ! (loads ! (from ! (stop !)) (look ! 49 refl)) (and-then ! (loads ! (from ! (fld ! refl (stop !))) (look-in ! 93 (sub ! 1 refl (whole !)))) (no-more !)))) (from ! (stop !)) (init ! 47 refl (tt, (tt, (record { fits = g₂ .0 }, tt)))) $ assigns ! (addr ! (from ! (fld ! refl (hop ! (look-in ! 91 (sub ! 0 refl (whole !))) (stop !))))) (from ! (stop !)) (init ! 45 refl (tt, tt)) $
+          assigns ! (agg ! (and-then ! (loads ! (from ! (stop !)) (look ! 45 refl)) (and-then ! (loads ! (from ! (fld ! refl (stop !))) (look-in ! 91 (sub ! 1 refl (whole !)))) (no-more !)))) (from ! (stop !)) (init ! 43 refl (tt, (tt, (record { fits = g₃ .0 }, tt)))) $ assigns ! (addr ! (from ! (fld ! refl (hop ! (look-in ! 89 (sub ! 0 refl (whole !))) (stop !))))) (from ! (stop !)) (init ! 41 refl (tt, tt)) $
+          assigns ! (agg ! (and-then ! (loads ! (from ! (stop !)) (look ! 41 refl)) (and-then ! (loads ! (from ! (fld ! refl (stop !))) (look-in ! 89 (sub ! 1 refl (whole !)))) (no-more !)))) (from ! (stop !)) (init ! 39 refl (tt, (tt, (record { fits = g₄ .0 }, tt)))) $ assigns ! (addr ! (from ! (fld ! refl (hop ! (look-in ! 87 (sub ! 0 refl (whole !))) (stop !))))) (from ! (stop !)) (init ! 37 refl (tt, tt)) $
+          assigns ! (agg ! (and-then ! (loads ! (from ! (stop !)) (look ! 37 refl)) (and-then ! (loads ! (from ! (fld ! refl (stop !))) (look-in ! 87 (sub ! 1 refl (whole !)))) (no-more !)))) (from ! (stop !)) (init ! 35 refl (tt, (tt, (record { fits = g₅ .0 }, tt)))) $ assigns ! (addr ! (from ! (fld ! refl (hop ! (look-in ! 85 (sub ! 0 refl (whole !))) (stop !))))) (from ! (stop !)) (init ! 33 refl (tt, tt)) $
+          assigns ! (agg ! (and-then ! (loads ! (from ! (stop !)) (look ! 33 refl)) (and-then ! (loads ! (from ! (fld ! refl (stop !))) (look-in ! 85 (sub ! 1 refl (whole !)))) (no-more !)))) (from ! (stop !)) (init ! 31 refl (tt, (tt, (record { fits = g₆ .0 }, tt)))) $ assigns ! (addr ! (from ! (fld ! refl (hop ! (look-in ! 83 (sub ! 0 refl (whole !))) (stop !))))) (from ! (stop !)) (init ! 29 refl (tt, tt)) $
+          assigns ! (agg ! (and-then ! (loads ! (from ! (stop !)) (look ! 29 refl)) (and-then ! (loads ! (from ! (fld ! refl (stop !))) (look-in ! 83 (sub ! 1 refl (whole !)))) (no-more !)))) (from ! (stop !)) (init ! 27 refl (tt, (tt, (record { fits = g₇ .0 }, tt)))) $ assigns ! (addr ! (from ! (fld ! refl (hop ! (look-in ! 81 (sub ! 0 refl (whole !))) (stop !))))) (from ! (stop !)) (init ! 25 refl (tt, tt)) $
+          assigns ! (agg ! (and-then ! (loads ! (from ! (stop !)) (look ! 25 refl)) (and-then ! (loads ! (from ! (fld ! refl (stop !))) (look-in ! 81 (sub ! 1 refl (whole !)))) (no-more !)))) (from ! (stop !)) (init ! 23 refl (tt, (tt, (record { fits = g₈ .0 }, tt)))) $ assigns ! (addr ! (from ! (fld ! refl (hop ! (look-in ! 79 (sub ! 0 refl (whole !))) (stop !))))) (from ! (stop !)) (init ! 21 refl (tt, tt)) $
+          assigns ! (agg ! (and-then ! (loads ! (from ! (stop !)) (look ! 21 refl)) (and-then ! (loads ! (from ! (fld ! refl (stop !))) (look-in ! 79 (sub ! 1 refl (whole !)))) (no-more !)))) (from ! (stop !)) (init ! 19 refl (tt, (tt, (record { fits = g₉ .0 }, tt)))) $ assigns ! (addr ! (from ! (fld ! refl (hop ! (look-in ! 77 (sub ! 0 refl (whole !))) (stop !))))) (from ! (stop !)) (init ! 17 refl (tt, tt)) $
+          assigns ! (agg ! (and-then ! (loads ! (from ! (stop !)) (look ! 17 refl)) (and-then ! (loads ! (from ! (fld ! refl (stop !))) (look-in ! 77 (sub ! 1 refl (whole !)))) (no-more !)))) (from ! (stop !)) (init ! 15 refl (tt, (tt, (record { fits = g₁₀ .0 }, tt)))) $
           assigns ! (addr ! (from ! (hop ! (look ! 73 refl) (stop !)))) (from ! (stop !)) (init ! 13 refl (tt, tt)) $
           decides u ts ts-is ts-e
 

@@ -74,7 +74,7 @@ returns : tie.Need-returns
 returns c = search needs
 
 returns-2 : tie.Need-returns-2
-returns-2 c = has-stayed (c .before .before .before .before .before .before .before .before .before .before .before .args .room) (hallOf (c .before .before .before .before .before .before .before .before .before .before .before .args .t) (c .before .before .before .before .before .before .before .before .before .before .before .args .count) (c .before .before .before .before .before .before .before .before .before .before .before .args .stretches .now) (poolRows (record { states = c .before .before .before .before .before .before .before .before .before .before .before .args .states .now; collected = c .before .before .before .before .before .before .before .before .before .before .before .args .collected .now; collectedValues = c .before .before .before .before .before .before .before .before .before .before .before .args .collected-values .now; rows = c .before .before .before .before .before .before .before .before .before .before .before .args .rows .now; bases = c .before .before .before .before .before .before .before .before .before .before .before .args .bases .now; values = c .before .before .before .before .before .before .before .before .before .before .before .args .values .now; entries = c .before .before .before .before .before .before .before .before .before .before .before .args .entries .now; entryValues = c .before .before .before .before .before .before .before .before .before .before .before .args .entry-values .now; plain = c .before .before .before .before .before .before .before .before .before .before .before .args .plain .now; sources = c .before .before .before .before .before .before .before .before .before .before .before .args .sources .now; sourceFloats = c .before .before .before .before .before .before .before .before .before .before .before .args .source-values .now; }))) (c .before .before .before .before .before .before .before .before .before .before .before .args .pilot) ?
+returns-2 c = has-stayed (c .before .before .before .before .before .before .before .before .before .before .before .args .room) (hallOf (c .before .before .before .before .before .before .before .before .before .before .before .args .t) (c .before .before .before .before .before .before .before .before .before .before .before .args .count) (c .before .before .before .before .before .before .before .before .before .before .before .args .stretches .now) (poolRows (record { states = c .before .before .before .before .before .before .before .before .before .before .before .args .states .now; collected = c .before .before .before .before .before .before .before .before .before .before .before .args .collected .now; collectedValues = c .before .before .before .before .before .before .before .before .before .before .before .args .collected-values .now; rows = c .before .before .before .before .before .before .before .before .before .before .before .args .rows .now; bases = c .before .before .before .before .before .before .before .before .before .before .before .args .bases .now; values = c .before .before .before .before .before .before .before .before .before .before .before .args .values .now; entries = c .before .before .before .before .before .before .before .before .before .before .before .args .entries .now; entryValues = c .before .before .before .before .before .before .before .before .before .before .before .args .entry-values .now; plain = c .before .before .before .before .before .before .before .before .before .before .before .args .plain .now; sources = c .before .before .before .before .before .before .before .before .before .before .before .args .sources .now; sourceFloats = c .before .before .before .before .before .before .before .before .before .before .before .args .source-values .now }))) (c .before .before .before .before .before .before .before .before .before .before .before .args .pilot) ?
 
 pub leave-seats-spec : {M : Type 1} → statement M
 leave-seats-spec =
