@@ -74,11 +74,8 @@ def said(hall, counts, call):
     """What the reference says of a call: a line as the driver writes it. The hall is then as the call leaves it."""
     kind, told, pilot, length = call
     kept, hall.rows = hall.rows, told if kind == "a" else min(counts)
-    if hall.rows > 10 ** 6:  # a pool told far too long is no state: nothing has those rows
-        hall.good = lambda: False
     number, place, cleared = (*hall.admit(pilot, length), None) if kind == "a" else hall.leave(pilot)
     hall.rows = kept
-    hall.__dict__.pop("good", None)
     flat = [n for s in hall.table for n in s] + [n for five in hall.stretches for pair in five for n in pair]
     columns = ["".join("0" if cleared and cleared[0] <= i < sum(cleared) else "=" for i in range(n)) for n in counts]
     states = "".join("0" if cleared and p == pilot else "=" for p in range(PILOTS))

@@ -9,7 +9,7 @@ import sys
 
 DONE, POOL, PILOT, LENGTH, TABLE = 0, 12, 13, 14, 18
 PILOTS, LISTS, PLACES = 16, 5, 17
-MOST = 2 ** 32 - 1
+MANY = 10 ** 5
 
 
 class Hall:
@@ -44,11 +44,24 @@ class Hall:
             if length == 0 or start <= end:
                 return False
             end = start + length
+        if self.rows > MANY:
+            return self.follow_each_other()
         owners = self.owners()
         return owners is not None and all(len(who) == 1 for who in owners)
 
+    def follow_each_other(self):
+        """The same of a pool with too many rows to look at each: all stretches, by start, follow each other from 0 to its end."""
+        end = 0
+        for start, length in sorted(s for s in self.table[:self.count] + [self.seat(p) for p in range(PILOTS)] if s[1]):
+            if start != end:
+                return False
+            end += length
+        return end == self.rows
+
     def runs(self):
         """The runs of rows that no pilot has."""
+        if self.rows > MANY:
+            return self.gaps()
         free = [True] * self.rows
         for p in range(PILOTS):
             start, length = self.seat(p)
@@ -59,6 +72,15 @@ class Hall:
                 runs[-1][1] += 1
             elif free[row]:
                 runs.append([row, 1])
+        return runs
+
+    def gaps(self):
+        """The same of a pool with too many rows to look at each."""
+        runs, end = [], 0
+        for start, length in sorted(self.seat(p) for p in range(PILOTS) if self.seat(p)[1]) + [[self.rows, 0]]:
+            if start > end:
+                runs.append([end, start - end])
+            end = start + length
         return runs
 
     def settle(self):
