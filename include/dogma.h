@@ -4,6 +4,7 @@
  *
  * dogma_calculate takes a sheet's bytes and lent lists, and gives a number, a place and five counts; the lists hold the rest.
  * dogma_calculate_pilot does the same for up to 16 fits over one book of records, in one lent pool: see "several pilots" below.
+ * dogma_admit and dogma_leave lend and take back that pool's rows as pilots come and go.
  * The engine allocates nothing, keeps nothing between calls, and may be called from several threads with lists of their own.
  * Any bytes are taken: a damaged sheet is refused with a number and a place. What is demanded of the caller, since the
  * engine cannot test it, stands at DOGMA_DEMANDS below; dogma_calculate_checked tests it, and DOGMA_LEND counts arrays
@@ -47,7 +48,11 @@ enum dogma_number {
     DOGMA_ROOM = 7,      /* the list that is full, one of enum dogma_list */
     DOGMA_NUMBER = 8,    /* the object whose attribute was calculated */
     DOGMA_DEPTH = 9,     /* the object whose attribute was to be calculated */
-    DOGMA_POOL = 12,     /* a pilot: the one asked for, which has no stretch, or the first whose stretch is astray */
+    DOGMA_POOL = 12,     /* a pilot: the one asked for, which has no stretch, or the first whose stretch is astray; of an admission
+                            the number as given: no free stretch is as long */
+    DOGMA_PILOT = 13,    /* of an admission or a leaving: the number as given; above 15, already in, or not in */
+    DOGMA_LENGTH = 14,   /* of an admission: the number as given, which wants no row */
+    DOGMA_TABLE = 18,    /* of an admission or a leaving, 0: what is lent is no state of the pool */
     DOGMA_MISUSED = 256  /* not the engine's: a checked form found a demand broken; enum dogma_argument, dogma_pilot_argument */
 };
 
@@ -238,6 +243,51 @@ struct dogma_answer dogma_calculate_pilot(
     const uint8_t *fit, size_t fit_length,
     uint32_t pilot);
 
+/* ---- pilots come and go
+ *
+ * Over such a pool: dogma_admit gives a pilot as many rows as it wants, the same rows of every list, and writes its five stretches;
+ * dogma_leave clears them, with its states, and gives them back. The state is all lent: the table of stretches, which
+ * dogma_calculate_pilot takes as it is, and a table of free stretches with how many of them are in use. The pool's rows are those
+ * that every column has. At the start it is all free:
+ *     struct dogma_stretch free[DOGMA_FREE];  uint32_t count = DOGMA_START(free, pool);       and all stretches zero
+ * A pilot gets the lowest run of as many free rows: the front of the first free stretch that is as long. So admit the long ones
+ * first where you can: gaps stay until those beside them leave. A leaver's rows are joined to the free ones beside them.
+ *
+ * Numbers, in this order: TABLE where what is lent is no such state (fewer than DOGMA_FREE places; a free stretch empty, touching
+ * the next or out of order; a pilot's five stretches not the same; a row below the pool's in none or in two of the free and the
+ * pilots' stretches, or one above in any), PILOT, LENGTH, POOL. After these nothing is written and free is the count as given;
+ * after DONE it is the new count. From the start no calls lead to TABLE, and POOL is never given to a pilot that is in.
+ */
+#define DOGMA_FREE 17 /* 16 pilots leave at most 17 gaps */
+struct dogma_stretch { uint32_t start, length; };
+struct dogma_seat { uint64_t number, place, free; }; /* free: how many free stretches there are now */
+
+/* a pool of so many rows all free; its value is the count */
+#define DOGMA_START(free, pool) ((free)[0].start = 0, ((free)[0].length = (pool)) != 0 ? UINT32_C(1) : UINT32_C(0))
+
+/* DOGMA_DEMANDS hold: free points to free_room elements, stretches to DOGMA_PILOTS times DOGMA_LISTS, and they do not overlap.
+ * pool is how many rows the shortest of the ten columns has, at most 4,294,967,295. */
+struct dogma_seat dogma_admit(
+    struct dogma_stretch *free, size_t free_room, dogma_stretch_of_list (*stretches)[DOGMA_LISTS],
+    uint32_t count, uint32_t pool, uint32_t pilot, uint32_t length);
+
+/* and of what is lent to dogma_calculate_pilot too: nothing overlaps */
+struct dogma_seat dogma_leave(
+    dogma_state (*states)[DOGMA_OBJECTS],
+    dogma_collected *collected, size_t collected_count,
+    double *collected_values, size_t collected_value_count,
+    dogma_row *rows, size_t row_count,
+    double *bases, size_t base_count,
+    double *values, size_t value_count,
+    dogma_entry *entries, size_t entry_count,
+    double *entry_values, size_t entry_value_count,
+    dogma_plain *plain, size_t plain_count,
+    dogma_source *sources, size_t source_count,
+    dogma_source_value *source_values, size_t source_value_count,
+    struct dogma_stretch *free, size_t free_room,
+    dogma_stretch_of_list (*stretches)[DOGMA_LISTS],
+    uint32_t count, uint32_t pilot);
+
 /* ---- the entries with their demands tested */
 
 /* the arguments, as MISUSED's place has them */
@@ -375,12 +425,79 @@ static inline struct dogma_answer dogma_calculate_pilot_checked(
         pool->stretches, book, book_length, fit, fit_length, pilot);
 }
 
+/* everything that is lent to a hall: the columns and states of all pilots, the table of their stretches, and the free ones */
+struct dogma_hall {
+    struct dogma_lent lent;
+    dogma_stretch_of_list (*stretches)[DOGMA_LISTS]; size_t stretch_count; /* of pilots: DOGMA_PILOTS, nothing else */
+    struct dogma_stretch *free; size_t free_room;
+    uint32_t count; /* of the free stretches those in use; written after each call */
+};
+
+/* those of dogma_leave: the first twelve are those of dogma_calculate_pilot */
+enum dogma_hall_argument { DOGMA_ARGUMENT_FREE = 12, DOGMA_HALL_ARGUMENTS = 13 };
+
+/* The first argument of a hall that breaks a demand, or DOGMA_HALL_ARGUMENTS. */
+static inline unsigned dogma_hall_misused(const struct dogma_hall *hall)
+{
+    const struct dogma_part_ more[] = {
+        { (uintptr_t)hall->stretches, hall->stretch_count, sizeof(dogma_stretch_of_list[DOGMA_LISTS]), 4 },
+        { (uintptr_t)hall->free, hall->free_room, sizeof(struct dogma_stretch), 4 },
+    };
+    const unsigned misused = dogma_misused_(&hall->lent, (size_t)DOGMA_PILOTS * DOGMA_OBJECTS, more, 2);
+    if (misused < DOGMA_ARGUMENT_STRETCHES)
+        return misused;
+    if (misused == DOGMA_ARGUMENT_STRETCHES || hall->stretch_count != DOGMA_PILOTS)
+        return DOGMA_ARGUMENT_STRETCHES;
+    return dogma_apart_(more[0], more[1]) ? misused : DOGMA_ARGUMENT_FREE;
+}
+
+/* how many rows every column has, as far as 32 bits count them */
+static inline uint32_t dogma_pool_rows(const struct dogma_lent *lent)
+{
+    const size_t counts[] = {
+        lent->collected_count, lent->collected_value_count, lent->row_count, lent->base_count, lent->value_count,
+        lent->entry_count, lent->entry_value_count, lent->plain_count, lent->source_count, lent->source_value_count };
+    size_t least = UINT32_MAX;
+    for (size_t i = 0; i < sizeof counts / sizeof counts[0]; i++)
+        least = counts[i] < least ? counts[i] : least;
+    return (uint32_t)least;
+}
+
+/* dogma_admit, or DOGMA_MISUSED with the argument that breaks a demand; then nothing was written. The hall's count is kept up. */
+static inline struct dogma_seat dogma_admit_checked(struct dogma_hall *hall, uint32_t pilot, uint32_t length)
+{
+    const unsigned misused = dogma_hall_misused(hall);
+    struct dogma_seat seat = { DOGMA_MISUSED, misused, hall->count };
+    if (misused == DOGMA_HALL_ARGUMENTS)
+        seat = dogma_admit(hall->free, hall->free_room, hall->stretches, hall->count, dogma_pool_rows(&hall->lent), pilot, length);
+    hall->count = (uint32_t)seat.free;
+    return seat;
+}
+
+/* The same of dogma_leave. */
+static inline struct dogma_seat dogma_leave_checked(struct dogma_hall *hall, uint32_t pilot)
+{
+    const struct dogma_lent *lent = &hall->lent;
+    const unsigned misused = dogma_hall_misused(hall);
+    struct dogma_seat seat = { DOGMA_MISUSED, misused, hall->count };
+    if (misused == DOGMA_HALL_ARGUMENTS)
+        seat = dogma_leave(
+            (dogma_state (*)[DOGMA_OBJECTS])lent->states, lent->collected, lent->collected_count,
+            lent->collected_values, lent->collected_value_count, lent->rows, lent->row_count, lent->bases, lent->base_count,
+            lent->values, lent->value_count, lent->entries, lent->entry_count, lent->entry_values, lent->entry_value_count,
+            lent->plain, lent->plain_count, lent->sources, lent->source_count, lent->source_values, lent->source_value_count,
+            hall->free, hall->free_room, hall->stretches, hall->count, pilot);
+    hall->count = (uint32_t)seat.free;
+    return seat;
+}
+
 #ifdef __cplusplus
 }
 #else
 
 _Static_assert(sizeof(size_t) == 8 && sizeof(double) == 8, "the library is for 64-bit machines");
 _Static_assert(sizeof(struct dogma_answer) == 56, "seven numbers of 64 bits");
+_Static_assert(sizeof(struct dogma_stretch) == 8 && sizeof(struct dogma_seat) == 24, "two of 32 bits, three of 64");
 
 /* An array and the number of its elements. A pointer, or an array of another row, does not compile. */
 #define DOGMA_ARRAY_(array, row) \
@@ -407,6 +524,17 @@ _Static_assert(sizeof(struct dogma_answer) == 56, "seven numbers of 64 bits");
         _Generic(&(stretches), \
             dogma_stretch_of_list (*)[DOGMA_PILOTS][DOGMA_LISTS]: (const dogma_stretch_of_list (*)[DOGMA_LISTS])(stretches), \
             const dogma_stretch_of_list (*)[DOGMA_PILOTS][DOGMA_LISTS]: (stretches)), DOGMA_PILOTS })
+
+/* A hall of thirteen arrays with its pool all free and nobody in: DOGMA_LEND_POOL's, then struct dogma_stretch[DOGMA_FREE or more]:
+ *     struct dogma_hall hall = DOGMA_HALL(states, collected, .., stretches, free);
+ * The arrays of stretches must be zero. hall.count is dogma_admit's count. */
+#define DOGMA_HALL( \
+    states, collected, collected_values, rows, bases, values, entries, entry_values, plain, sources, source_values, stretches, free) \
+    { DOGMA_LENT_( \
+            _Generic(&(states), dogma_state (*)[DOGMA_PILOTS][DOGMA_OBJECTS]: &(states)[0][0]), (size_t)DOGMA_PILOTS * DOGMA_OBJECTS, \
+            collected, collected_values, rows, bases, values, entries, entry_values, plain, sources, source_values), \
+        _Generic(&(stretches), dogma_stretch_of_list (*)[DOGMA_PILOTS][DOGMA_LISTS]: (stretches)), DOGMA_PILOTS, \
+        DOGMA_ARRAY_(free, struct dogma_stretch), 0 }
 
 /* the ten columns behind states and their number */
 #define DOGMA_LENT_( \

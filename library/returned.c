@@ -48,3 +48,39 @@ struct dogma_answer dogma_calculate_pilot(
         source_values, source_value_count, stretches, book, book_length, fit, fit_length, pilot);
     return answer;
 }
+
+extern void dogma_admit_into(
+    struct dogma_seat *seat, struct dogma_stretch *free, size_t free_room, dogma_stretch_of_list (*stretches)[DOGMA_LISTS],
+    uint32_t count, uint32_t pool, uint32_t pilot, uint32_t length);
+
+struct dogma_seat dogma_admit(
+    struct dogma_stretch *free, size_t free_room, dogma_stretch_of_list (*stretches)[DOGMA_LISTS], uint32_t count, uint32_t pool,
+    uint32_t pilot, uint32_t length)
+{
+    struct dogma_seat seat;
+    dogma_admit_into(&seat, free, free_room, stretches, count, pool, pilot, length);
+    return seat;
+}
+
+extern void dogma_leave_into(
+    struct dogma_seat *seat, dogma_state (*states)[DOGMA_OBJECTS], dogma_collected *collected, size_t collected_count,
+    double *collected_values, size_t collected_value_count, dogma_row *rows, size_t row_count, double *bases, size_t base_count,
+    double *values, size_t value_count, dogma_entry *entries, size_t entry_count, double *entry_values, size_t entry_value_count,
+    dogma_plain *plain, size_t plain_count, dogma_source *sources, size_t source_count, dogma_source_value *source_values,
+    size_t source_value_count, struct dogma_stretch *free, size_t free_room, dogma_stretch_of_list (*stretches)[DOGMA_LISTS],
+    uint32_t count, uint32_t pilot);
+
+struct dogma_seat dogma_leave(
+    dogma_state (*states)[DOGMA_OBJECTS], dogma_collected *collected, size_t collected_count, double *collected_values,
+    size_t collected_value_count, dogma_row *rows, size_t row_count, double *bases, size_t base_count, double *values,
+    size_t value_count, dogma_entry *entries, size_t entry_count, double *entry_values, size_t entry_value_count, dogma_plain *plain,
+    size_t plain_count, dogma_source *sources, size_t source_count, dogma_source_value *source_values, size_t source_value_count,
+    struct dogma_stretch *free, size_t free_room, dogma_stretch_of_list (*stretches)[DOGMA_LISTS], uint32_t count, uint32_t pilot)
+{
+    struct dogma_seat seat;
+    dogma_leave_into(
+        &seat, states, collected, collected_count, collected_values, collected_value_count, rows, row_count, bases, base_count,
+        values, value_count, entries, entry_count, entry_values, entry_value_count, plain, plain_count, sources, source_count,
+        source_values, source_value_count, free, free_room, stretches, count, pilot);
+    return seat;
+}

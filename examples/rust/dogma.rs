@@ -16,9 +16,18 @@
 //!     Err(refusal) => println!("{refusal}"),
 //! }
 //! ```
+//! Pilots that come and go, each with as many rows of every list as it wants, until its guest is dropped:
+//!
+//! ```ignore
+//! let hall = Hall::new(1024);
+//! let guest = hall.admit(3, 256)?;
+//! guest.calculate(&book, &fit)?;
+//! guest.with_fit(|fit| println!("{}", fit.row_count()));
+//! ```
 //! The library to link is the one whose path `library/build` prints.
 #![allow(dead_code)]
 
+use std::cell::RefCell;
 use std::fmt;
 use std::ops::Range;
 
@@ -42,6 +51,15 @@ struct Answer {
     entries: u64,
     plain: u64,
     sources: u64,
+}
+
+// Three numbers of an admission or a leaving.
+#[repr(C)]
+#[derive(Copy, Clone)]
+struct Seat {
+    number: u64,
+    place: u64,
+    free: u64,
 }
 
 impl Answer {
@@ -106,6 +124,37 @@ unsafe extern "C" {
         fit_length: usize,
         pilot: u32,
     ) -> Answer;
+
+    fn dogma_admit(free: *mut [u32; 2], free_room: usize, stretches: *mut Stretches, count: u32, pool: u32, pilot: u32, length: u32) -> Seat;
+
+    fn dogma_leave(
+        states: *mut States,
+        collected: *mut [u32; 14],
+        collected_count: usize,
+        collected_values: *mut f64,
+        collected_value_count: usize,
+        rows: *mut [u32; 6],
+        row_count: usize,
+        bases: *mut f64,
+        base_count: usize,
+        values: *mut f64,
+        value_count: usize,
+        entries: *mut [u32; 12],
+        entry_count: usize,
+        entry_values: *mut f64,
+        entry_value_count: usize,
+        plain: *mut [u32; 2],
+        plain_count: usize,
+        sources: *mut SourceRow,
+        source_count: usize,
+        source_values: *mut [f64; 2],
+        source_value_count: usize,
+        free: *mut [u32; 2],
+        free_room: usize,
+        stretches: *mut Stretches,
+        count: u32,
+        pilot: u32,
+    ) -> Seat;
 }
 
 /// A list that can be full.
@@ -541,6 +590,151 @@ impl Pool {
     }
 }
 
+/// Why a pilot is not admitted. Nothing was written.
+#[derive(Debug, Copy, Clone, PartialEq, Eq)]
+pub enum SeatRefusal {
+    /// The number is above 15, or its pilot is in already.
+    Pilot { pilot: u32 },
+    /// It wants no row.
+    NoRows { pilot: u32 },
+    /// No run of free rows is as long, though there may be as many.
+    NoRun { pilot: u32 },
+}
+
+impl SeatRefusal {
+    /// The library's number and place.
+    pub fn number_and_place(self) -> (u32, u32) {
+        match self {
+            SeatRefusal::NoRun { pilot } => (12, pilot),
+            SeatRefusal::Pilot { pilot } => (13, pilot),
+            SeatRefusal::NoRows { pilot } => (14, pilot),
+        }
+    }
+}
+
+impl fmt::Display for SeatRefusal {
+    fn fmt(&self, f: &mut fmt::Formatter) -> fmt::Result {
+        match self {
+            SeatRefusal::Pilot { pilot } => write!(f, "{pilot} is no pilot's number that is free"),
+            SeatRefusal::NoRows { pilot } => write!(f, "pilot {pilot} wants no row"),
+            SeatRefusal::NoRun { pilot } => write!(f, "there is no run of as many free rows for pilot {pilot}"),
+        }
+    }
+}
+
+impl std::error::Error for SeatRefusal {}
+
+// 16 pilots leave at most 17 gaps
+const FREE: usize = 17;
+
+struct Seating {
+    pool: Pool,
+    free: [[u32; 2]; FREE],
+    count: u32,
+    rows: u32,
+}
+
+/// A pool whose rows are lent to pilots as they come, and taken back when they go.
+pub struct Hall {
+    seating: RefCell<Seating>,
+}
+
+impl Hall {
+    /// So many rows of every list, all free.
+    pub fn new(rows: u32) -> Hall {
+        let mut free = [[0; 2]; FREE];
+        free[0] = [0, rows];
+        let pool = Pool::with_stretches(Rooms::all(rows as usize), [[[0; 2]; LISTS]; PILOTS]);
+        Hall { seating: RefCell::new(Seating { pool, free, count: u32::from(rows > 0), rows }) }
+    }
+
+    /// The free stretches, in order: start and length.
+    pub fn free(&self) -> Vec<[u32; 2]> {
+        let seating = self.seating.borrow();
+        seating.free[..seating.count as usize].to_vec()
+    }
+
+    /// The pilot with the lowest run of so many free rows, until the guest is dropped.
+    pub fn admit(&self, pilot: u32, length: u32) -> Result<Guest<'_>, SeatRefusal> {
+        let mut seating = self.seating.borrow_mut();
+        let Seating { pool, free, count, rows } = &mut *seating;
+        // SAFETY: `free` has FREE elements of two numbers each, as struct dogma_stretch; the stretches are all pilots'. They are apart.
+        let seat = unsafe { dogma_admit(free.as_mut_ptr(), FREE, &mut pool.stretches, *count, *rows, pilot, length) };
+        *count = seat.free as u32;
+        match seat.number {
+            0 => Ok(Guest { hall: self, pilot }),
+            12 => Err(SeatRefusal::NoRun { pilot }),
+            13 => Err(SeatRefusal::Pilot { pilot }),
+            14 => Err(SeatRefusal::NoRows { pilot }),
+            number => unreachable!("{number}: from the start no calls lead to TABLE"),
+        }
+    }
+}
+
+/// A pilot that is in. Dropped, it leaves: its rows are cleared and free again.
+pub struct Guest<'a> {
+    hall: &'a Hall,
+    pilot: u32,
+}
+
+impl Guest<'_> {
+    pub fn pilot(&self) -> u32 {
+        self.pilot
+    }
+
+    /// The pilot's fit over the book. What the other pilots have stays as it was.
+    pub fn calculate(&self, book: &[u8], fit: &[u8]) -> Result<(), PilotRefusal> {
+        self.hall.seating.borrow_mut().pool.calculate(self.pilot, book, fit).map(|_| ())
+    }
+
+    /// Its last result, if there is one and it was not refused.
+    pub fn with_fit<R>(&self, read: impl FnOnce(Fit<'_>) -> R) -> Option<R> {
+        self.hall.seating.borrow().pool.fit(self.pilot).map(read)
+    }
+}
+
+impl Drop for Guest<'_> {
+    fn drop(&mut self) {
+        let mut seating = self.hall.seating.borrow_mut();
+        let Seating { pool, free, count, .. } = &mut *seating;
+        let lists = &mut pool.columns;
+        // SAFETY: as in `Pool::calculate` and `Hall::admit`.
+        let seat = unsafe {
+            dogma_leave(
+                pool.states.as_mut_ptr(),
+                lists.collected.as_mut_ptr(),
+                lists.collected.len(),
+                lists.collected_values.as_mut_ptr(),
+                lists.collected_values.len(),
+                lists.rows.as_mut_ptr(),
+                lists.rows.len(),
+                lists.bases.as_mut_ptr(),
+                lists.bases.len(),
+                lists.values.as_mut_ptr(),
+                lists.values.len(),
+                lists.entries.as_mut_ptr(),
+                lists.entries.len(),
+                lists.entry_values.as_mut_ptr(),
+                lists.entry_values.len(),
+                lists.plain.as_mut_ptr(),
+                lists.plain.len(),
+                lists.sources.as_mut_ptr(),
+                lists.sources.len(),
+                lists.source_values.as_mut_ptr(),
+                lists.source_values.len(),
+                free.as_mut_ptr(),
+                FREE,
+                &mut pool.stretches,
+                *count,
+                self.pilot,
+            )
+        };
+        *count = seat.free as u32;
+        pool.answers[self.pilot as usize] = None;
+        debug_assert_eq!(seat.number, 0);
+    }
+}
+
 // The used rows of each list.
 struct Lists<'a> {
     states: &'a States,
@@ -759,6 +953,27 @@ mod tests {
         assert!(pool.calculate(7, BOOK, FIT).is_err());
         assert!(pool.fit(9).unwrap().rows().eq(alone.iter().cloned()) && pool.fit(0).is_none());
         assert!(pool.calculate(0, BOOK, FIT).unwrap_or_else(|refusal| panic!("{refusal}")).rows().eq(alone));
+    }
+
+    #[test]
+    fn guests_come_and_go() {
+        let hall = Hall::new(10);
+        let first = hall.admit(0, 4).unwrap();
+        let second = hall.admit(1, 3).unwrap();
+        assert_eq!(hall.free(), [[7, 3]]);
+        assert_eq!(hall.admit(2, 4).err(), Some(SeatRefusal::NoRun { pilot: 2 }));
+        assert_eq!(hall.admit(1, 1).err(), Some(SeatRefusal::Pilot { pilot: 1 }));
+        assert_eq!(hall.admit(16, 0).err(), Some(SeatRefusal::Pilot { pilot: 16 }));
+        assert_eq!(hall.admit(2, 0).err(), Some(SeatRefusal::NoRows { pilot: 2 }));
+        first.calculate(BOOK, FIT).unwrap();
+        assert!(first.with_fit(|fit| fit.row_count()).is_some());
+        drop(first);
+        assert_eq!(hall.free(), [[0, 4], [7, 3]]);
+        let third = hall.admit(0, 2).unwrap();
+        assert!(third.with_fit(|_| ()).is_none());
+        drop(second);
+        drop(third);
+        assert_eq!(hall.free(), [[0, 10]]);
     }
 
     #[test]

@@ -33,14 +33,14 @@ pub fn lesser(a: usize, b: usize) -> usize
 }
 
 // The row past a stretch's last.
-fn end_of(first: u32, length: u32) -> usize
+pub fn end_of(first: u32, length: u32) -> usize
     ensures defined { λ r. ⌜ r ≡ first + length ⌝ }
 {
     first as usize + length as usize
 }
 
 // Whether a stretch has a row outside a list's room.
-fn leaves(room: usize, first: u32, length: u32) -> bool
+pub fn leaves(room: usize, first: u32, length: u32) -> bool
     ensures defined { λ r. ⌜ r ≡ rule.leaves room (first ∷ length ∷ []) ⌝ }
 {
     let end = end_of(first, length);
@@ -48,7 +48,7 @@ fn leaves(room: usize, first: u32, length: u32) -> bool
 }
 
 // Whether two stretches have a row in common.
-fn overlaps(first: u32, length: u32, other_first: u32, other_length: u32) -> bool
+pub fn overlaps(first: u32, length: u32, other_first: u32, other_length: u32) -> bool
     ensures defined { λ r. ⌜ r ≡ rule.overlaps (first ∷ length ∷ []) («other_first» ∷ «other_length» ∷ []) ⌝ }
 {
     let start = greater(first as usize, other_first as usize);

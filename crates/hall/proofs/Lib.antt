@@ -1,0 +1,4 @@
+pub mod Plan
+pub mod Zeroed
+pub mod Leaving
+pub mod Freed
