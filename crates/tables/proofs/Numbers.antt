@@ -8,7 +8,7 @@ use mathlib.Core.List.{List, [], _∷_, _++_, append-assoc}
 use lib.ListN.{length, getD, take, drop, length-append}
 use lib.Seq.{getD-drop, getD-append-add, drop-cons}
 use lib.Dec.{T}
-use lib.Ieee.{Float, binary64, ofBits, toBits, fits, isNan}
+use lib.Ieee.{Float, nan, binary64, ofBits, toBits, fits, isNan}
 use lib.Ieee.Bits.{ofBits-toBits, toBits-ofBits, toBits-lt}
 use Rattle.rules.specs.Bytes.{u32At, f64At}
 use Rattle.tables.specs.Layout.{bytesOf, word, words, float, Words, Octets}
@@ -120,3 +120,9 @@ read-word b i h o =
 
         s3 : i + 3 ≡ suc (suc (suc i))
         s3 = omega arith
+
+-- a float inside its column, whatever stands past the end
+pub float-any : (l : List Float) (k : ℕ) → k < length l → (d : Float) → getD l k nan ≡ getD l k d
+float-any [] k h d = absurd (omega arith)
+float-any (x ∷ l) zero h d = refl
+float-any (x ∷ l) (suc k) h d = float-any l k (le-of-suc-le-suc h) d

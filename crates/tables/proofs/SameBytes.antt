@@ -27,7 +27,7 @@ use Rattle.tables.specs.Tables.{Tables, fields, row, value, number, book
 use Rattle.tables.proofs.Back.{words-back}
 use Rattle.tables.proofs.Again.{small, unsigned, small-bits, attribute-words, effect-words, modifier-words, type-effect-words, buff-collection-words, object-words, ask-words, attribute-again, effect-again, modifier-again, type-effect-again, buff-collection-again, object-again, value-again, id-again, ask-again}
 use Rattle.tables.proofs.Stretches.{octets-take, octets-drop, Gapless, record-wide, Again, AllAgain, body-again, pairs-again}
-use Rattle.tables.proofs.ReadsBack.{Rowed, Held, Small, Fits32, FewBook, FewFit}
+use Rattle.tables.specs.Fits.{Rowed, Held, Small, Fits32, FewBook, FewFit}
 use Rattle.tables.proofs.SameVerdict.{decided, decided-none, same-verdict}
 
 -- ---- a column of what is read

@@ -16,7 +16,8 @@ use Rattle.rules.specs.Sheet.{bookOf, fitOf}
 use Rattle.rules.specs.Shape.{endOf, placed, headerGood, bookBad, fitBad, badShape}
 use Rattle.rules.specs.Files.{fivePairs, pairsIn, standing, bookHeaderGood, fitHeaderGood, badBook, badFit, badFiles, plus20}
 use Rattle.tables.specs.Tables.{Tables, number, countsOf, bookAlike, fitAlike, counted, bookFits, fitFits, headerFits, tablesBad, bookTablesBad, fitTablesBad, bookLent, fitLent, sheetOf, bookFileOf, fitFileOf}
-use Rattle.tables.proofs.ReadsBack.{Fits32, FewBook, FewFit, pairs, sheet-size, book-size, fit-size, word-at, pairs-are, book-reads-back, fit-reads-back, book-pairs, book-pairs-are, book-file-reads-back, fit-pairs, fit-word-at, fit-pairs-are, fit-file-reads-back}
+use Rattle.tables.specs.Fits.{Fits32, FewBook, FewFit}
+use Rattle.tables.proofs.ReadsBack.{pairs, sheet-size, book-size, fit-size, word-at, pairs-are, book-reads-back, fit-reads-back, book-pairs, book-pairs-are, book-file-reads-back, fit-pairs, fit-word-at, fit-pairs-are, fit-file-reads-back}
 
 eqb-same : (n : ℕ) → eqb n n ≡ true
 eqb-same n = eq-eqb n n refl

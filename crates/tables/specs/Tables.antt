@@ -345,3 +345,74 @@ tablesOf k f =
 
 abbrev pub tablesIn : List ℕ → Tables
 tablesIn b = tablesOf (bookOf b (pairsOf b)) (fitOf b (pairsOf b))
+
+-- ---- the tables of a call, from columns: all, a book's alone, a fit's alone
+
+abbrev pub bookTables : List ℕ → List (List ℕ) → List Float → List (List ℕ) → List (List ℕ) → List (List ℕ) → List (List ℕ) → Tables
+bookTables h a d e m y b =
+    record {
+      header = h;
+      attributes = a;
+      defaults = d;
+      effects = e;
+      modifiers = m;
+      typeEffects = y;
+      buffCollections = b;
+      objects = [];
+      baseAttributes = [];
+      baseValues = [];
+      ids = [];
+      buffs = [];
+      buffValues = [];
+      asks = [];
+    }
+
+-- h has depth and recording
+abbrev pub fitTables : List ℕ → List (List ℕ) → List ℕ → List Float → List ℕ → List ℕ → List Float → List (List ℕ) → Tables
+fitTables h o v w i p q k =
+    record {
+      header = 0 ∷ 0 ∷ 0 ∷ h;
+      attributes = [];
+      defaults = [];
+      effects = [];
+      modifiers = [];
+      typeEffects = [];
+      buffCollections = [];
+      objects = o;
+      baseAttributes = v;
+      baseValues = w;
+      ids = i;
+      buffs = p;
+      buffValues = q;
+      asks = k;
+    }
+
+-- a book's and a fit's together, under a header of their own
+abbrev pub together : List ℕ → Tables → Tables → Tables
+together h t u =
+    record {
+      header = h;
+      attributes = t .attributes;
+      defaults = t .defaults;
+      effects = t .effects;
+      modifiers = t .modifiers;
+      typeEffects = t .typeEffects;
+      buffCollections = t .buffCollections;
+      objects = u .objects;
+      baseAttributes = u .baseAttributes;
+      baseValues = u .baseValues;
+      ids = u .ids;
+      buffs = u .buffs;
+      buffValues = u .buffValues;
+      asks = u .asks;
+    }
+
+-- bytes of a book's tables, and of a fit's
+abbrev pub bookLength : Tables → ℕ
+bookLength t =
+    24 * length (t .attributes) + 24 * length (t .effects) + 28 * length (t .modifiers) + 12 * length (t .typeEffects)
+    + 16 * length (t .buffCollections)
+
+abbrev pub fitLength : Tables → ℕ
+fitLength t =
+    68 * length (t .objects) + 12 * length (t .baseAttributes) + 4 * length (t .ids) + 12 * length (t .buffs) + 8 * length (t .asks)

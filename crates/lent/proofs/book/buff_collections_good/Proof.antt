@@ -1,0 +1,69 @@
+-- Made by `answers` from Proof.answers: edit that file.
+-- `book::buff_collections_good` meets its contract. Assumes nothing.
+use Rattle.lent.proofs.book.buff_collections_good.Statement.{statement}
+use Rattle.lent.proofs.book.buff_collections_good.Tie as tie
+use Rattle.lent.proofs.book.buff_collections_good.Reads as reads
+use Rattle.lent.proofs.book.buff_collections_good.Lts as lts
+use Rattle.lent.proofs.records.buff_collection.Reads as buff-collection-reads
+use Rattle.shape.proofs.book_tables.buff_collection_good.Reads as buff-collection-good-reads
+use borrow.Author.Needs.{needs}
+use Prim.Native.Nat.{_-_}
+use native.Mathlib.Omega.{arith}
+use borrow.Author.Tests.{not-true, not-false}
+use borrow.Author.Needs.{sfits-of}
+use mathlib.Core.Path.{_≡_, refl, sym, _∙_}
+use mathlib.Core.List.{[]}
+use lib.ListN.{length}
+use mir.Syntax.{w32}
+use mir.Val.{toZ}
+use mir.ValLaws.{toZ-ofZ}
+use Rattle.tables.specs.Tables.{bookTables, fitTables, bookLent, fitLent}
+use Rattle.lent.specs.Alone.{attributesAlone, effectsAlone, typeEffectsAlone, buffCollectionsAlone, objectsAlone, basesAlone, asksAlone}
+use Rattle.shape.proofs.Scans.{scan-next, scan-failed, scan-done, and-same, Each, each-start}
+use Rattle.shape.proofs.BookScans.{BuffCollectionScan, buff-collections-start}
+use Rattle.lent.proofs.Nths.{buff-collection-nth, buff-collections-long, modifiers-long}
+
+abbrev Inv-loop : tie.InvT-loop
+Inv-loop buff-collections modifiers count last₀ i₀ last i = BuffCollectionScan (buffCollectionsAlone buff-collections modifiers) (length buff-collections) (length modifiers) i (toZ w32 last)
+
+abbrev μ-loop : tie.MeasureT-loop
+μ-loop buff-collections modifiers count last₀ i₀ last i = length buff-collections - i
+
+loop-holds : tie.Need-loop-holds Inv-loop μ-loop
+loop-holds c = buff-collections-start _ (buff-collections-long (bookTables [] [] [] [] (c .args .modifiers .now) [] (c .args .buff-collections .now))) (sym (modifiers-long (bookTables [] [] [] [] (c .args .modifiers .now) [] (c .args .buff-collections .now))))
+
+buff-collection-requires : tie.Need-buff-collection-requires Inv-loop μ-loop
+buff-collection-requires c κs = search needs
+
+buff-collection-good-requires : tie.Need-buff-collection-good-requires Inv-loop μ-loop
+buff-collection-good-requires c κs = search needs
+
+add-i : tie.Need-add-i Inv-loop μ-loop
+add-i c = search needs
+
+returns : tie.Need-returns Inv-loop μ-loop
+returns c = scan-failed (c .before .before .before .before .before .loop .inv) (c .before .before .before .before .loop-test .taken) (buff-collection-nth (bookTables [] [] [] [] (c .before .before .before .before .before .before .args .modifiers .now) [] (c .before .before .before .before .before .before .args .buff-collections .now)) (c .before .before .before .before .loop-test .taken) (c .before .before .before .buff-collection .ensures)) (c .before .before .buff-collection-good .ensures) (not-true _ (c .if1 .taken))
+
+loop-less : tie.Need-loop-less Inv-loop μ-loop
+loop-less c = search needs
+
+loop-again : tie.Need-loop-again Inv-loop μ-loop
+loop-again c = scan-next (c .before .before .before .before .before .loop .inv) (c .before .before .before .before .loop-test .taken) (buff-collection-nth (bookTables [] [] [] [] (c .before .before .before .before .before .before .args .modifiers .now) [] (c .before .before .before .before .before .before .args .buff-collections .now)) (c .before .before .before .before .loop-test .taken) (c .before .before .before .buff-collection .ensures)) (c .before .before .buff-collection-good .ensures) (not-false _ (c .if1 .left)) (toZ-ofZ w32 _ (sfits-of (c .before .struct-told .given .1 .0 .1)))
+
+returns-2 : tie.Need-returns-2 Inv-loop μ-loop
+returns-2 c = scan-done (c .before .loop .inv) (c .loop-test .left)
+
+pub buff-collections-good-spec : {M : Type 1} → statement M
+buff-collections-good-spec =
+    tie.close
+    (tie.spec
+    Inv-loop
+    μ-loop
+    loop-holds
+    buff-collection-requires
+    buff-collection-good-requires
+    add-i
+    returns
+    loop-less
+    loop-again
+    returns-2)
