@@ -28,8 +28,8 @@ module _ (r1 r2 r3 r4 r5 : List ℕ) (s : Put) where
   five-put {a} {b} {c} {d} {e} f g h i j =
       after r1 (r2 ++ (r3 ++ (r4 ++ (r5 ++ [])))) s f (after r2 (r3 ++ (r4 ++ (r5 ++ []))) a g (after r3 (r4 ++ (r5 ++ [])) b h (after r4 (r5 ++ []) c i (last r5 d j))))
 
-  pub three-put : {a b c : Put} → a ≡ puts r1 s → b ≡ puts r2 a → c ≡ puts r3 b → c ≡ puts (r1 ++ (r2 ++ r3)) s
-  three-put {a} {b} f g h = after r1 (r2 ++ r3) s f (after r2 r3 a g h)
+pub three-put : (r1 r2 r3 : List ℕ) (s : Put) {a b c : Put} → a ≡ puts r1 s → b ≡ puts r2 a → c ≡ puts r3 b → c ≡ puts (r1 ++ (r2 ++ r3)) s
+three-put r1 r2 r3 s {a} f g h = after r1 (r2 ++ r3) s f (after r2 r3 a g h)
 
 body-append : (xs ys : List Tab) → bodyOf (xs ++ ys) ≡ bodyOf xs ++ bodyOf ys
 body-append [] ys = refl
@@ -103,3 +103,10 @@ fit-few t r =
       buffs = r .few .buffs;
       asks = r .few .asks;
     }
+
+-- five pairs are ten numbers
+pub ten-book : (at : ℕ) (t : Tables) {l : List ℕ} → l ≡ pairsFrom at (bookTabs t) → length l ≡ 10
+ten-book at t e = ap length e
+
+pub ten-fit : (at : ℕ) (t : Tables) {l : List ℕ} → l ≡ pairsFrom at (fitTabs t) → length l ≡ 10
+ten-fit at t e = ap length e

@@ -45,7 +45,7 @@ module _ {A B : Type 0} (f : ℕ → A) (g : A → B) where
   column-all P d z p a (suc n) zero = p a
   column-all P d z p a (suc n) (suc k) = column-all P d z p (suc a) n k
 
-every-read : {A : Type 0} (p : A → Bool) (f : ℕ → A) (n k : ℕ) → every? p (map f (from 0 n)) ≡ true → k < n → p (f k) ≡ true
+pub every-read : {A : Type 0} (p : A → Bool) (f : ℕ → A) (n k : ℕ) → every? p (map f (from 0 n)) ≡ true → k < n → p (f k) ≡ true
 every-read p f n k e h =
     subst (λ a. p a ≡ true) (table-at f 0 n k (f 0) h ∙ ap f (zero-add k)) (every-at p (map f (from 0 n)) k (f 0) e (rw (table-length f 0 n) h))
 

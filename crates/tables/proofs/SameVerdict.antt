@@ -78,11 +78,11 @@ decided-none true none f e = (refl, (refl, e))
 abbrev headed : Bool → Option ℕ → Option ℕ
 headed h o = elim h [ false ↦ some 0 | true ↦ o ]
 
-headed-none : (h : Bool) (o : Option ℕ) → headed h o ≡ none → h ≡ true
-headed-none false o e = absurd (Option·some-ne-none 0 e)
-headed-none true o e = refl
+pub headed-both : (h : Bool) (o : Option ℕ) → headed h o ≡ none → (h ≡ true) × (o ≡ none)
+headed-both false o e = absurd (Option·some-ne-none 0 e)
+headed-both true o e = (refl, e)
 
-plus20-none : (o : Option ℕ) → plus20 o ≡ none → o ≡ none
+pub plus20-none : (o : Option ℕ) → plus20 o ≡ none → o ≡ none
 plus20-none none e = refl
 plus20-none (some i) e = absurd (Option·some-ne-none (i + 20) e)
 
@@ -146,8 +146,8 @@ module _ (t : Tables) (few : FewFit t) where
 pub sound-files : (t u : Tables) → Fits32 t → Fits32 u → bookTablesBad t ≡ none → fitTablesBad u ≡ none → badFiles (bookFileOf t) (fitFileOf u) ≡ none
 unfolding badFiles bookTablesBad fitTablesBad
 sound-files t u g h e f =
-    let b : bookFits t ≡ true = headed-none (bookFits t) (bookBad (bookLent t)) e in
-    let i : fitFits u ≡ true = headed-none (fitFits u) (fitBad (fitLent u)) (plus20-none (headed (fitFits u) (fitBad (fitLent u))) f) in
+    let b : bookFits t ≡ true = headed-both (bookFits t) (bookBad (bookLent t)) e .0 in
+    let i : fitFits u ≡ true = headed-both (fitFits u) (fitBad (fitLent u)) (plus20-none (headed (fitFits u) (fitBad (fitLent u))) f) .0 in
     ap (λ (o : Option ℕ). elim o as (λ o. Option ℕ) [ some i ↦ some i | none ↦ plus20 (badFit (fitFileOf u) (pairsIn (bookFileOf t) (fitFileOf u))) ])
     (same-book-verdict t (few-book t b) (like-book t b) g ∙ e)
     ∙ (same-fit-verdict u (few-fit u i) (like-fit u i) h (bookFileOf t) ∙ f)
