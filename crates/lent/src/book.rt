@@ -118,7 +118,8 @@ pub fn book_fits(
     let alike = attributes.len() == defaults.len();
     let counted = (attributes.len() <= 2048)
         & ((effects.len() <= 1024)
-            & ((modifiers.len() <= 4096) & ((type_effects.len() <= 4096) & (buff_collections.len() <= 64))));
+            & ((modifiers.len() <= 4096)
+                & ((type_effects.len() <= 4096) & (buff_collections.len() <= 64))));
     alike & counted
 }
 

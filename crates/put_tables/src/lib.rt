@@ -56,8 +56,7 @@ pub fn put_sheet(
 ) -> usize
     requires book_ready { ⌜ BookReady (bookNow attributes defaults effects modifiers «type_effects» «buff_collections» []) ⌝ }
     requires fit_ready { ⌜ FitReady (fitNow objects «base_attributes» «base_values» ids buffs «buff_values» asks []) ⌝ }
-    requires room {
-        let book = bookNow attributes defaults effects modifiers «type_effects» «buff_collections» [] in
+    requires room { let book = bookNow attributes defaults effects modifiers «type_effects» «buff_collections» [] in
         let fit = fitNow objects «base_attributes» «base_values» ids buffs «buff_values» asks [] in
         ⌜ length (sheetOf (together (now header) book fit)) ≤ length (now bytes) ⌝ }
     ensures written { λ r.
@@ -65,7 +64,14 @@ pub fn put_sheet(
         let fit = fitAt objects «base_attributes» «base_values» ids buffs «buff_values» asks [] in
         ⌜ Added bytes 0 r (sheetOf (together (now (header .entry)) book fit)) ⌝ }
 {
-    let at = 100 + book_length(attributes, effects, modifiers, type_effects, buff_collections);
+    let at = 100
+        + book_length(
+            attributes,
+            effects,
+            modifiers,
+            type_effects,
+            buff_collections,
+        );
     let book = book_pairs(
         100,
         attributes,

@@ -117,7 +117,11 @@ pub fn put_type_effects(bytes: &mut [u8], at: usize, type_effects: &[TypeEffectF
 }
 
 // Table 5.
-pub fn put_buff_collections(bytes: &mut [u8], at: usize, buff_collections: &[BuffCollectionFields]) -> usize
+pub fn put_buff_collections(
+    bytes: &mut [u8],
+    at: usize,
+    buff_collections: &[BuffCollectionFields],
+) -> usize
     requires room { ⌜ at + 16 * length (now «buff_collections») ≤ length (now bytes) ⌝ }
     ensures written { λ r. ⌜ Added bytes at r (rowBytes 4 «buff_collections») ⌝ }
     ensures end { λ r. ⌜ r ≡ at + 16 * length (now («buff_collections» .entry)) ⌝ }

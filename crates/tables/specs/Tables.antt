@@ -348,7 +348,8 @@ tablesIn b = tablesOf (bookOf b (pairsOf b)) (fitOf b (pairsOf b))
 
 -- ---- the tables of a call, from columns: all, a book's alone, a fit's alone
 
-abbrev pub bookTables : List ℕ → List (List ℕ) → List Float → List (List ℕ) → List (List ℕ) → List (List ℕ) → List (List ℕ) → Tables
+abbrev pub bookTables : List ℕ → List (List ℕ) → List Float → List (List ℕ) → List (List ℕ) → List (List ℕ) → List (List ℕ)
+    → Tables
 bookTables h a d e m y b =
     record {
       header = h;
@@ -368,7 +369,8 @@ bookTables h a d e m y b =
     }
 
 -- h has depth and recording
-abbrev pub fitTables : List ℕ → List (List ℕ) → List ℕ → List Float → List ℕ → List ℕ → List Float → List (List ℕ) → Tables
+abbrev pub fitTables : List ℕ → List (List ℕ) → List ℕ → List Float → List ℕ → List ℕ → List Float → List (List ℕ)
+    → Tables
 fitTables h o v w i p q k =
     record {
       header = 0 ∷ 0 ∷ 0 ∷ h;

@@ -86,6 +86,13 @@ module _ (h : List ℕ) (t u : Tables) (e : tablesBad (together h t u) ≡ none)
   pub sheet-fits : {n k m : ℕ} → k ≡ bookLength t → m ≡ fitLength u → 100 + k + m ≤ n → length (sheetOf (together h t u)) ≤ n
   sheet-fits p q g = omega (arith, p, q, g, sheet-size (together h t u))
 
+  -- no sum wraps
+  pub sheet-small : {k m : ℕ} → k ≡ bookLength t → m ≡ fitLength u → 100 + k + m ≤ 530276
+  sheet-small p q =
+      let b = sheet-book-ready .few in
+      let f = few-part in
+      omega (arith, p, q, b .attributes, b .effects, b .modifiers, b .typeEffects, b .buffCollections, f .objects, f .baseAttributes, f .ids, f .buffs, f .asks)
+
   pub sheet-lacks : {n k m : ℕ} → k ≡ bookLength t → m ≡ fitLength u → n < 100 + k + m → n < length (sheetOf (together h t u))
   sheet-lacks p q g = omega (arith, p, q, g, sheet-size (together h t u))
 
@@ -101,6 +108,9 @@ module _ (h : List ℕ) (a : List (List ℕ)) (d : List Float) (f m y b : List (
 
   pub book-fits : {n k : ℕ} → k ≡ bookLength book → 52 + k ≤ n → length (bookFileOf book) ≤ n
   book-fits p g = omega (arith, p, g, book-size book)
+
+  pub book-small : {k : ℕ} → k ≡ bookLength book → 52 + k ≤ 530276
+  book-small p = let b = book-file-ready .few in omega (arith, p, b .attributes, b .effects, b .modifiers, b .typeEffects, b .buffCollections)
 
   pub book-lacks : {n k : ℕ} → k ≡ bookLength book → n < 52 + k → n < length (bookFileOf book)
   book-lacks p g = omega (arith, p, g, book-size book)
@@ -124,6 +134,9 @@ module _ (h : List ℕ) (o : List (List ℕ)) (v : List ℕ) (w : List Float) (i
 
   pub fit-fits : {n m : ℕ} → m ≡ fitLength fit → 48 + m ≤ n → length (fitFileOf fit) ≤ n
   fit-fits s g = omega (arith, s, g, fit-size fit)
+
+  pub fit-small : {m : ℕ} → m ≡ fitLength fit → 48 + m ≤ 530276
+  fit-small s = let f = few-file in omega (arith, s, f .objects, f .baseAttributes, f .ids, f .buffs, f .asks)
 
   pub fit-lacks : {n m : ℕ} → m ≡ fitLength fit → n < 48 + m → n < length (fitFileOf fit)
   fit-lacks s g = omega (arith, s, g, fit-size fit)

@@ -25,7 +25,7 @@ use Rattle.write.specs.Given.{answerOf, bytesIn}
 
 -- ---- what is written, by the verdict and the room
 
-module _ {o : Option ℕ} (b : List ℕ) (n : ℕ) where
+module _ (o : Option ℕ) (b : List ℕ) (n : ℕ) where
   pub judged-shape : {r : Shaped} {i : ℕ} → r ≡ shapedOf o → r ≡ Bad i → judged o b n ≡ shape i
   judged-shape h e = ap (λ (p : Option ℕ). judged p b n) (bad-said o (sym e ∙ h))
 
@@ -40,7 +40,7 @@ module _ {o : Option ℕ} (b : List ℕ) (n : ℕ) where
 abbrev Given : tables.Written → ℕ → Written → List ℕ → Type 0
 Given w n r out = (r ≡ answerOf w) × (out ≡ column (λ b. b) 0 (bytesIn w) n)
 
-module _ {w : tables.Written} {n : ℕ} {r : Written} {out : List ℕ} (z : out ≡ replicate n 0) where
+module _ (w : tables.Written) (n : ℕ) {r : Written} {out : List ℕ} (z : out ≡ replicate n 0) where
   nothing : bytesIn w ≡ [] → out ≡ column (λ b. b) 0 (bytesIn w) n
   nothing e = z ∙ sym (ap (λ (l : List ℕ). column (λ b. b) 0 l n) e ∙ column-none (λ b. b) 0 n)
 
@@ -66,13 +66,12 @@ cleared-put b out {end} {now} h e =
 abbrev done : ℕ → Written
 done k = record { number = 0; place = 0; length = k }
 
-pub given-sheet : {w : tables.Written} (b out : List ℕ) {end : ℕ} {now last : List ℕ} {r : Written} → w ≡ sheet b → length b ≤ length out
+pub given-sheet : (w : tables.Written) (b out : List ℕ) {end : ℕ} {now last : List ℕ} {r : Written} → w ≡ sheet b → length b ≤ length out
     → put end now ≡ puts b (put 0 out) → r ≡ record { number = 0; place = 0; length = end } → last ≡ cleared 0 end now → Given w (length out) r last
-given-sheet b out {end} e h p q c =
-    (
-      q ∙ ap (λ (k : ℕ). done k) far ∙ sym (ap answerOf e),
-      c ∙ cleared-put b out h p ∙ sym (ap (λ (l : List ℕ). column (λ b. b) 0 l (length out)) (ap bytesIn e)),
-    )
+given-sheet w b out {end} e h p q c = (
+  q ∙ ap (λ (k : ℕ). done k) far ∙ sym (ap answerOf e),
+  c ∙ cleared-put b out h p ∙ sym (ap (λ (l : List ℕ). column (λ b. b) 0 l (length out)) (ap bytesIn e)),
+)
   where
     far : end ≡ length b
     far = ends b 0 out p ∙ zero-add (length b)

@@ -99,8 +99,7 @@ fn sheet_written(
     buff_values: &[f64],
     asks: &[AskFields],
 ) -> Written
-    requires good {
-        let book = bookNow attributes defaults effects modifiers «type_effects» «buff_collections» [] in
+    requires good { let book = bookNow attributes defaults effects modifiers «type_effects» «buff_collections» [] in
         let fit = fitNow objects «base_attributes» «base_values» ids buffs «buff_values» asks [] in
         ⌜ tablesBad (together (now header) book fit) ≡ none ⌝ }
     ensures defined { λ r.
@@ -108,7 +107,13 @@ fn sheet_written(
         let fit = fitAt objects «base_attributes» «base_values» ids buffs «buff_values» asks [] in
         ⌜ Gives bytes r (written (together (now (header .entry)) book fit)) ⌝ }
 {
-    let book = book_length(attributes, effects, modifiers, type_effects, buff_collections);
+    let book = book_length(
+        attributes,
+        effects,
+        modifiers,
+        type_effects,
+        buff_collections,
+    );
     let fit = fit_length(objects, base_attributes, ids, buffs, asks);
     if bytes.len() < 100 + book + fit {
         return refused(bytes, ROOM, SHEET);
@@ -144,13 +149,18 @@ fn book_written(
     type_effects: &[TypeEffectFields],
     buff_collections: &[BuffCollectionFields],
 ) -> Written
-    requires good {
-        ⌜ bookTablesBad (bookNow attributes defaults effects modifiers «type_effects» «buff_collections» (now header)) ≡ none ⌝ }
+    requires good { ⌜ bookTablesBad (bookNow attributes defaults effects modifiers «type_effects» «buff_collections» (now header)) ≡ none ⌝ }
     ensures defined { λ r.
         let t = bookAt attributes defaults effects modifiers «type_effects» «buff_collections» (now (header .entry)) in
         ⌜ Gives bytes r (writtenBook t) ⌝ }
 {
-    let book = book_length(attributes, effects, modifiers, type_effects, buff_collections);
+    let book = book_length(
+        attributes,
+        effects,
+        modifiers,
+        type_effects,
+        buff_collections,
+    );
     if bytes.len() < 52 + book {
         return refused(bytes, ROOM, SHEET);
     }
@@ -179,8 +189,7 @@ fn fit_written(
     buff_values: &[f64],
     asks: &[AskFields],
 ) -> Written
-    requires good {
-        ⌜ fitTablesBad (fitNow objects «base_attributes» «base_values» ids buffs «buff_values» asks (now header)) ≡ none ⌝ }
+    requires good { ⌜ fitTablesBad (fitNow objects «base_attributes» «base_values» ids buffs «buff_values» asks (now header)) ≡ none ⌝ }
     ensures defined { λ r.
         let t = fitAt objects «base_attributes» «base_values» ids buffs «buff_values» asks (now (header .entry)) in
         ⌜ Gives bytes r (writtenFit t) ⌝ }
@@ -248,19 +257,19 @@ pub extern "C" fn dogma_write_sheet(
         Shaped::Sound => sheet_written(
             bytes,
             header,
-        attributes,
-        defaults,
-        effects,
-        modifiers,
-        type_effects,
-        buff_collections,
-        objects,
-        base_attributes,
-        base_values,
-        ids,
-        buffs,
-        buff_values,
-        asks,
+            attributes,
+            defaults,
+            effects,
+            modifiers,
+            type_effects,
+            buff_collections,
+            objects,
+            base_attributes,
+            base_values,
+            ids,
+            buffs,
+            buff_values,
+            asks,
         ),
     }
 }
@@ -294,12 +303,12 @@ pub extern "C" fn dogma_write_book(
         Shaped::Sound => book_written(
             bytes,
             header,
-        attributes,
-        defaults,
-        effects,
-        modifiers,
-        type_effects,
-        buff_collections,
+            attributes,
+            defaults,
+            effects,
+            modifiers,
+            type_effects,
+            buff_collections,
         ),
     }
 }
@@ -336,13 +345,13 @@ pub extern "C" fn dogma_write_fit(
         Shaped::Sound => fit_written(
             bytes,
             header,
-        objects,
-        base_attributes,
-        base_values,
-        ids,
-        buffs,
-        buff_values,
-        asks,
+            objects,
+            base_attributes,
+            base_values,
+            ids,
+            buffs,
+            buff_values,
+            asks,
         ),
     }
 }
