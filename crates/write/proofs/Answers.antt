@@ -40,14 +40,14 @@ module _ (o : Option ℕ) (b : List ℕ) (n : ℕ) where
 abbrev Given : tables.Written → ℕ → Written → List ℕ → Type 0
 Given w n r out = (r ≡ answerOf w) × (out ≡ column (λ b. b) 0 (bytesIn w) n)
 
-module _ (w : tables.Written) (n : ℕ) {r : Written} {out : List ℕ} (z : out ≡ replicate n 0) where
+module _ (w : tables.Written) (n : ℕ) {out : List ℕ} (z : out ≡ replicate n 0) where
   nothing : bytesIn w ≡ [] → out ≡ column (λ b. b) 0 (bytesIn w) n
   nothing e = z ∙ sym (ap (λ (l : List ℕ). column (λ b. b) 0 l n) e ∙ column-none (λ b. b) 0 n)
 
-  pub given-shape : {i : ℕ} → w ≡ shape i → r ≡ record { number = 1; place = i; length = 0 } → Given w n r out
+  pub given-shape : {r : Written} {i : ℕ} → w ≡ shape i → r ≡ record { number = 1; place = i; length = 0 } → Given w n r out
   given-shape e h = (h ∙ sym (ap answerOf e), nothing (ap bytesIn e))
 
-  pub given-full : w ≡ full → r ≡ record { number = 7; place = 6; length = 0 } → Given w n r out
+  pub given-full : {r : Written} → w ≡ full → r ≡ record { number = 7; place = 6; length = 0 } → Given w n r out
   given-full e h = (h ∙ sym (ap answerOf e), nothing (ap bytesIn e))
 
 map-own : (l : List ℕ) → map (λ b. b) l ≡ l
