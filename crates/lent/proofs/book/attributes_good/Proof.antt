@@ -2,10 +2,6 @@
 -- `book::attributes_good` meets its contract. Assumes nothing.
 use Rattle.lent.proofs.book.attributes_good.Statement.{statement}
 use Rattle.lent.proofs.book.attributes_good.Tie as tie
-use Rattle.lent.proofs.book.attributes_good.Reads as reads
-use Rattle.lent.proofs.book.attributes_good.Lts as lts
-use Rattle.lent.proofs.records.attribute.Reads as attribute-reads
-use Rattle.shape.proofs.book_tables.attribute_good.Reads as attribute-good-reads
 use borrow.Author.Needs.{needs}
 use Prim.Native.Nat.{_-_}
 use native.Mathlib.Omega.{arith}
@@ -29,41 +25,17 @@ Inv-loop attributes defaults last₀ i₀ last i = AttributeScan (attributesAlon
 abbrev μ-loop : tie.MeasureT-loop
 μ-loop attributes defaults last₀ i₀ last i = length attributes - i
 
-loop-holds : tie.Need-loop-holds Inv-loop μ-loop
-loop-holds c = attributes-start _ (attributes-long (bookTables [] (c .before .args .attributes .now) (c .before .args .defaults .now) [] [] [] []))
-
-attribute-requires : tie.Need-attribute-requires Inv-loop μ-loop
-attribute-requires c κs = search needs
-
-attribute-good-requires : tie.Need-attribute-good-requires Inv-loop μ-loop
-attribute-good-requires c κs = search needs
-
-add-i : tie.Need-add-i Inv-loop μ-loop
-add-i c = search needs
-
-returns : tie.Need-returns Inv-loop μ-loop
-returns c = scan-failed (c .before .before .before .before .before .loop .inv) (c .before .before .before .before .loop-test .taken) (attribute-nth (bookTables [] (c .before .before .before .before .before .before .before .args .attributes .now) (c .before .before .before .before .before .before .before .args .defaults .now) [] [] [] []) (c .before .before .before .before .loop-test .taken) (c .before .before .before .attribute .ensures)) (c .before .before .attribute-good .ensures) (not-true _ (c .if1 .taken))
-
-loop-less : tie.Need-loop-less Inv-loop μ-loop
-loop-less c = search needs
-
-loop-again : tie.Need-loop-again Inv-loop μ-loop
-loop-again c = scan-next (c .before .before .before .before .before .loop .inv) (c .before .before .before .before .loop-test .taken) (attribute-nth (bookTables [] (c .before .before .before .before .before .before .before .args .attributes .now) (c .before .before .before .before .before .before .before .args .defaults .now) [] [] [] []) (c .before .before .before .before .loop-test .taken) (c .before .before .before .attribute .ensures)) (c .before .before .attribute-good .ensures) (not-false _ (c .if1 .left)) (toZ-ofZ w32 _ (sfits-of (c .before .struct-told .given .0 .1)))
-
-returns-2 : tie.Need-returns-2 Inv-loop μ-loop
-returns-2 c = scan-done (c .before .loop .inv) (c .loop-test .left)
-
 pub attributes-good-spec : {M : Type 1} → statement M
 attributes-good-spec =
     tie.close
     (tie.spec
     Inv-loop
     μ-loop
-    loop-holds
-    attribute-requires
-    attribute-good-requires
-    add-i
-    returns
-    loop-less
-    loop-again
-    returns-2)
+    (λ c. attributes-start _ (attributes-long (bookTables [] (c .before .args .attributes .now) (c .before .args .defaults .now) [] [] [] [])))
+    (λ c κs. search needs)
+    (λ c κs. search needs)
+    (λ c. search needs)
+    (λ c. scan-failed (c .before .before .before .before .before .loop .inv) (c .before .before .before .before .loop-test .taken) (attribute-nth (bookTables [] (c .before .before .before .before .before .before .before .args .attributes .now) (c .before .before .before .before .before .before .before .args .defaults .now) [] [] [] []) (c .before .before .before .before .loop-test .taken) (c .before .before .before .attribute .ensures)) (c .before .before .attribute-good .ensures) (not-true _ (c .if1 .taken)))
+    (λ c. search needs)
+    (λ c. scan-next (c .before .before .before .before .before .loop .inv) (c .before .before .before .before .loop-test .taken) (attribute-nth (bookTables [] (c .before .before .before .before .before .before .before .args .attributes .now) (c .before .before .before .before .before .before .before .args .defaults .now) [] [] [] []) (c .before .before .before .before .loop-test .taken) (c .before .before .before .attribute .ensures)) (c .before .before .attribute-good .ensures) (not-false _ (c .if1 .left)) (toZ-ofZ w32 _ (sfits-of (c .before .struct-told .given .0 .1))))
+    (λ c. scan-done (c .before .loop .inv) (c .loop-test .left)))

@@ -2,10 +2,6 @@
 -- `book::buff_collections_good` meets its contract. Assumes nothing.
 use Rattle.lent.proofs.book.buff_collections_good.Statement.{statement}
 use Rattle.lent.proofs.book.buff_collections_good.Tie as tie
-use Rattle.lent.proofs.book.buff_collections_good.Reads as reads
-use Rattle.lent.proofs.book.buff_collections_good.Lts as lts
-use Rattle.lent.proofs.records.buff_collection.Reads as buff-collection-reads
-use Rattle.shape.proofs.book_tables.buff_collection_good.Reads as buff-collection-good-reads
 use borrow.Author.Needs.{needs}
 use Prim.Native.Nat.{_-_}
 use native.Mathlib.Omega.{arith}
@@ -29,41 +25,17 @@ Inv-loop buff-collections modifiers count last₀ i₀ last i = BuffCollectionSc
 abbrev μ-loop : tie.MeasureT-loop
 μ-loop buff-collections modifiers count last₀ i₀ last i = length buff-collections - i
 
-loop-holds : tie.Need-loop-holds Inv-loop μ-loop
-loop-holds c = buff-collections-start _ (buff-collections-long (bookTables [] [] [] [] (c .args .modifiers .now) [] (c .args .buff-collections .now))) (sym (modifiers-long (bookTables [] [] [] [] (c .args .modifiers .now) [] (c .args .buff-collections .now))))
-
-buff-collection-requires : tie.Need-buff-collection-requires Inv-loop μ-loop
-buff-collection-requires c κs = search needs
-
-buff-collection-good-requires : tie.Need-buff-collection-good-requires Inv-loop μ-loop
-buff-collection-good-requires c κs = search needs
-
-add-i : tie.Need-add-i Inv-loop μ-loop
-add-i c = search needs
-
-returns : tie.Need-returns Inv-loop μ-loop
-returns c = scan-failed (c .before .before .before .before .before .loop .inv) (c .before .before .before .before .loop-test .taken) (buff-collection-nth (bookTables [] [] [] [] (c .before .before .before .before .before .before .args .modifiers .now) [] (c .before .before .before .before .before .before .args .buff-collections .now)) (c .before .before .before .before .loop-test .taken) (c .before .before .before .buff-collection .ensures)) (c .before .before .buff-collection-good .ensures) (not-true _ (c .if1 .taken))
-
-loop-less : tie.Need-loop-less Inv-loop μ-loop
-loop-less c = search needs
-
-loop-again : tie.Need-loop-again Inv-loop μ-loop
-loop-again c = scan-next (c .before .before .before .before .before .loop .inv) (c .before .before .before .before .loop-test .taken) (buff-collection-nth (bookTables [] [] [] [] (c .before .before .before .before .before .before .args .modifiers .now) [] (c .before .before .before .before .before .before .args .buff-collections .now)) (c .before .before .before .before .loop-test .taken) (c .before .before .before .buff-collection .ensures)) (c .before .before .buff-collection-good .ensures) (not-false _ (c .if1 .left)) (toZ-ofZ w32 _ (sfits-of (c .before .struct-told .given .1 .0 .1)))
-
-returns-2 : tie.Need-returns-2 Inv-loop μ-loop
-returns-2 c = scan-done (c .before .loop .inv) (c .loop-test .left)
-
 pub buff-collections-good-spec : {M : Type 1} → statement M
 buff-collections-good-spec =
     tie.close
     (tie.spec
     Inv-loop
     μ-loop
-    loop-holds
-    buff-collection-requires
-    buff-collection-good-requires
-    add-i
-    returns
-    loop-less
-    loop-again
-    returns-2)
+    (λ c. buff-collections-start _ (buff-collections-long (bookTables [] [] [] [] (c .args .modifiers .now) [] (c .args .buff-collections .now))) (sym (modifiers-long (bookTables [] [] [] [] (c .args .modifiers .now) [] (c .args .buff-collections .now)))))
+    (λ c κs. search needs)
+    (λ c κs. search needs)
+    (λ c. search needs)
+    (λ c. scan-failed (c .before .before .before .before .before .loop .inv) (c .before .before .before .before .loop-test .taken) (buff-collection-nth (bookTables [] [] [] [] (c .before .before .before .before .before .before .args .modifiers .now) [] (c .before .before .before .before .before .before .args .buff-collections .now)) (c .before .before .before .before .loop-test .taken) (c .before .before .before .buff-collection .ensures)) (c .before .before .buff-collection-good .ensures) (not-true _ (c .if1 .taken)))
+    (λ c. search needs)
+    (λ c. scan-next (c .before .before .before .before .before .loop .inv) (c .before .before .before .before .loop-test .taken) (buff-collection-nth (bookTables [] [] [] [] (c .before .before .before .before .before .before .args .modifiers .now) [] (c .before .before .before .before .before .before .args .buff-collections .now)) (c .before .before .before .before .loop-test .taken) (c .before .before .before .buff-collection .ensures)) (c .before .before .buff-collection-good .ensures) (not-false _ (c .if1 .left)) (toZ-ofZ w32 _ (sfits-of (c .before .struct-told .given .1 .0 .1))))
+    (λ c. scan-done (c .before .loop .inv) (c .loop-test .left)))

@@ -2,17 +2,13 @@
 -- `fit::fit_fits` meets its contract. Assumes nothing.
 use Rattle.lent.proofs.fit.fit_fits.Statement.{statement}
 use Rattle.lent.proofs.fit.fit_fits.Tie as tie
-use Rattle.lent.proofs.fit.fit_fits.Reads as reads
-use Rattle.lent.proofs.fit.fit_fits.Lts as lts
 use borrow.Author.Needs.{needs}
 use lib.ListN.{length}
 use lib.Dec.{leb}
 use Rattle.tables.specs.Tables.{fitFits}
 use Rattle.laws.proofs.Bools.{and-true-right}
 
-returns : tie.Need-returns
-unfolding fitFits
-returns c = rw (and-true-right (leb (length (c .args .asks .now)) 1024)) (search needs)
-
 pub fit-fits-spec : {M : Type 1} → statement M
-fit-fits-spec = tie.close (tie.spec returns)
+unfolding fitFits
+fit-fits-spec =
+    tie.close (tie.spec (λ c. rw (and-true-right (leb (length (c .args .asks .now)) 1024)) (search needs)))

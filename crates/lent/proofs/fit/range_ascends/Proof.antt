@@ -2,10 +2,6 @@
 -- `fit::range_ascends` meets its contract. Assumes nothing.
 use Rattle.lent.proofs.fit.range_ascends.Statement.{statement}
 use Rattle.lent.proofs.fit.range_ascends.Tie as tie
-use Rattle.lent.proofs.fit.range_ascends.Reads as reads
-use Rattle.lent.proofs.fit.range_ascends.Lts as lts
-use Rattle.lent.proofs.records.base_attribute.Reads as base-attribute-reads
-use Rattle.shape.proofs.fit_tables.base_attribute_stands.Reads as base-attribute-stands-reads
 use borrow.Author.Needs.{needs}
 use Prim.Native.Nat.{_-_}
 use native.Mathlib.Omega.{arith}
@@ -30,45 +26,18 @@ Inv-loop base-attributes base-values first n last₀ i₀ last i = RangeScan (ba
 abbrev μ-loop : tie.MeasureT-loop
 μ-loop base-attributes base-values first n last₀ i₀ last i = n - i
 
-loop-holds : tie.Need-loop-holds Inv-loop μ-loop
-loop-holds c = range-start (fitLent (fitTables [] [] (c .before .before .args .base-attributes .now) (c .before .before .args .base-values .now) [] [] [] [])) (c .before .before .args .first) (c .before .before .args .n) (rw (bases-long (fitTables [] [] (c .before .before .args .base-attributes .now) (c .before .before .args .base-values .now) [] [] [] [])) (c .before .before .pre .1))
-
-add-base-attribute : tie.Need-add-base-attribute Inv-loop μ-loop
-add-base-attribute c = search needs
-
-base-attribute-requires : tie.Need-base-attribute-requires Inv-loop μ-loop
-base-attribute-requires c κs = search needs
-
-base-attribute-stands-requires : tie.Need-base-attribute-stands-requires Inv-loop μ-loop
-base-attribute-stands-requires c κs = search needs
-
-add-i : tie.Need-add-i Inv-loop μ-loop
-add-i c = search needs
-
-returns : tie.Need-returns Inv-loop μ-loop
-returns c = scan-failed (c .before .before .before .before .before .loop .inv) (c .before .before .before .before .loop-test .taken) (range-nth (fitLent (fitTables [] [] (c .before .before .before .before .before .before .before .before .args .base-attributes .now) (c .before .before .before .before .before .before .before .before .args .base-values .now) [] [] [] [])) (c .before .before .before .before .before .before .before .before .args .first) (c .before .before .before .before .before .before .before .before .args .n) (rw (bases-long (fitTables [] [] (c .before .before .before .before .before .before .before .before .args .base-attributes .now) (c .before .before .before .before .before .before .before .before .args .base-values .now) [] [] [] [])) (c .before .before .before .before .before .before .before .before .pre .1)) (c .before .before .before .before .loop-test .taken) (base-nth (fitTables [] [] (c .before .before .before .before .before .before .before .before .args .base-attributes .now) (c .before .before .before .before .before .before .before .before .args .base-values .now) [] [] [] []) (omega (arith, c .before .before .before .before .before .before .before .before .pre .1, c .before .before .before .before .loop-test .taken)) (c .before .before .before .base-attribute .ensures))) (c .before .before .base-attribute-stands .ensures ∙ sym (and-true-right _)) (not-true _ (c .if1 .taken))
-
-loop-less : tie.Need-loop-less Inv-loop μ-loop
-loop-less c = search needs
-
-loop-again : tie.Need-loop-again Inv-loop μ-loop
-loop-again c = scan-next (c .before .before .before .before .before .loop .inv) (c .before .before .before .before .loop-test .taken) (range-nth (fitLent (fitTables [] [] (c .before .before .before .before .before .before .before .before .args .base-attributes .now) (c .before .before .before .before .before .before .before .before .args .base-values .now) [] [] [] [])) (c .before .before .before .before .before .before .before .before .args .first) (c .before .before .before .before .before .before .before .before .args .n) (rw (bases-long (fitTables [] [] (c .before .before .before .before .before .before .before .before .args .base-attributes .now) (c .before .before .before .before .before .before .before .before .args .base-values .now) [] [] [] [])) (c .before .before .before .before .before .before .before .before .pre .1)) (c .before .before .before .before .loop-test .taken) (base-nth (fitTables [] [] (c .before .before .before .before .before .before .before .before .args .base-attributes .now) (c .before .before .before .before .before .before .before .before .args .base-values .now) [] [] [] []) (omega (arith, c .before .before .before .before .before .before .before .before .pre .1, c .before .before .before .before .loop-test .taken)) (c .before .before .before .base-attribute .ensures))) (c .before .before .base-attribute-stands .ensures ∙ sym (and-true-right _)) (not-false _ (c .if1 .left)) (toZ-ofZ w32 _ (sfits-of (c .before .struct-told .given .0 .1)))
-
-returns-2 : tie.Need-returns-2 Inv-loop μ-loop
-returns-2 c = scan-done (c .before .loop .inv) (c .loop-test .left)
-
 pub range-ascends-spec : {M : Type 1} → statement M
 range-ascends-spec =
     tie.close
     (tie.spec
     Inv-loop
     μ-loop
-    loop-holds
-    add-base-attribute
-    base-attribute-requires
-    base-attribute-stands-requires
-    add-i
-    returns
-    loop-less
-    loop-again
-    returns-2)
+    (λ c. range-start (fitLent (fitTables [] [] (c .before .before .args .base-attributes .now) (c .before .before .args .base-values .now) [] [] [] [])) (c .before .before .args .first) (c .before .before .args .n) (rw (bases-long (fitTables [] [] (c .before .before .args .base-attributes .now) (c .before .before .args .base-values .now) [] [] [] [])) (c .before .before .pre .1)))
+    (λ c. search needs)
+    (λ c κs. search needs)
+    (λ c κs. search needs)
+    (λ c. search needs)
+    (λ c. scan-failed (c .before .before .before .before .before .loop .inv) (c .before .before .before .before .loop-test .taken) (range-nth (fitLent (fitTables [] [] (c .before .before .before .before .before .before .before .before .args .base-attributes .now) (c .before .before .before .before .before .before .before .before .args .base-values .now) [] [] [] [])) (c .before .before .before .before .before .before .before .before .args .first) (c .before .before .before .before .before .before .before .before .args .n) (rw (bases-long (fitTables [] [] (c .before .before .before .before .before .before .before .before .args .base-attributes .now) (c .before .before .before .before .before .before .before .before .args .base-values .now) [] [] [] [])) (c .before .before .before .before .before .before .before .before .pre .1)) (c .before .before .before .before .loop-test .taken) (base-nth (fitTables [] [] (c .before .before .before .before .before .before .before .before .args .base-attributes .now) (c .before .before .before .before .before .before .before .before .args .base-values .now) [] [] [] []) (omega (arith, c .before .before .before .before .before .before .before .before .pre .1, c .before .before .before .before .loop-test .taken)) (c .before .before .before .base-attribute .ensures))) (c .before .before .base-attribute-stands .ensures ∙ sym (and-true-right _)) (not-true _ (c .if1 .taken)))
+    (λ c. search needs)
+    (λ c. scan-next (c .before .before .before .before .before .loop .inv) (c .before .before .before .before .loop-test .taken) (range-nth (fitLent (fitTables [] [] (c .before .before .before .before .before .before .before .before .args .base-attributes .now) (c .before .before .before .before .before .before .before .before .args .base-values .now) [] [] [] [])) (c .before .before .before .before .before .before .before .before .args .first) (c .before .before .before .before .before .before .before .before .args .n) (rw (bases-long (fitTables [] [] (c .before .before .before .before .before .before .before .before .args .base-attributes .now) (c .before .before .before .before .before .before .before .before .args .base-values .now) [] [] [] [])) (c .before .before .before .before .before .before .before .before .pre .1)) (c .before .before .before .before .loop-test .taken) (base-nth (fitTables [] [] (c .before .before .before .before .before .before .before .before .args .base-attributes .now) (c .before .before .before .before .before .before .before .before .args .base-values .now) [] [] [] []) (omega (arith, c .before .before .before .before .before .before .before .before .pre .1, c .before .before .before .before .loop-test .taken)) (c .before .before .before .base-attribute .ensures))) (c .before .before .base-attribute-stands .ensures ∙ sym (and-true-right _)) (not-false _ (c .if1 .left)) (toZ-ofZ w32 _ (sfits-of (c .before .struct-told .given .0 .1))))
+    (λ c. scan-done (c .before .loop .inv) (c .loop-test .left)))
