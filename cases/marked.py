@@ -176,6 +176,9 @@ CASES = [
            [[20, 2.0], [182, 7.0], [182, 0.0]], collections=[[30, 3, 4, 1]], buffs=[[30, 3.0]]), None),
     ("touched-twice", "the ship's type has one effect twice: two entries on each of the two in the ship, numbers 0 and 1",
      sheet((), [[1, 0, 0, 0, 0, 1]], [adds(2, 1, 42)], [[8, 1, 0], [8, 1, 0]], [FRAME, touched(CHAR), touched(ITEM, 9, 0, 7, 3)], [[20, 2.0]]), None),
+    ("written-empty", "written from tables that are empty but for ship and char", sheet(objects=[thing(SHIP), thing(CHAR)]), "rows 0\n"),
+    ("written-bits", "written with base values -0.0 and 5e-324: their bits stand in the sheet",
+     sheet(objects=[thing(SHIP, bases=(0, 2)), thing(CHAR)], bases=[[20, -0.0], [37, 5e-324]]), "rows 2\n0 20 0.00\n0 37 0.00\n"),
 ]
 # the collection numbers of the entries, in the order of list 3
 NUMBERS = {"L": [0, 1], "loop-walked": [0, 1], "numbers-order": [2, 0, 1], "numbers-location": [0, 0, 0], "numbers-buff": [0, 1, 2],
@@ -226,7 +229,8 @@ def main():
                 "`make_damaged.py` makes the sheets of crates/shape_test; `make_texts.py` hands every sheet here, and its text, to crates/cases_test.",
                 "`split.py` cuts a sheet into a book and a fit and joins them again (`--check`: every sheet here comes back). `marked_pools.py` makes the .book and .fit files, "
                 "`pools.txt`, the marked examples of several pilots over one book with their answers, and `pilots.txt`, what the examples in C and Rust print; "
-                "docs/FORMAT.md, section 11, tells of each file."]
+                "docs/FORMAT.md, section 11, tells of each file. `marked_writes.py` makes `writes.txt`, the marked examples of written sheets: tables, how many bytes are lent, "
+                "and the answer; `crates/tables/proofs/Marked.antt` proves the same of the definition."]
     (HERE / "README.md").write_text("\n".join(account) + "\n")
     print(len(CASES), "cases")
 

@@ -5,6 +5,7 @@
  * dogma_calculate takes a sheet's bytes and lent lists, and gives a number, a place and five counts; the lists hold the rest.
  * dogma_calculate_pilot does the same for up to 16 fits over one book of records, in one lent pool: see "several pilots" below.
  * dogma_admit and dogma_leave lend and take back that pool's rows as pilots come and go.
+ * dogma_write_sheet makes a sheet's bytes of tables, dogma_write_book and dogma_write_fit the two parts: see "writing sheets" below.
  * The engine allocates nothing, keeps nothing between calls, and may be called from several threads with lists of their own.
  * Any bytes are taken: a damaged sheet is refused with a number and a place. What is demanded of the caller, since the
  * engine cannot test it, stands at DOGMA_DEMANDS below; dogma_calculate_checked tests it, and DOGMA_LEND counts arrays
@@ -62,7 +63,8 @@ enum dogma_list {
     DOGMA_LIST_ROWS = 2,
     DOGMA_LIST_ENTRIES = 3,
     DOGMA_LIST_PLAIN = 4,
-    DOGMA_LIST_SOURCES = 5
+    DOGMA_LIST_SOURCES = 5,
+    DOGMA_LIST_SHEET = 6 /* of the writers: the bytes that are lent for a sheet, a book or a fit */
 };
 #define DOGMA_LISTS 5
 
@@ -288,6 +290,188 @@ struct dogma_seat dogma_leave(
     dogma_stretch_of_list (*stretches)[DOGMA_LISTS],
     uint32_t count, uint32_t pilot);
 
+/* ---- writing sheets
+ *
+ * Ten tables become a sheet: counts and offsets are worked out here. A table is lent as one column of fixed rows of 32-bit numbers in the
+ * order of docs/FORMAT.md's fields, and its float, where it has one, in a column beside; a table of one number (8, and the numbers of 7
+ * and 9) is a plain column. A signed field goes by its 32 bits, DOGMA_UNSIGNED(-1). A table's count is its columns' length.
+ *
+ * The answer is what reading such a sheet would have got: DOGMA_SHAPE with the first bad table (0 for the header: a count above the most,
+ * columns of one table with unlike lengths, depth not 1 to 256, recording above 1), then DOGMA_ROOM with DOGMA_LIST_SHEET where too few
+ * bytes are lent. length is how many bytes were written, 0 after a refusal; the bytes behind them are zero, after a refusal all are.
+ * So no sheet that is written is ever refused with DOGMA_SHAPE, and it reads back as the same tables. A NaN or an infinity is DOGMA_SHAPE.
+ * dogma_write_book and dogma_write_fit write the two files that dogma_calculate_pilot takes; a fit's places are 20 more, as they are there.
+ */
+#define DOGMA_UNSIGNED(number) ((uint32_t)(int32_t)(number))
+
+struct dogma_written {
+    uint64_t number;
+    uint64_t place;
+    uint64_t length;
+};
+
+/* the numbers of a sheet's header; a book has the first three, a fit the last two */
+enum dogma_header_field {
+    DOGMA_HEADER_CATEGORY_MODULE = 0,           /* signed; the game's is 7 */
+    DOGMA_HEADER_CATEGORY_SUBSYSTEM = 1,        /* signed; 32 */
+    DOGMA_HEADER_CATEGORY_STRUCTURE_MODULE = 2, /* signed; 66 */
+    DOGMA_HEADER_DEPTH = 3,                     /* 1 to 256; 256 is right unless you have a reason */
+    DOGMA_HEADER_RECORDING = 4                  /* 1 if list 5 is wanted, else 0 */
+};
+#define DOGMA_HEADER_NUMBERS 5
+
+/* table 1; beside it defaults: the base where an object lacks the attribute. Ids ascend strictly */
+typedef uint32_t dogma_attribute[4];
+enum dogma_attribute_field {
+    DOGMA_ATTRIBUTE_ID = 0,    /* signed */
+    DOGMA_ATTRIBUTE_FLAGS = 1, /* any of enum dogma_attribute_flag */
+    DOGMA_ATTRIBUTE_MIN = 2,   /* signed; an attribute, 0 none */
+    DOGMA_ATTRIBUTE_MAX = 3    /* signed; an attribute, 0 none */
+};
+enum dogma_attribute_flag { DOGMA_STACKABLE = 1, DOGMA_HIGH_IS_GOOD = 2 };
+
+/* table 2. Ids ascend strictly */
+typedef uint32_t dogma_effect[6];
+enum dogma_effect_field {
+    DOGMA_EFFECT_ID = 0,             /* signed */
+    DOGMA_EFFECT_CATEGORY = 1,       /* one of enum dogma_category */
+    DOGMA_EFFECT_RESISTANCE = 2,     /* signed; an attribute, 0 none */
+    DOGMA_EFFECT_USAGE_CHANCE = 3,   /* signed; an attribute, 0 none */
+    DOGMA_EFFECT_FIRST_MODIFIER = 4, /* in table 3 */
+    DOGMA_EFFECT_MODIFIER_COUNT = 5
+};
+
+/* table 3 */
+typedef uint32_t dogma_modifier[7];
+enum dogma_modifier_field {
+    DOGMA_MODIFIER_FUNC = 0,       /* one of enum dogma_func */
+    DOGMA_MODIFIER_DOMAIN = 1,     /* one of enum dogma_domain */
+    DOGMA_MODIFIER_OPERATION = 2,  /* one of enum dogma_operator; 9 is passed over */
+    DOGMA_MODIFIER_MODIFYING = 3,  /* signed; an attribute */
+    DOGMA_MODIFIER_MODIFIED = 4,   /* signed; an attribute */
+    DOGMA_MODIFIER_SKILL_TYPE = 5, /* signed */
+    DOGMA_MODIFIER_GROUP = 6       /* signed */
+};
+
+enum dogma_domain {
+    DOGMA_DOMAIN_ITEM = 0, DOGMA_DOMAIN_SHIP = 1, DOGMA_DOMAIN_CHAR = 2, DOGMA_DOMAIN_OTHER = 3, DOGMA_DOMAIN_STRUCTURE = 4,
+    DOGMA_DOMAIN_TARGET_ID = 5, DOGMA_DOMAIN_TARGET = 6
+};
+
+/* table 4. Types do not descend */
+typedef uint32_t dogma_type_effect[3];
+enum dogma_type_effect_field {
+    DOGMA_TYPE_EFFECT_TYPE = 0,   /* signed */
+    DOGMA_TYPE_EFFECT_EFFECT = 1, /* signed */
+    DOGMA_TYPE_EFFECT_DEFAULT = 2 /* flag */
+};
+
+/* table 5. Ids ascend strictly */
+typedef uint32_t dogma_buff_collection[4];
+enum dogma_buff_collection_field {
+    DOGMA_BUFF_COLLECTION_ID = 0,             /* signed */
+    DOGMA_BUFF_COLLECTION_OPERATION = 1,      /* one of enum dogma_operator; 9 is passed over */
+    DOGMA_BUFF_COLLECTION_FIRST_MODIFIER = 2, /* in table 3 */
+    DOGMA_BUFF_COLLECTION_MODIFIER_COUNT = 3
+};
+
+/* table 6: ship, at most one mode, char, projected, items each with at most one charge right after, skills */
+typedef uint32_t dogma_object[17];
+enum dogma_object_field {
+    DOGMA_OBJECT_KIND = 0,              /* one of enum dogma_kind */
+    DOGMA_OBJECT_TYPE = 1,              /* signed */
+    DOGMA_OBJECT_GROUP = 2,             /* signed */
+    DOGMA_OBJECT_CATEGORY = 3,          /* signed */
+    DOGMA_OBJECT_SLOT = 4,              /* one of enum dogma_slot; 0 for all but items */
+    DOGMA_OBJECT_QUANTITY = 5,
+    DOGMA_OBJECT_STATE = 6,             /* one of enum dogma_item_state */
+    DOGMA_OBJECT_MAX_STATE = 7,         /* one of enum dogma_item_state */
+    DOGMA_OBJECT_FLAGS = 8,             /* any of enum dogma_object_flag */
+    DOGMA_OBJECT_MUTATION_BASE = 9,     /* signed; a type, read if mutated */
+    DOGMA_OBJECT_PROJECTED_EFFECT = 10, /* signed; an effect, read of a projected object */
+    DOGMA_OBJECT_FIRST_BASE = 11,       /* in table 7; the attributes of one object ascend strictly */
+    DOGMA_OBJECT_BASE_COUNT = 12,
+    DOGMA_OBJECT_FIRST_ABILITY = 13,    /* in table 8 */
+    DOGMA_OBJECT_ABILITY_COUNT = 14,
+    DOGMA_OBJECT_FIRST_SIDE_EFFECT = 15, /* in table 8 */
+    DOGMA_OBJECT_SIDE_EFFECT_COUNT = 16
+};
+enum dogma_kind {
+    DOGMA_KIND_SHIP = 0, DOGMA_KIND_MODE = 1, DOGMA_KIND_CHAR = 2, DOGMA_KIND_ITEM = 3, DOGMA_KIND_CHARGE = 4, DOGMA_KIND_SKILL = 5,
+    DOGMA_KIND_PROJECTED = 6
+};
+enum dogma_slot {
+    DOGMA_SLOT_NONE = 0, DOGMA_SLOT_HIGH = 1, DOGMA_SLOT_MEDIUM = 2, DOGMA_SLOT_LOW = 3, DOGMA_SLOT_RIG = 4, DOGMA_SLOT_SUBSYSTEM = 5,
+    DOGMA_SLOT_SERVICE = 6, DOGMA_SLOT_DRONE_BAY = 7, DOGMA_SLOT_FIGHTER_TUBE = 8, DOGMA_SLOT_FIGHTER_BAY = 9, DOGMA_SLOT_IMPLANT = 10,
+    DOGMA_SLOT_BOOSTER = 11
+};
+enum dogma_item_state {
+    DOGMA_STATE_PASSIVE = 0, DOGMA_STATE_ONLINE = 1, DOGMA_STATE_ACTIVE = 2, DOGMA_STATE_OVERLOAD = 3, DOGMA_STATE_ALWAYS_ON = 4
+};
+enum dogma_object_flag { DOGMA_ABILITIES_GIVEN = 1, DOGMA_MUTATED = 2 };
+
+/* table 7 is base_attributes (signed) and base_values, table 8 ids (signed, of effects), table 9 buffs (signed) and buff_values */
+
+/* table 10 */
+typedef uint32_t dogma_ask[2];
+enum dogma_ask_field {
+    DOGMA_ASK_OBJECT = 0,
+    DOGMA_ASK_ATTRIBUTE = 1 /* signed */
+};
+
+/* How many bytes are needed, by the counts of the tables: attributes, effects, modifiers, type effects, buff collections, objects,
+ * base attributes, ids, buffs, asks. No sheet is longer than DOGMA_LONGEST_SHEET. */
+#define DOGMA_BOOK_TABLES_(a, e, m, t, b) \
+    ((size_t)24 * (a) + (size_t)24 * (e) + (size_t)28 * (m) + (size_t)12 * (t) + (size_t)16 * (b))
+#define DOGMA_FIT_TABLES_(o, v, i, p, k) \
+    ((size_t)68 * (o) + (size_t)12 * (v) + (size_t)4 * (i) + (size_t)12 * (p) + (size_t)8 * (k))
+#define DOGMA_SHEET_LENGTH(a, e, m, t, b, o, v, i, p, k) ((size_t)100 + DOGMA_BOOK_TABLES_(a, e, m, t, b) + DOGMA_FIT_TABLES_(o, v, i, p, k))
+#define DOGMA_BOOK_LENGTH(a, e, m, t, b) ((size_t)52 + DOGMA_BOOK_TABLES_(a, e, m, t, b))
+#define DOGMA_FIT_LENGTH(o, v, i, p, k) ((size_t)48 + DOGMA_FIT_TABLES_(o, v, i, p, k))
+#define DOGMA_LONGEST_SHEET 530276
+
+/* DOGMA_DEMANDS hold, but that tables, which are only read, may overlap each other; header points to five numbers. Little stack is used.
+ * dogma_write_sheet_checked below takes the tables by name: 14 pointers by their places are easy to mix up. */
+struct dogma_written dogma_write_sheet(
+    uint8_t *bytes, size_t byte_count,
+    const uint32_t *header,
+    const dogma_attribute *attributes, size_t attribute_count,
+    const double *defaults, size_t default_count,
+    const dogma_effect *effects, size_t effect_count,
+    const dogma_modifier *modifiers, size_t modifier_count,
+    const dogma_type_effect *type_effects, size_t type_effect_count,
+    const dogma_buff_collection *buff_collections, size_t buff_collection_count,
+    const dogma_object *objects, size_t object_count,
+    const uint32_t *base_attributes, size_t base_attribute_count,
+    const double *base_values, size_t base_value_count,
+    const uint32_t *ids, size_t id_count,
+    const uint32_t *buffs, size_t buff_count,
+    const double *buff_values, size_t buff_value_count,
+    const dogma_ask *asks, size_t ask_count);
+
+/* header points to the three category numbers */
+struct dogma_written dogma_write_book(
+    uint8_t *bytes, size_t byte_count,
+    const uint32_t *header,
+    const dogma_attribute *attributes, size_t attribute_count,
+    const double *defaults, size_t default_count,
+    const dogma_effect *effects, size_t effect_count,
+    const dogma_modifier *modifiers, size_t modifier_count,
+    const dogma_type_effect *type_effects, size_t type_effect_count,
+    const dogma_buff_collection *buff_collections, size_t buff_collection_count);
+
+/* header points to depth and recording */
+struct dogma_written dogma_write_fit(
+    uint8_t *bytes, size_t byte_count,
+    const uint32_t *header,
+    const dogma_object *objects, size_t object_count,
+    const uint32_t *base_attributes, size_t base_attribute_count,
+    const double *base_values, size_t base_value_count,
+    const uint32_t *ids, size_t id_count,
+    const uint32_t *buffs, size_t buff_count,
+    const double *buff_values, size_t buff_value_count,
+    const dogma_ask *asks, size_t ask_count);
+
 /* ---- the entries with their demands tested */
 
 /* the arguments, as MISUSED's place has them */
@@ -491,6 +675,153 @@ static inline struct dogma_seat dogma_leave_checked(struct dogma_hall *hall, uin
     return seat;
 }
 
+/* ---- the writers with their demands tested */
+
+/* the arguments, as MISUSED's place has them */
+enum dogma_write_argument {
+    DOGMA_ARGUMENT_BYTES = 0, DOGMA_ARGUMENT_HEADER = 1, DOGMA_ARGUMENT_ATTRIBUTES = 2, DOGMA_ARGUMENT_DEFAULTS = 3,
+    DOGMA_ARGUMENT_EFFECTS = 4, DOGMA_ARGUMENT_MODIFIERS = 5, DOGMA_ARGUMENT_TYPE_EFFECTS = 6, DOGMA_ARGUMENT_BUFF_COLLECTIONS = 7,
+    DOGMA_ARGUMENT_OBJECTS = 8, DOGMA_ARGUMENT_BASE_ATTRIBUTES = 9, DOGMA_ARGUMENT_BASE_VALUES = 10, DOGMA_ARGUMENT_IDS = 11,
+    DOGMA_ARGUMENT_BUFFS = 12, DOGMA_ARGUMENT_BUFF_VALUES = 13, DOGMA_ARGUMENT_ASKS = 14, DOGMA_WRITE_ARGUMENTS = 15
+};
+
+/* All tables by name, each column with the number of its elements. One that is left out (null, 0) is empty. */
+struct dogma_tables {
+    uint32_t header[DOGMA_HEADER_NUMBERS]; /* by enum dogma_header_field */
+    const dogma_attribute *attributes; size_t attribute_count;
+    const double *defaults; size_t default_count;
+    const dogma_effect *effects; size_t effect_count;
+    const dogma_modifier *modifiers; size_t modifier_count;
+    const dogma_type_effect *type_effects; size_t type_effect_count;
+    const dogma_buff_collection *buff_collections; size_t buff_collection_count;
+    const dogma_object *objects; size_t object_count;
+    const uint32_t *base_attributes; size_t base_attribute_count;
+    const double *base_values; size_t base_value_count;
+    const uint32_t *ids; size_t id_count;
+    const uint32_t *buffs; size_t buff_count;
+    const double *buff_values; size_t buff_value_count;
+    const dogma_ask *asks; size_t ask_count;
+};
+
+/* bytes that a sheet, a book's file and a fit's file of these tables need */
+static inline size_t dogma_sheet_length(const struct dogma_tables *t)
+{
+    return DOGMA_SHEET_LENGTH(
+        t->attribute_count, t->effect_count, t->modifier_count, t->type_effect_count, t->buff_collection_count, t->object_count,
+        t->base_attribute_count, t->id_count, t->buff_count, t->ask_count);
+}
+
+static inline size_t dogma_book_length(const struct dogma_tables *t)
+{
+    return DOGMA_BOOK_LENGTH(t->attribute_count, t->effect_count, t->modifier_count, t->type_effect_count, t->buff_collection_count);
+}
+
+static inline size_t dogma_fit_length(const struct dogma_tables *t)
+{
+    return DOGMA_FIT_LENGTH(t->object_count, t->base_attribute_count, t->id_count, t->buff_count, t->ask_count);
+}
+
+/* a column that is left out: no pointer may be null */
+static inline const void *dogma_column_(const void *column, size_t count)
+{
+    static const double nothing = 0.0;
+    return column || count ? column : &nothing;
+}
+
+/* The tables with no null pointer where a count is 0. */
+static inline struct dogma_tables dogma_tables_filled_(const struct dogma_tables *given)
+{
+    struct dogma_tables t = *given;
+    t.attributes = (const dogma_attribute *)dogma_column_(t.attributes, t.attribute_count);
+    t.defaults = (const double *)dogma_column_(t.defaults, t.default_count);
+    t.effects = (const dogma_effect *)dogma_column_(t.effects, t.effect_count);
+    t.modifiers = (const dogma_modifier *)dogma_column_(t.modifiers, t.modifier_count);
+    t.type_effects = (const dogma_type_effect *)dogma_column_(t.type_effects, t.type_effect_count);
+    t.buff_collections = (const dogma_buff_collection *)dogma_column_(t.buff_collections, t.buff_collection_count);
+    t.objects = (const dogma_object *)dogma_column_(t.objects, t.object_count);
+    t.base_attributes = (const uint32_t *)dogma_column_(t.base_attributes, t.base_attribute_count);
+    t.base_values = (const double *)dogma_column_(t.base_values, t.base_value_count);
+    t.ids = (const uint32_t *)dogma_column_(t.ids, t.id_count);
+    t.buffs = (const uint32_t *)dogma_column_(t.buffs, t.buff_count);
+    t.buff_values = (const double *)dogma_column_(t.buff_values, t.buff_value_count);
+    t.asks = (const dogma_ask *)dogma_column_(t.asks, t.ask_count);
+    return t;
+}
+
+/* The first argument, from one on to before another, that breaks a demand, or DOGMA_WRITE_ARGUMENTS. */
+static inline unsigned dogma_write_misused_(
+    const uint8_t *bytes, size_t byte_count, const struct dogma_tables *t, unsigned from, unsigned to)
+{
+    const struct dogma_part_ parts[DOGMA_WRITE_ARGUMENTS] = {
+        { (uintptr_t)bytes, byte_count, 1, 1 },
+        { (uintptr_t)t->header, DOGMA_HEADER_NUMBERS, 4, 4 },
+        { (uintptr_t)t->attributes, t->attribute_count, sizeof(dogma_attribute), 4 },
+        { (uintptr_t)t->defaults, t->default_count, 8, 8 },
+        { (uintptr_t)t->effects, t->effect_count, sizeof(dogma_effect), 4 },
+        { (uintptr_t)t->modifiers, t->modifier_count, sizeof(dogma_modifier), 4 },
+        { (uintptr_t)t->type_effects, t->type_effect_count, sizeof(dogma_type_effect), 4 },
+        { (uintptr_t)t->buff_collections, t->buff_collection_count, sizeof(dogma_buff_collection), 4 },
+        { (uintptr_t)t->objects, t->object_count, sizeof(dogma_object), 4 },
+        { (uintptr_t)t->base_attributes, t->base_attribute_count, 4, 4 },
+        { (uintptr_t)t->base_values, t->base_value_count, 8, 8 },
+        { (uintptr_t)t->ids, t->id_count, 4, 4 },
+        { (uintptr_t)t->buffs, t->buff_count, 4, 4 },
+        { (uintptr_t)t->buff_values, t->buff_value_count, 8, 8 },
+        { (uintptr_t)t->asks, t->ask_count, sizeof(dogma_ask), 4 },
+    };
+    if (!dogma_sound_(parts[DOGMA_ARGUMENT_BYTES]))
+        return DOGMA_ARGUMENT_BYTES;
+    for (unsigned i = from; i < to; i++)
+        if (!dogma_sound_(parts[i]) || !dogma_apart_(parts[DOGMA_ARGUMENT_BYTES], parts[i]))
+            return i;
+    return DOGMA_WRITE_ARGUMENTS;
+}
+
+static inline struct dogma_written dogma_write_misuse_(unsigned argument)
+{
+    const struct dogma_written written = { DOGMA_MISUSED, argument, 0 };
+    return written;
+}
+
+/* dogma_write_sheet, or DOGMA_MISUSED with the argument (enum dogma_write_argument) that breaks a demand; then nothing was written. */
+static inline struct dogma_written dogma_write_sheet_checked(uint8_t *bytes, size_t byte_count, const struct dogma_tables *tables)
+{
+    const struct dogma_tables t = dogma_tables_filled_(tables);
+    const unsigned misused = dogma_write_misused_(bytes, byte_count, &t, DOGMA_ARGUMENT_ATTRIBUTES, DOGMA_WRITE_ARGUMENTS);
+    if (misused != DOGMA_WRITE_ARGUMENTS)
+        return dogma_write_misuse_(misused);
+    return dogma_write_sheet(
+        bytes, byte_count, t.header, t.attributes, t.attribute_count, t.defaults, t.default_count, t.effects, t.effect_count,
+        t.modifiers, t.modifier_count, t.type_effects, t.type_effect_count, t.buff_collections, t.buff_collection_count,
+        t.objects, t.object_count, t.base_attributes, t.base_attribute_count, t.base_values, t.base_value_count, t.ids, t.id_count,
+        t.buffs, t.buff_count, t.buff_values, t.buff_value_count, t.asks, t.ask_count);
+}
+
+/* The same of dogma_write_book: of the tables the first five are read, of the header the first three. */
+static inline struct dogma_written dogma_write_book_checked(uint8_t *bytes, size_t byte_count, const struct dogma_tables *tables)
+{
+    const struct dogma_tables t = dogma_tables_filled_(tables);
+    const unsigned misused = dogma_write_misused_(bytes, byte_count, &t, DOGMA_ARGUMENT_ATTRIBUTES, DOGMA_ARGUMENT_OBJECTS);
+    if (misused != DOGMA_WRITE_ARGUMENTS)
+        return dogma_write_misuse_(misused);
+    return dogma_write_book(
+        bytes, byte_count, t.header, t.attributes, t.attribute_count, t.defaults, t.default_count, t.effects, t.effect_count,
+        t.modifiers, t.modifier_count, t.type_effects, t.type_effect_count, t.buff_collections, t.buff_collection_count);
+}
+
+/* The same of dogma_write_fit: of the tables the last five are read, of the header depth and recording. */
+static inline struct dogma_written dogma_write_fit_checked(uint8_t *bytes, size_t byte_count, const struct dogma_tables *tables)
+{
+    const struct dogma_tables t = dogma_tables_filled_(tables);
+    const unsigned misused = dogma_write_misused_(bytes, byte_count, &t, DOGMA_ARGUMENT_OBJECTS, DOGMA_WRITE_ARGUMENTS);
+    if (misused != DOGMA_WRITE_ARGUMENTS)
+        return dogma_write_misuse_(misused);
+    return dogma_write_fit(
+        bytes, byte_count, &t.header[DOGMA_HEADER_DEPTH], t.objects, t.object_count, t.base_attributes, t.base_attribute_count,
+        t.base_values, t.base_value_count, t.ids, t.id_count, t.buffs, t.buff_count, t.buff_values, t.buff_value_count,
+        t.asks, t.ask_count);
+}
+
 #ifdef __cplusplus
 }
 #else
@@ -498,6 +829,7 @@ static inline struct dogma_seat dogma_leave_checked(struct dogma_hall *hall, uin
 _Static_assert(sizeof(size_t) == 8 && sizeof(double) == 8, "the library is for 64-bit machines");
 _Static_assert(sizeof(struct dogma_answer) == 56, "seven numbers of 64 bits");
 _Static_assert(sizeof(struct dogma_stretch) == 8 && sizeof(struct dogma_seat) == 24, "two of 32 bits, three of 64");
+_Static_assert(sizeof(struct dogma_written) == 24, "three numbers of 64 bits");
 
 /* An array and the number of its elements. A pointer, or an array of another row, does not compile. */
 #define DOGMA_ARRAY_(array, row) \

@@ -84,3 +84,68 @@ struct dogma_seat dogma_leave(
         source_values, source_value_count, free, free_room, stretches, count, pilot);
     return seat;
 }
+
+extern void dogma_write_sheet_into(
+    struct dogma_written *written, uint8_t *bytes, size_t byte_count, const uint32_t *header, const dogma_attribute *attributes,
+    size_t attribute_count, const double *defaults, size_t default_count, const dogma_effect *effects, size_t effect_count,
+    const dogma_modifier *modifiers, size_t modifier_count, const dogma_type_effect *type_effects, size_t type_effect_count,
+    const dogma_buff_collection *buff_collections, size_t buff_collection_count, const dogma_object *objects, size_t object_count,
+    const uint32_t *base_attributes, size_t base_attribute_count, const double *base_values, size_t base_value_count, const uint32_t *ids,
+    size_t id_count, const uint32_t *buffs, size_t buff_count, const double *buff_values, size_t buff_value_count, const dogma_ask *asks,
+    size_t ask_count);
+
+struct dogma_written dogma_write_sheet(
+    uint8_t *bytes, size_t byte_count, const uint32_t *header, const dogma_attribute *attributes, size_t attribute_count,
+    const double *defaults, size_t default_count, const dogma_effect *effects, size_t effect_count, const dogma_modifier *modifiers,
+    size_t modifier_count, const dogma_type_effect *type_effects, size_t type_effect_count,
+    const dogma_buff_collection *buff_collections, size_t buff_collection_count, const dogma_object *objects, size_t object_count,
+    const uint32_t *base_attributes, size_t base_attribute_count, const double *base_values, size_t base_value_count, const uint32_t *ids,
+    size_t id_count, const uint32_t *buffs, size_t buff_count, const double *buff_values, size_t buff_value_count, const dogma_ask *asks,
+    size_t ask_count)
+{
+    struct dogma_written written;
+    dogma_write_sheet_into(
+        &written, bytes, byte_count, header, attributes, attribute_count, defaults, default_count, effects, effect_count, modifiers,
+        modifier_count, type_effects, type_effect_count, buff_collections, buff_collection_count, objects, object_count,
+        base_attributes, base_attribute_count, base_values, base_value_count, ids, id_count, buffs, buff_count, buff_values,
+        buff_value_count, asks, ask_count);
+    return written;
+}
+
+extern void dogma_write_book_into(
+    struct dogma_written *written, uint8_t *bytes, size_t byte_count, const uint32_t *header, const dogma_attribute *attributes,
+    size_t attribute_count, const double *defaults, size_t default_count, const dogma_effect *effects, size_t effect_count,
+    const dogma_modifier *modifiers, size_t modifier_count, const dogma_type_effect *type_effects, size_t type_effect_count,
+    const dogma_buff_collection *buff_collections, size_t buff_collection_count);
+
+struct dogma_written dogma_write_book(
+    uint8_t *bytes, size_t byte_count, const uint32_t *header, const dogma_attribute *attributes, size_t attribute_count,
+    const double *defaults, size_t default_count, const dogma_effect *effects, size_t effect_count, const dogma_modifier *modifiers,
+    size_t modifier_count, const dogma_type_effect *type_effects, size_t type_effect_count,
+    const dogma_buff_collection *buff_collections, size_t buff_collection_count)
+{
+    struct dogma_written written;
+    dogma_write_book_into(
+        &written, bytes, byte_count, header, attributes, attribute_count, defaults, default_count, effects, effect_count, modifiers,
+        modifier_count, type_effects, type_effect_count, buff_collections, buff_collection_count);
+    return written;
+}
+
+extern void dogma_write_fit_into(
+    struct dogma_written *written, uint8_t *bytes, size_t byte_count, const uint32_t *header, const dogma_object *objects,
+    size_t object_count, const uint32_t *base_attributes, size_t base_attribute_count, const double *base_values,
+    size_t base_value_count, const uint32_t *ids, size_t id_count, const uint32_t *buffs, size_t buff_count, const double *buff_values,
+    size_t buff_value_count, const dogma_ask *asks, size_t ask_count);
+
+struct dogma_written dogma_write_fit(
+    uint8_t *bytes, size_t byte_count, const uint32_t *header, const dogma_object *objects, size_t object_count,
+    const uint32_t *base_attributes, size_t base_attribute_count, const double *base_values, size_t base_value_count, const uint32_t *ids,
+    size_t id_count, const uint32_t *buffs, size_t buff_count, const double *buff_values, size_t buff_value_count, const dogma_ask *asks,
+    size_t ask_count)
+{
+    struct dogma_written written;
+    dogma_write_fit_into(
+        &written, bytes, byte_count, header, objects, object_count, base_attributes, base_attribute_count, base_values,
+        base_value_count, ids, id_count, buffs, buff_count, buff_values, buff_value_count, asks, ask_count);
+    return written;
+}

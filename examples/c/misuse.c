@@ -54,8 +54,38 @@ static void expect_pools(void)
     expect("columns that overlap", dogma_calculate_pilot_checked(&pool, sheet, 3, sheet, 3, 0), DOGMA_MISUSED, DOGMA_ARGUMENT_VALUES);
 }
 
+static void expect_written(const char *what, struct dogma_written written, uint64_t number, uint64_t place)
+{
+    const struct dogma_answer answer = { written.number, written.place, 0, 0, 0, 0, 0 };
+    expect(what, answer, number, place);
+}
+
+/* The same of the writers: a ship and a char in 236 bytes. */
+static void expect_writers(void)
+{
+    static const dogma_object two[] = { { 0 }, { [DOGMA_OBJECT_KIND] = DOGMA_KIND_CHAR } };
+    static uint8_t bytes[DOGMA_SHEET_LENGTH(0, 0, 0, 0, 0, 2, 0, 0, 0, 0)];
+    const struct dogma_tables right = { .header = { [DOGMA_HEADER_DEPTH] = 1 }, .objects = two, .object_count = 2 };
+    struct dogma_tables tables = right;
+    expect_written("tables", dogma_write_sheet_checked(bytes, sizeof bytes, &tables), DOGMA_DONE, 0);
+    expect_written("a byte too few", dogma_write_sheet_checked(bytes, sizeof bytes - 1, &tables), DOGMA_ROOM, DOGMA_LIST_SHEET);
+    expect_written("a book of nothing", dogma_write_book_checked(bytes, 52, &tables), DOGMA_DONE, 0);
+    expect_written("a fit", dogma_write_fit_checked(bytes, dogma_fit_length(&tables), &tables), DOGMA_DONE, 0);
+    expect_written("no bytes", dogma_write_sheet_checked(NULL, 0, &tables), DOGMA_MISUSED, DOGMA_ARGUMENT_BYTES);
+    tables.buffs = NULL, tables.buff_count = 1;
+    expect_written("null buffs", dogma_write_sheet_checked(bytes, sizeof bytes, &tables), DOGMA_MISUSED, DOGMA_ARGUMENT_BUFFS);
+    expect_written("a book has no buffs", dogma_write_book_checked(bytes, 52, &tables), DOGMA_DONE, 0);
+    tables = right;
+    tables.base_values = (const double *)(const void *)((const uint8_t *)values + 4), tables.base_value_count = 1;
+    expect_written("unaligned values", dogma_write_sheet_checked(bytes, sizeof bytes, &tables), DOGMA_MISUSED, DOGMA_ARGUMENT_BASE_VALUES);
+    tables = right;
+    tables.ids = (const uint32_t *)(const void *)bytes, tables.id_count = 1;
+    expect_written("ids that are written", dogma_write_fit_checked(bytes, sizeof bytes, &tables), DOGMA_MISUSED, DOGMA_ARGUMENT_IDS);
+}
+
 int main(void)
 {
+    expect_writers();
 #if WRONG == 1
     dogma_row *pointer = rows;
     (void)DOGMA_LEND(states, collected, collected_values, pointer, bases, values, entries, entry_values, plain, sources, source_values);

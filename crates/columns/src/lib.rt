@@ -216,3 +216,117 @@ pub type PilotStates = [States; PILOTS];
 
 // The pairs of a book or of a fit.
 pub type FilePairs = [TablePair; 5];
+
+// ---- Tables as they are lent to be written: a row of each in the order of document 01's fields, its float in a column beside. A signed
+// number is its 32 bits.
+
+// A sheet's header behind the pairs: three category numbers, depth, recording. A book has the first three, a fit the last two.
+pub type SheetNumbers = [u32; 5];
+
+pub type BookNumbers = [u32; 3];
+
+pub type FitNumbers = [u32; 2];
+
+pub const SHEET_DEPTH: usize = 3;
+
+pub const SHEET_RECORDING: usize = 4;
+
+pub const FIT_DEPTH: usize = 0;
+
+pub const FIT_RECORDING: usize = 1;
+
+// Table 1, attributes; the default is beside.
+pub type AttributeFields = [u32; 4];
+
+pub const ATTRIBUTE_ID: usize = 0;
+
+pub const ATTRIBUTE_FLAGS: usize = 1;
+
+pub const ATTRIBUTE_MIN: usize = 2;
+
+pub const ATTRIBUTE_MAX: usize = 3;
+
+// Table 2, effects.
+pub type EffectFields = [u32; 6];
+
+pub const EFFECT_ID: usize = 0;
+
+pub const EFFECT_CATEGORY: usize = 1;
+
+pub const EFFECT_RESISTANCE: usize = 2;
+
+pub const EFFECT_USAGE_CHANCE: usize = 3;
+
+pub const EFFECT_FIRST_MODIFIER: usize = 4;
+
+pub const EFFECT_MODIFIER_COUNT: usize = 5;
+
+// Table 3, modifiers.
+pub type ModifierFields = [u32; 7];
+
+// Table 4, effects of types.
+pub type TypeEffectFields = [u32; 3];
+
+pub const TYPE_EFFECT_TYPE: usize = 0;
+
+pub const TYPE_EFFECT_EFFECT: usize = 1;
+
+pub const TYPE_EFFECT_DEFAULT: usize = 2;
+
+// Table 5, buff collections.
+pub type BuffCollectionFields = [u32; 4];
+
+pub const BUFF_COLLECTION_ID: usize = 0;
+
+pub const BUFF_COLLECTION_OPERATION: usize = 1;
+
+pub const BUFF_COLLECTION_FIRST_MODIFIER: usize = 2;
+
+pub const BUFF_COLLECTION_MODIFIER_COUNT: usize = 3;
+
+// Table 6, objects.
+pub type ObjectFields = [u32; 17];
+
+pub const OBJECT_KIND: usize = 0;
+
+pub const OBJECT_TYPE: usize = 1;
+
+pub const OBJECT_GROUP: usize = 2;
+
+pub const OBJECT_CATEGORY: usize = 3;
+
+pub const OBJECT_SLOT: usize = 4;
+
+pub const OBJECT_QUANTITY: usize = 5;
+
+pub const OBJECT_STATE: usize = 6;
+
+pub const OBJECT_MAX_STATE: usize = 7;
+
+pub const OBJECT_FLAGS: usize = 8;
+
+pub const OBJECT_MUTATION_BASE: usize = 9;
+
+pub const OBJECT_PROJECTED_EFFECT: usize = 10;
+
+pub const OBJECT_FIRST_BASE: usize = 11;
+
+pub const OBJECT_BASE_COUNT: usize = 12;
+
+pub const OBJECT_FIRST_ABILITY: usize = 13;
+
+pub const OBJECT_ABILITY_COUNT: usize = 14;
+
+pub const OBJECT_FIRST_SIDE_EFFECT: usize = 15;
+
+pub const OBJECT_SIDE_EFFECT_COUNT: usize = 16;
+
+// Table 10, asks. Tables 7 and 9 are a number and a float, table 8 is a number.
+pub type AskFields = [u32; 2];
+
+pub const ASK_OBJECT: usize = 0;
+
+pub const ASK_ATTRIBUTE: usize = 1;
+
+// The pairs of five tables, one after another.
+pub type FivePairs = [u32; 10];

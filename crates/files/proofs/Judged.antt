@@ -136,12 +136,6 @@ module _ (k : List ℕ) (p : List (List ℕ)) where
   pub sound-book : badBookBy k p ≡ none → SoundBook k p
   sound-book n = record { held = held-book k p (book-good n); good = sym (book-by (book-good n)) ∙ n }
 
--- the place of a fit's bad table can be told with 20 more
-below : (a : ℕ) (l : List Bool) {t : ℕ} → firstBad a l ≡ some t → t < a + length l
-below a [] e = absurd (let z : _≡_ {A = ℕ} 0 1 = cc in omega arith)
-below a (true ∷ l) e = let r = below (suc a) l e in omega (arith, r)
-below a (false ∷ l) {t} e = let z : a ≡ t = ap (λ (o : Option ℕ). Option·getD o 0) e in omega (arith, z)
-
 module _ (f : List ℕ) (p : List (List ℕ)) where
   fit-by : {t : Bool} → fitHeaderGood f p ≡ t → badFit f p ≡ elim t [ false ↦ some 0 | true ↦ fitBad (fitOf f p) ]
   unfolding badFit
@@ -156,10 +150,6 @@ module _ (f : List ℕ) (p : List (List ℕ)) where
 
     pub fit-sound : r ≡ Sound → Sound ≡ shapedOf (plus20 (badFit f p))
     fit-sound e = sym (ap (λ (o : Option ℕ). shapedOf (plus20 o)) (fit-by good ∙ sound-said (fitBad (fitOf f p)) (sym e ∙ h)))
-
-    pub fit-place : {t : ℕ} → r ≡ Bad t → t < 11
-    unfolding fitBad
-    fit-place e = let x = fitOf f p in below 6 (objectsGood x ∷ basesGood x ∷ true ∷ buffsGood x ∷ asksGood x ∷ []) (bad-said (fitBad (fitOf f p)) (sym e ∙ h))
 
   fit-header : (t : Bool) → fitHeaderGood f p ≡ t → badFit f p ≡ none → t ≡ true
   fit-header true e n = refl

@@ -1,54 +1,51 @@
--- Each table's goodness as one scan of its records: n records, passed up to record i, the last of which had the key last.
+-- Each table's goodness as one scan of its records: n records, passed up to record i, the last of which had the key last. Of any book, read
+-- from bytes or lent.
 use Prim.Native.Nat.{ℕ}
-use mathlib.Core.Path.{_≡_, sym, _∙_}
+use mathlib.Core.Path.{_≡_}
 use mathlib.Core.Bool.{true, _&&_}
-use mathlib.Core.List.{List}
+use lib.ListN.{length}
 use lib.Dec.{leb}
 use lib.IntN.{ℤ}
 use lib.Signed.{ltZ, leZ}
 use Rattle.laws.specs.Floats.{finite}
-use Rattle.rules.specs.Bytes.{countOf}
-use Rattle.rules.specs.Sheet.{bookOf}
+use Rattle.rules.specs.Sheet.{Book}
 use Rattle.rules.specs.Shape.{attributesGood, effectsGood, typeEffectsGood, buffCollectionsGood, inside}
-use Rattle.info.proofs.Elements.{attributes-length, effects-length, modifiers-length, type-effects-length, buff-collections-length}
 use Rattle.shape.proofs.Scans.{Scan, scan-all, inOrder, keyOf, order-scan, ascends-chain, not-descending-chain}
 
-module _ (b : List ℕ) (pairs : List (List ℕ)) where
+module _ (k : Book) where
   abbrev pub AttributeScan : ℕ → ℕ → ℤ → Type 0
   AttributeScan n i last =
       Scan (inOrder ltZ (λ r. r .id) (λ r. leb (r .flags) 3 && finite (r .«default_value»))) (keyOf (λ r. r .id)) (λ s. true)
-      (attributesGood (bookOf b pairs)) (bookOf b pairs .attributes) n i last
+      (attributesGood k) (k .attributes) n i last
 
-  pub attributes-start : {n : ℕ} {d : ℤ} → n ≡ countOf pairs 1 → AttributeScan n 0 d
+  pub attributes-start : {n : ℕ} {d : ℤ} → length (k .attributes) ≡ n → AttributeScan n 0 d
   unfolding attributesGood
-  attributes-start {n} {d} e = scan-all (attributes-length b pairs ∙ sym e) (order-scan ltZ _ _ ascends-chain d _)
+  attributes-start {n} {d} e = scan-all e (order-scan ltZ _ _ ascends-chain d _)
 
   -- there are m modifiers
   abbrev pub EffectScan : ℕ → ℕ → ℕ → ℤ → Type 0
   EffectScan n m i last =
       Scan (inOrder ltZ (λ r. r .id) (λ r. inside (r .«first_modifier») (r .modifiers) m)) (keyOf (λ r. r .id)) (λ s. true)
-      (effectsGood (bookOf b pairs)) (bookOf b pairs .effects) n i last
+      (effectsGood k) (k .effects) n i last
 
-  pub effects-start : {n m : ℕ} {d : ℤ} → n ≡ countOf pairs 2 → m ≡ countOf pairs 3 → EffectScan n m 0 d
+  pub effects-start : {n m : ℕ} {d : ℤ} → length (k .effects) ≡ n → m ≡ length (k .modifiers) → EffectScan n m 0 d
   unfolding effectsGood
-  effects-start {n} {m} {d} e f =
-      rw (f ∙ sym (modifiers-length b pairs)) (scan-all (effects-length b pairs ∙ sym e) (order-scan ltZ _ _ ascends-chain d _))
+  effects-start {n} {m} {d} e f = rw f (scan-all e (order-scan ltZ _ _ ascends-chain d _))
 
   abbrev pub TypeEffectScan : ℕ → ℕ → ℤ → Type 0
   TypeEffectScan n i last =
       Scan (inOrder leZ (λ r. r .«type_id») (λ r. leb (r .«is_default») 1)) (keyOf (λ r. r .«type_id»)) (λ s. true)
-      (typeEffectsGood (bookOf b pairs)) (bookOf b pairs .typeEffects) n i last
+      (typeEffectsGood k) (k .typeEffects) n i last
 
-  pub type-effects-start : {n : ℕ} {d : ℤ} → n ≡ countOf pairs 4 → TypeEffectScan n 0 d
+  pub type-effects-start : {n : ℕ} {d : ℤ} → length (k .typeEffects) ≡ n → TypeEffectScan n 0 d
   unfolding typeEffectsGood
-  type-effects-start {n} {d} e = scan-all (type-effects-length b pairs ∙ sym e) (order-scan leZ _ _ not-descending-chain d _)
+  type-effects-start {n} {d} e = scan-all e (order-scan leZ _ _ not-descending-chain d _)
 
   abbrev pub BuffCollectionScan : ℕ → ℕ → ℕ → ℤ → Type 0
   BuffCollectionScan n m i last =
       Scan (inOrder ltZ (λ r. r .id) (λ r. inside (r .«first_modifier») (r .modifiers) m)) (keyOf (λ r. r .id)) (λ s. true)
-      (buffCollectionsGood (bookOf b pairs)) (bookOf b pairs .buffCollections) n i last
+      (buffCollectionsGood k) (k .buffCollections) n i last
 
-  pub buff-collections-start : {n m : ℕ} {d : ℤ} → n ≡ countOf pairs 5 → m ≡ countOf pairs 3 → BuffCollectionScan n m 0 d
+  pub buff-collections-start : {n m : ℕ} {d : ℤ} → length (k .buffCollections) ≡ n → m ≡ length (k .modifiers) → BuffCollectionScan n m 0 d
   unfolding buffCollectionsGood
-  buff-collections-start {n} {m} {d} e f =
-      rw (f ∙ sym (modifiers-length b pairs)) (scan-all (buff-collections-length b pairs ∙ sym e) (order-scan ltZ _ _ ascends-chain d _))
+  buff-collections-start {n} {m} {d} e f = rw f (scan-all e (order-scan ltZ _ _ ascends-chain d _))

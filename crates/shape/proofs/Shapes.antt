@@ -1,14 +1,15 @@
 -- The first bad table, from the verdicts on header, book and fit; and what a sheet without one gives.
-use Prim.Native.Nat.{ℕ, _≤_, _<_}
+use Prim.Native.Nat.{ℕ, suc, _+_, _≤_, _<_}
+use native.Mathlib.Omega.{arith}
 use mathlib.Core.Path.{_≡_, refl, sym, ap, _∙_}
 use mathlib.Core.Bool.{Bool, true, false}
-use mathlib.Core.List.{List}
-use mathlib.Core.Option.{Option, none, some}
+use mathlib.Core.List.{List, [], _∷_}
+use mathlib.Core.Option.{Option, none, some, Option·getD}
 use lib.ListN.{length}
 use borrow.Author.Tests.{lt-leb}
 use Rattle.rules.specs.Bytes.{pairsOf}
-use Rattle.rules.specs.Sheet.{bookOf, fitOf}
-use Rattle.rules.specs.Shape.{headerGood, bookBad, fitBad, badShape}
+use Rattle.rules.specs.Sheet.{Fit, bookOf, fitOf}
+use Rattle.rules.specs.Shape.{headerGood, objectsGood, basesGood, buffsGood, asksGood, firstBad, bookBad, fitBad, badShape}
 use Rattle.shape.specs.declared.Shaped.{Shaped}
 use Rattle.shape.specs.declared.Shaped.the-variants.{Sound, Bad}
 use Rattle.shape.specs.Shaped.{shapedOf}
@@ -36,6 +37,16 @@ bad-said o e = said o e
 pub sound-said : (o : Option ℕ) → Sound ≡ shapedOf o → o ≡ none
 unfolding told
 sound-said o e = said o e
+
+-- a bad table is one of those listed: a fit's place can be told with 20 more
+below : (a : ℕ) (l : List Bool) {t : ℕ} → firstBad a l ≡ some t → t < a + length l
+below a [] e = absurd (let z : _≡_ {A = ℕ} 0 1 = cc in omega arith)
+below a (true ∷ l) e = let r = below (suc a) l e in omega (arith, r)
+below a (false ∷ l) {t} e = let z : a ≡ t = ap (λ (o : Option ℕ). Option·getD o 0) e in omega (arith, z)
+
+pub fit-place : (f : Fit) {r : Shaped} {t : ℕ} → r ≡ shapedOf (fitBad f) → r ≡ Bad t → t < 11
+unfolding fitBad
+fit-place f h e = below 6 (objectsGood f ∷ basesGood f ∷ true ∷ buffsGood f ∷ asksGood f ∷ []) (bad-said (fitBad f) (sym e ∙ h))
 
 -- ---- from the verdicts on the parts to the sheet's, with the pairs p as they were read
 

@@ -28,7 +28,7 @@ pub fn inside(first: u32, count: u32, n: usize) -> bool
 }
 
 // Whether record i of table 1 is good, after one of id last.
-fn attribute_good(i: usize, last: i32, r: DogmaAttribute) -> bool
+pub fn attribute_good(i: usize, last: i32, r: DogmaAttribute) -> bool
     ensures { λ t. ⌜ t ≡ (eqb i 0 || ltZ last (r .id)) && (leb (r .flags) 3 && finite (r .«default_value»)) ⌝ }
 {
     let sized = is_finite(r.default_value);
@@ -56,7 +56,7 @@ pub fn attributes_good(book: &[u8], pairs: &TablePairs) -> bool
 }
 
 // Whether record i of table 2 is good, after one of id last; there are n modifiers.
-fn effect_good(i: usize, last: i32, r: DogmaEffect, n: usize) -> bool
+pub fn effect_good(i: usize, last: i32, r: DogmaEffect, n: usize) -> bool
     ensures { λ t. ⌜ t ≡ (eqb i 0 || ltZ last (r .id)) && rule.inside (r .«first_modifier») (r .modifiers) n ⌝ }
 {
     let within = inside(r.first_modifier, r.modifiers, n);
@@ -85,7 +85,7 @@ pub fn effects_good(book: &[u8], pairs: &TablePairs) -> bool
 }
 
 // Whether record i of table 4 is good, after one of type last.
-fn type_effect_good(i: usize, last: i32, r: TypeDogmaEffect) -> bool
+pub fn type_effect_good(i: usize, last: i32, r: TypeDogmaEffect) -> bool
     ensures { λ t. ⌜ t ≡ (eqb i 0 || leZ last (r .«type_id»)) && leb (r .«is_default») 1 ⌝ }
 {
     ((i == 0) | (last <= r.type_id)) & (r.is_default <= 1)
@@ -112,7 +112,7 @@ pub fn type_effects_good(book: &[u8], pairs: &TablePairs) -> bool
 }
 
 // Whether record i of table 5 is good, after one of id last; there are n modifiers.
-fn buff_collection_good(i: usize, last: i32, r: DbuffCollection, n: usize) -> bool
+pub fn buff_collection_good(i: usize, last: i32, r: DbuffCollection, n: usize) -> bool
     ensures { λ t. ⌜ t ≡ (eqb i 0 || ltZ last (r .id)) && rule.inside (r .«first_modifier») (r .modifiers) n ⌝ }
 {
     let held = inside(r.first_modifier, r.modifiers, n);

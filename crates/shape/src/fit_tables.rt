@@ -48,7 +48,7 @@ fn follows(a: u32, k: u32) -> bool
 }
 
 // Whether an object's codes and ranges are good; there are n base attributes and m ids.
-fn object_good(o: Item, n: usize, m: usize) -> bool
+pub fn object_good(o: Item, n: usize, m: usize) -> bool
     ensures { λ r. ⌜ ((f : Fit) → n ≡ length (f .bases) → m ≡ length (f .ids) → r ≡ objectGood f o) ⌝ }
 {
     let bases = inside(o.first_attribute, o.attributes, n);
@@ -65,7 +65,7 @@ fn object_good(o: Item, n: usize, m: usize) -> bool
 }
 
 // Whether object i may be of kind k, after one of kind last: the first is a ship.
-fn stands(i: usize, last: u32, k: u32) -> bool
+pub fn stands(i: usize, last: u32, k: u32) -> bool
     ensures { λ r. ⌜ r ≡ ((eqb i 0 && eqb k 0) || (ltb 0 i && rule.follows last k)) ⌝ }
 {
     let after = follows(last, k);
@@ -114,7 +114,7 @@ fn bases_finite(fit: &[u8], pairs: &TablePairs) -> bool
 }
 
 // Whether a base attribute may stand at place i of a range, after one of id last.
-fn base_attribute_stands(i: usize, last: i32, r: BaseAttribute) -> bool
+pub fn base_attribute_stands(i: usize, last: i32, r: BaseAttribute) -> bool
     ensures { λ t. ⌜ t ≡ (eqb i 0 || ltZ last (r .«attribute_id»)) ⌝ }
 {
     (i == 0) | (last < r.attribute_id)

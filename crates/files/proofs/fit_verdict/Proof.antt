@@ -9,7 +9,8 @@ use Rattle.files.proofs.fit_header_good.Reads as fit-header-good-reads
 use Rattle.shape.proofs.fit_shape.Reads as fit-shape-reads
 use native.Mathlib.Omega.{arith}
 use Rattle.shape.proofs.Scans.{passed, failed}
-use Rattle.files.proofs.Judged.{held-fit, fit-header-bad, fit-bad, fit-sound, fit-place}
+use Rattle.shape.proofs.Shapes.{fit-place}
+use Rattle.files.proofs.Judged.{held-fit, fit-header-bad, fit-bad, fit-sound}
 
 fit-header-good-requires : tie.Need-fit-header-good-requires
 fit-header-good-requires c κs = search needs
@@ -24,7 +25,7 @@ enum-known-shaped : tie.Need-enum-known-shaped
 enum-known-shaped c = search needs
 
 add-place : tie.Need-add-place
-add-place c = omega (arith, fit-place _ _ (passed (c .before .before .before .before .before .fit-header-good .ensures) (c .before .before .before .before .if1 .left)) (c .before .before .before .fit-shape .ensures) (c .before .shaped .given .1))
+add-place c = omega (arith, fit-place _ (c .before .before .before .fit-shape .ensures) (c .before .shaped .given .1))
 
 enum-told : tie.Need-enum-told
 enum-told c = search needs

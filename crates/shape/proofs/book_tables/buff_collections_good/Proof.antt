@@ -10,10 +10,13 @@ use mir.Syntax.{w32}
 use mir.Val.{toZ}
 use mir.ValLaws.{toZ-ofZ}
 use Rattle.shape.proofs.Scans.{scan-next, scan-failed, scan-done}
+use mathlib.Core.Path.{sym, _∙_}
+use Rattle.rules.specs.Sheet.{bookOf}
+use Rattle.info.proofs.Elements.{buff-collections-length, modifiers-length}
 use Rattle.shape.proofs.BookScans.{BuffCollectionScan, buff-collections-start}
 
 abbrev Inv-loop : tie.InvT-loop
-Inv-loop book pairs n modifiers last₀ i₀ last i = BuffCollectionScan book pairs n modifiers i (toZ w32 last)
+Inv-loop book pairs n modifiers last₀ i₀ last i = BuffCollectionScan (bookOf book pairs) n modifiers i (toZ w32 last)
 
 abbrev μ-loop : tie.MeasureT-loop
 μ-loop book pairs n modifiers last₀ i₀ last i = n - i
@@ -26,7 +29,7 @@ buff-collections-good-spec =
     μ-loop
     (λ c κs. search needs)
     (λ c κs. search needs)
-    (λ c. buff-collections-start _ _ (c .before .count-of .ensures) (c .count-of2 .ensures))
+    (λ c. buff-collections-start _ (buff-collections-length _ _ ∙ sym (c .before .count-of .ensures)) (c .count-of2 .ensures ∙ sym (modifiers-length _ _)))
     (λ c κs. search needs)
     (λ c κs. search needs)
     (λ c. search needs)

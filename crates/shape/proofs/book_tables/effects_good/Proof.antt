@@ -10,10 +10,13 @@ use mir.Syntax.{w32}
 use mir.Val.{toZ}
 use mir.ValLaws.{toZ-ofZ}
 use Rattle.shape.proofs.Scans.{scan-next, scan-failed, scan-done}
+use mathlib.Core.Path.{sym, _∙_}
+use Rattle.rules.specs.Sheet.{bookOf}
+use Rattle.info.proofs.Elements.{effects-length, modifiers-length}
 use Rattle.shape.proofs.BookScans.{EffectScan, effects-start}
 
 abbrev Inv-loop : tie.InvT-loop
-Inv-loop book pairs n modifiers last₀ i₀ last i = EffectScan book pairs n modifiers i (toZ w32 last)
+Inv-loop book pairs n modifiers last₀ i₀ last i = EffectScan (bookOf book pairs) n modifiers i (toZ w32 last)
 
 abbrev μ-loop : tie.MeasureT-loop
 μ-loop book pairs n modifiers last₀ i₀ last i = n - i
@@ -26,7 +29,7 @@ effects-good-spec =
     μ-loop
     (λ c κs. search needs)
     (λ c κs. search needs)
-    (λ c. effects-start _ _ (c .before .count-of .ensures) (c .count-of2 .ensures))
+    (λ c. effects-start _ (effects-length _ _ ∙ sym (c .before .count-of .ensures)) (c .count-of2 .ensures ∙ sym (modifiers-length _ _)))
     (λ c κs. search needs)
     (λ c κs. search needs)
     (λ c. search needs)

@@ -5,7 +5,8 @@ use Rattle.shape.proofs.fit_tables.asks_good.Tie as tie
 use borrow.Author.Needs.{needs}
 use Prim.Native.Nat.{_-_}
 use borrow.Author.Tests.{not-true, not-false}
-use mathlib.Core.Path.{refl, ap, _∙_}
+use mathlib.Core.Path.{refl, sym, _∙_}
+use Rattle.info.proofs.Elements.{objects-length, asks-length}
 use lib.Dec.{ltb}
 use lib.ListN.{length}
 use Rattle.rules.specs.Sheet.{fitOf}
@@ -27,11 +28,11 @@ asks-good-spec =
     μ-loop
     (λ c κs. search needs)
     (λ c κs. search needs)
-    (λ c. asks-start _ _ (c .before .count-of .ensures))
+    (λ c. asks-start _ (asks-length _ _ ∙ sym (c .before .count-of .ensures)))
     (λ c κs. search needs)
     (λ c κs. search needs)
     (λ c. search needs)
-    (λ c. scan-failed (c .before .before .before .before .loop .inv) (c .before .before .before .loop-test .taken) (c .before .before .ask .ensures) (ask-same _ _ (c .before .index .ensures .0) (c .before .before .before .before .before .count-of2 .ensures)) (not-true _ (c .if1 .taken)))
+    (λ c. scan-failed (c .before .before .before .before .loop .inv) (c .before .before .before .loop-test .taken) (c .before .before .ask .ensures) (ask-same (fitOf (c .before .before .before .before .before .before .before .before .args .fit .now) (c .before .before .before .before .before .before .before .before .args .pairs .now)) (c .before .index .ensures .0) (c .before .before .before .before .before .count-of2 .ensures ∙ sym (objects-length (c .before .before .before .before .before .before .before .before .args .fit .now) (c .before .before .before .before .before .before .before .before .args .pairs .now)))) (not-true _ (c .if1 .taken)))
     (λ c. search needs)
-    (λ c. scan-next (c .before .before .before .before .loop .inv) (c .before .before .before .loop-test .taken) (c .before .before .ask .ensures) (ask-same _ _ (c .before .index .ensures .0) (c .before .before .before .before .before .count-of2 .ensures)) (not-false _ (c .if1 .left)) refl)
+    (λ c. scan-next (c .before .before .before .before .loop .inv) (c .before .before .before .loop-test .taken) (c .before .before .ask .ensures) (ask-same (fitOf (c .before .before .before .before .before .before .before .before .args .fit .now) (c .before .before .before .before .before .before .before .before .args .pairs .now)) (c .before .index .ensures .0) (c .before .before .before .before .before .count-of2 .ensures ∙ sym (objects-length (c .before .before .before .before .before .before .before .before .args .fit .now) (c .before .before .before .before .before .before .before .before .args .pairs .now)))) (not-false _ (c .if1 .left)) refl)
     (λ c. scan-done (c .before .loop .inv) (c .loop-test .left)))

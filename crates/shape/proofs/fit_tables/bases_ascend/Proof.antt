@@ -12,7 +12,7 @@ use Rattle.rules.specs.Sheet.{fitOf}
 use Rattle.shape.specs.Ranges.{rangeAscends}
 use Rattle.shape.proofs.Scans.{each-start}
 use Rattle.shape.proofs.FitScans.{range-same, range-held}
-use Rattle.info.proofs.Elements.{objects-length}
+use Rattle.info.proofs.Elements.{objects-length, bases-length}
 use Rattle.shape.proofs.Scans.{Each, scan-next, scan-failed, scan-done}
 
 abbrev Inv-loop : tie.InvT-loop
@@ -32,9 +32,9 @@ bases-ascend-spec =
     (λ c κs. search needs)
     (λ c κs. search needs)
     (λ c κs. search needs)
-    (λ c κs. (c .before .before .before .before .before .before .before .pre .0, range-held _ _ (c .before .before .before .before .before .before .before .pre .1) (c .before .before .before .before .before .count-of .ensures) (c .before .before .before .loop-test .taken) (c .before .before .object .ensures) (c .before .index .ensures .0) (c .index2 .ensures .0)))
+    (λ c κs. (c .before .before .before .before .before .before .before .pre .0, rw (← (bases-length (c .before .before .before .before .before .before .before .args .fit .now) (c .before .before .before .before .before .before .before .args .pairs .now))) (range-held (fitOf (c .before .before .before .before .before .before .before .args .fit .now) (c .before .before .before .before .before .before .before .args .pairs .now)) (c .before .before .before .before .before .before .before .pre .1) (rw (objects-length (c .before .before .before .before .before .before .before .args .fit .now) (c .before .before .before .before .before .before .before .args .pairs .now), ← (c .before .before .before .before .before .count-of .ensures)) (c .before .before .before .loop-test .taken)) (c .before .before .object .ensures) (c .before .index .ensures .0) (c .index2 .ensures .0))))
     (λ c. search needs)
-    (λ c. scan-failed (c .before .before .before .before .before .before .loop .inv) (c .before .before .before .before .before .loop-test .taken) (c .before .before .before .before .object .ensures) (c .before .range-ascends .ensures ∙ range-same _ _ (c .before .before .before .index .ensures .0) (c .before .before .index2 .ensures .0)) (not-true _ (c .if1 .taken)))
+    (λ c. scan-failed (c .before .before .before .before .before .before .loop .inv) (c .before .before .before .before .before .loop-test .taken) (c .before .before .before .before .object .ensures) (c .before .range-ascends .ensures ∙ range-same (fitOf (c .before .before .before .before .before .before .before .before .before .args .fit .now) (c .before .before .before .before .before .before .before .before .before .args .pairs .now)) (c .before .before .before .index .ensures .0) (c .before .before .index2 .ensures .0)) (not-true _ (c .if1 .taken)))
     (λ c. search needs)
-    (λ c. scan-next (c .before .before .before .before .before .before .loop .inv) (c .before .before .before .before .before .loop-test .taken) (c .before .before .before .before .object .ensures) (c .before .range-ascends .ensures ∙ range-same _ _ (c .before .before .before .index .ensures .0) (c .before .before .index2 .ensures .0)) (not-false _ (c .if1 .left)) refl)
+    (λ c. scan-next (c .before .before .before .before .before .before .loop .inv) (c .before .before .before .before .before .loop-test .taken) (c .before .before .before .before .object .ensures) (c .before .range-ascends .ensures ∙ range-same (fitOf (c .before .before .before .before .before .before .before .before .before .args .fit .now) (c .before .before .before .before .before .before .before .before .before .args .pairs .now)) (c .before .before .before .index .ensures .0) (c .before .before .index2 .ensures .0)) (not-false _ (c .if1 .left)) refl)
     (λ c. scan-done (c .before .loop .inv) (c .loop-test .left)))

@@ -5,7 +5,8 @@ use Rattle.shape.proofs.fit_tables.buffs_good.Tie as tie
 use borrow.Author.Needs.{needs}
 use Prim.Native.Nat.{_-_}
 use borrow.Author.Tests.{not-true, not-false}
-use mathlib.Core.Path.{refl, ap, _∙_}
+use mathlib.Core.Path.{refl, sym, _∙_}
+use Rattle.info.proofs.Elements.{buffs-length}
 use Rattle.laws.specs.Floats.{finite}
 use Rattle.rules.specs.Sheet.{fitOf}
 use Rattle.rules.specs.Shape.{buffsGood}
@@ -25,7 +26,7 @@ buffs-good-spec =
     Inv-loop
     μ-loop
     (λ c κs. search needs)
-    (λ c. buffs-start _ _ (c .count-of .ensures))
+    (λ c. buffs-start _ (buffs-length _ _ ∙ sym (c .count-of .ensures)))
     (λ c κs. search needs)
     (λ c κs. search needs)
     (λ c. search needs)

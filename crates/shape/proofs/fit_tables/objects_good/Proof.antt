@@ -6,12 +6,13 @@ use borrow.Author.Needs.{needs}
 use Prim.Native.Nat.{_-_}
 use borrow.Author.Tests.{not-true, not-false}
 use mathlib.Core.Path.{refl, sym, _∙_}
+use Rattle.rules.specs.Sheet.{fitOf}
 use Rattle.shape.proofs.Scans.{scan-next, scan-failed, scan-done, and-same}
 use Rattle.shape.proofs.FitScans.{ObjectScan, objects-start}
-use Rattle.info.proofs.Elements.{bases-length, ids-length}
+use Rattle.info.proofs.Elements.{objects-length, bases-length, ids-length}
 
 abbrev Inv-loop : tie.InvT-loop
-Inv-loop fit pairs n bases ids last₀ i₀ last i = ObjectScan fit pairs n i last
+Inv-loop fit pairs n bases ids last₀ i₀ last i = ObjectScan (fitOf fit pairs) n i last
 
 abbrev μ-loop : tie.MeasureT-loop
 μ-loop fit pairs n bases ids last₀ i₀ last i = n - i
@@ -25,7 +26,7 @@ objects-good-spec =
     (λ c κs. search needs)
     (λ c κs. search needs)
     (λ c κs. search needs)
-    (λ c. objects-start _ _ (c .before .before .count-of .ensures))
+    (λ c. objects-start _ (objects-length _ _ ∙ sym (c .before .before .count-of .ensures)))
     (λ c κs. search needs)
     (λ c κs. search needs)
     (λ c κs. search needs)

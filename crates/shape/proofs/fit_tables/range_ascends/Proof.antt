@@ -8,6 +8,8 @@ use borrow.Author.Tests.{not-true, not-false}
 use borrow.Author.Needs.{sfits-of}
 use mathlib.Core.Path.{sym, _∙_}
 use Rattle.laws.proofs.Bools.{and-true-right}
+use Rattle.rules.specs.Sheet.{fitOf}
+use Rattle.info.proofs.Elements.{bases-length}
 use mir.Syntax.{w32}
 use mir.Val.{toZ}
 use mir.ValLaws.{toZ-ofZ}
@@ -15,7 +17,7 @@ use Rattle.shape.proofs.Scans.{scan-next, scan-failed, scan-done}
 use Rattle.shape.proofs.FitScans.{RangeScan, range-start, range-nth}
 
 abbrev Inv-loop : tie.InvT-loop
-Inv-loop fit pairs first n last₀ i₀ last i = RangeScan fit pairs first n i (toZ w32 last)
+Inv-loop fit pairs first n last₀ i₀ last i = RangeScan (fitOf fit pairs) first n i (toZ w32 last)
 
 abbrev μ-loop : tie.MeasureT-loop
 μ-loop fit pairs first n last₀ i₀ last i = n - i
@@ -26,12 +28,12 @@ range-ascends-spec =
     (tie.spec
     Inv-loop
     μ-loop
-    (λ c. range-start _ _ _ _ (c .before .pre .1))
+    (λ c. range-start (fitOf (c .before .args .fit .now) (c .before .args .pairs .now)) (c .before .args .first) (c .before .args .n) (rw (bases-length (c .before .args .fit .now) (c .before .args .pairs .now)) (c .before .pre .1)))
     (λ c. search needs)
     (λ c κs. search needs)
     (λ c κs. search needs)
     (λ c. search needs)
-    (λ c. scan-failed (c .before .before .before .before .before .loop .inv) (c .before .before .before .before .loop-test .taken) (range-nth _ _ _ _ (c .before .before .before .before .before .before .before .pre .1) (c .before .before .before .before .loop-test .taken) (c .before .before .before .base-attribute .ensures)) (c .before .before .base-attribute-stands .ensures ∙ sym (and-true-right _)) (not-true _ (c .if1 .taken)))
+    (λ c. scan-failed (c .before .before .before .before .before .loop .inv) (c .before .before .before .before .loop-test .taken) (range-nth (fitOf (c .before .before .before .before .before .before .before .args .fit .now) (c .before .before .before .before .before .before .before .args .pairs .now)) (c .before .before .before .before .before .before .before .args .first) (c .before .before .before .before .before .before .before .args .n) (rw (bases-length (c .before .before .before .before .before .before .before .args .fit .now) (c .before .before .before .before .before .before .before .args .pairs .now)) (c .before .before .before .before .before .before .before .pre .1)) (c .before .before .before .before .loop-test .taken) (c .before .before .before .base-attribute .ensures)) (c .before .before .base-attribute-stands .ensures ∙ sym (and-true-right _)) (not-true _ (c .if1 .taken)))
     (λ c. search needs)
-    (λ c. scan-next (c .before .before .before .before .before .loop .inv) (c .before .before .before .before .loop-test .taken) (range-nth _ _ _ _ (c .before .before .before .before .before .before .before .pre .1) (c .before .before .before .before .loop-test .taken) (c .before .before .before .base-attribute .ensures)) (c .before .before .base-attribute-stands .ensures ∙ sym (and-true-right _)) (not-false _ (c .if1 .left)) (toZ-ofZ w32 _ (sfits-of (c .before .struct-told .given .0 .1))))
+    (λ c. scan-next (c .before .before .before .before .before .loop .inv) (c .before .before .before .before .loop-test .taken) (range-nth (fitOf (c .before .before .before .before .before .before .before .args .fit .now) (c .before .before .before .before .before .before .before .args .pairs .now)) (c .before .before .before .before .before .before .before .args .first) (c .before .before .before .before .before .before .before .args .n) (rw (bases-length (c .before .before .before .before .before .before .before .args .fit .now) (c .before .before .before .before .before .before .before .args .pairs .now)) (c .before .before .before .before .before .before .before .pre .1)) (c .before .before .before .before .loop-test .taken) (c .before .before .before .base-attribute .ensures)) (c .before .before .base-attribute-stands .ensures ∙ sym (and-true-right _)) (not-false _ (c .if1 .left)) (toZ-ofZ w32 _ (sfits-of (c .before .struct-told .given .0 .1))))
     (λ c. scan-done (c .before .loop .inv) (c .loop-test .left)))

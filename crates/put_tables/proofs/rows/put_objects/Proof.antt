@@ -1,0 +1,74 @@
+-- Made by `answers` from Proof.answers: edit that file.
+-- `rows::put_objects` meets its contract: after k records the first k stand. Assumes nothing.
+use Rattle.put_tables.proofs.rows.put_objects.Statement.{statement}
+use Rattle.put_tables.proofs.rows.put_objects.Tie as tie
+use Rattle.put_tables.proofs.rows.put_objects.Reads as reads
+use Rattle.put_tables.proofs.rows.put_objects.Lts as lts
+use Rattle.put_tables.proofs.rows.seventeen.Reads as seventeen-reads
+use Rattle.put_tables.proofs.words.put_words.Reads as put-words-reads
+use borrow.Author.Needs.{needs}
+use native.Mathlib.Omega.{arith}
+use Prim.Native.Nat.{_+_, _-_, _≤_}
+use mathlib.Core.Path.{refl, sym}
+use lib.ListN.{length}
+use Rattle.tables.specs.Layout.{words}
+use Rattle.tables.specs.Tables.{fields, row}
+use Rattle.tables.proofs.ReadsBack.{words-wide}
+use Rattle.put_tables.proofs.Steps.{Laid, laid-none, laid-long, laid-room, laid-next, laid-all, laid-end, row-room, row-put}
+
+abbrev Inv-loop : tie.InvT-loop
+Inv-loop bytes₀ at objects place₀ k₀ bytes place k = (k ≤ length objects) × Laid 68 (λ k. words (fields 17 (row objects k))) at bytes₀ place k bytes
+
+abbrev μ-loop : tie.MeasureT-loop
+μ-loop bytes₀ at objects place₀ k₀ bytes place k = length objects - k
+
+loop-holds : tie.Need-loop-holds Inv-loop μ-loop
+loop-holds c = (omega arith, laid-none 68 (λ k. words (fields 17 (row (c .before .args .objects .now) k))) (c .before .args .at) (c .before .args .bytes .now))
+
+mul-numbers : tie.Need-mul-numbers Inv-loop μ-loop
+mul-numbers c = search needs
+
+shared-slice-copy-out-numbers : tie.Need-shared-slice-copy-out-numbers Inv-loop μ-loop
+shared-slice-copy-out-numbers c = search needs
+
+seventeen-requires : tie.Need-seventeen-requires Inv-loop μ-loop
+seventeen-requires c κs = search needs
+
+slice-aggregate-put-words : tie.Need-slice-aggregate-put-words Inv-loop μ-loop
+slice-aggregate-put-words c = sym (c .before .before .seventeen .ensures)
+
+put-words-requires : tie.Need-put-words-requires Inv-loop μ-loop
+put-words-requires c κs = row-room (row (c .before .before .before .before .before .before .before .args .objects .now) (c .before .before .before .before .before .loop .k)) 17 (c .before .before .before .before .before .loop .place) (length (c .before .before .before .before .before .loop .bytes)) (c .before .before .seventeen .ensures) (laid-room (c .before .before .before .before .before .loop .inv .1) (length (c .before .before .before .before .before .before .before .args .objects .now)) (c .before .before .before .before .loop-test .taken) (c .before .before .before .before .before .before .before .pre))
+
+add-k : tie.Need-add-k Inv-loop μ-loop
+add-k c = search needs
+
+loop-less : tie.Need-loop-less Inv-loop μ-loop
+loop-less c = search needs
+
+loop-again : tie.Need-loop-again Inv-loop μ-loop
+loop-again c = (omega (arith, c .before .before .before .before .before .before .before .loop-test .taken), laid-next (c .before .before .before .before .before .before .before .before .loop .inv .1) (words-wide (fields 17 (row (c .before .before .before .before .before .before .before .before .before .before .args .objects .now) (c .before .before .before .before .before .before .before .before .loop .k))) 17 refl) (row-put (row (c .before .before .before .before .before .before .before .before .before .before .args .objects .now) (c .before .before .before .before .before .before .before .before .loop .k)) 17 _ (c .before .before .before .before .before .seventeen .ensures) (c .before .before .put-words .ensures)))
+
+same-length : tie.Need-same-length Inv-loop μ-loop
+same-length c = laid-long (c .before .loop .inv .1)
+
+returns : tie.Need-returns Inv-loop μ-loop
+returns c = (laid-all (c .before .loop .inv .1) (length (c .before .before .before .args .objects .now)) (c .before .loop .inv .0) (c .loop-test .left), laid-end (c .before .loop .inv .1) (length (c .before .before .before .args .objects .now)) (c .before .loop .inv .0) (c .loop-test .left))
+
+pub put-objects-spec : {M : Type 1} → statement M
+put-objects-spec =
+    tie.close
+    (tie.spec
+    Inv-loop
+    μ-loop
+    loop-holds
+    mul-numbers
+    shared-slice-copy-out-numbers
+    seventeen-requires
+    slice-aggregate-put-words
+    put-words-requires
+    add-k
+    loop-less
+    loop-again
+    same-length
+    returns)
