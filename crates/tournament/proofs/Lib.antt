@@ -1,0 +1,5 @@
+pub mod Verdicts
+pub mod Rising
+pub mod Judging
+pub mod Promises
+pub mod Examples
