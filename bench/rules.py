@@ -59,7 +59,7 @@ def kinds():
     some = random.Random("bench rules")
     distinct = [(1 + i, 1 + i) for i in range(1022)]
     wide = [(some.randrange(1, 2 ** 31), some.randrange(1, 2 ** 31)) for _ in range(1022)]
-    alike = [(1 + i, 1024 * (1 + i)) for i in range(1022)]
+    alike = [(1 + i, 1021 * (1 + i)) for i in range(1022)]
     largest = recorded(dict((name, data) for name, _, data in sheets.kinds())["largest"], 0)
     yield "largest", "every table of the sheet at its most", largest, mixed(largest)
     yield "caps", "1,022 modules, each of its own group; a cap of 1 on 999 groups", items(distinct), table([], range(1, 1000), [], 1)
@@ -67,7 +67,7 @@ def kinds():
     yield "all kinds", "the same; 333 prices, 333 caps, 333 forbidden groups", items(distinct), table(range(1, 334), range(1, 334), range(5000, 5333), 1)
     yield "one group", "1,022 modules of one type and group; caps on 999 others", items([(9, 1)] * 1022), table([], range(2, 1001), [], 0)
     yield "random ids", "types and groups of 31 random bits; a cap of 1 on 999 groups", items(wide), table([], [g for _, g in wide][:999], [], 1)
-    yield "one bucket", "all groups alike modulo 1,024, made to be slow; a cap of 1 on 999", items(alike), table([], [g for _, g in alike][:999], [], 1)
+    yield "one bucket", "all groups alike modulo 1,021, made to be slow; a cap of 1 on 999", items(alike), table([], [g for _, g in alike][:999], [], 1)
 
 
 def write(name, data, lines):

@@ -259,7 +259,7 @@ enum dogma_rule_kind { DOGMA_RULE_POINTS = 0, DOGMA_RULE_MOST = 1, DOGMA_RULE_FO
 struct dogma_checked { uint64_t number, place, allowed, line, count; };
 
 /* Nothing is written, so lines and sheet may overlap. No pointer is null, also where its count is 0; lines are aligned to 4 bytes;
- * the stack has 128 KiB left. */
+ * the stack has 32 KiB left. */
 struct dogma_checked dogma_check_rules(const dogma_rule *lines, size_t line_count, const uint8_t *sheet, size_t sheet_length);
 
 /* The same of a book and a fit; SHAPE's place is 0 to 5 of the book, 20 more of the fit. */

@@ -144,7 +144,7 @@ module _ (k : Book) (f : Fit) (g : ℤ) (n : ℕ) where
     other m h e =
         has-next m h
         ∙ ap (λ (t : Bool). has m + cond (counts k (object f m) && t) (object f m .quantity) 0)
-          (eqZ-apart (object f m .«group_id») g (λ s. eqb-false (bucketOf (object f m .«group_id»)) (bucketOf g) e (ap bucketOf s)))
+        (eqZ-apart (object f m .«group_id») g (λ s. eqb-false (bucketOf (object f m .«group_id»)) (bucketOf g) e (ap bucketOf s)))
         ∙ ap (λ (t : Bool). has m + cond t (object f m .quantity) 0) (and-false-right (counts k (object f m)))
         ∙ add-zero (has m)
 
@@ -188,9 +188,9 @@ module _ (k : Book) (f : Fit) (g : ℤ) (n : ℕ) where
             near = omega (arith, walked-in);
             is = before;
             left = W .left ∙ ap (λ (x : ℕ). sum + has x) one ∙ ap (λ (x : ℕ). sum + x) (has-next (at - 1) walked-in)
-              ∙ moved sum (has (at - 1)) (cond (inGroup k g (object f (at - 1))) (object f (at - 1) .quantity) 0)
-              ∙ ap (λ (x : ℕ). sum + x + has (at - 1)) (sym added)
-              ∙ ap (λ (x : ℕ). sum + w + x) (to-last (at - 1) (omega (arith, walked-in)) ∙ ap has (sym before));
+                ∙ moved sum (has (at - 1)) (cond (inGroup k g (object f (at - 1))) (object f (at - 1) .quantity) 0)
+                ∙ ap (λ (x : ℕ). sum + x + has (at - 1)) (sym added)
+                ∙ ap (λ (x : ℕ). sum + w + x) (to-last (at - 1) (omega (arith, walked-in)) ∙ ap has (sym before));
             small = omega (arith, less, m, W .small, before, last-most own (at - 1));
           }
         where

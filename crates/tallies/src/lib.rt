@@ -86,7 +86,14 @@ pub fn link(heads: &mut Links, nexts: &mut Links, fit: &[u8], pairs: &TablePairs
 }
 
 // The pieces in a group: the quantities of its counted objects, along the chain of its bucket.
-pub fn pieces(heads: &Links, nexts: &Links, book: &[u8], fit: &[u8], pairs: &TablePairs, group: i32) -> u64
+pub fn pieces(
+    heads: &Links,
+    nexts: &Links,
+    book: &[u8],
+    fit: &[u8],
+    pairs: &TablePairs,
+    group: i32,
+) -> u64
     requires held_book { ⌜ HeldBook (now book) (now pairs) ⌝ }
     requires held_fit { ⌜ HeldFit (now fit) (now pairs) ⌝ }
     requires linked { ⌜ Linked (fitOf (now fit) (now pairs)) (countOf (now pairs) 6) (now heads) (now nexts) ⌝ }

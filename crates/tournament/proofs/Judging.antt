@@ -17,9 +17,10 @@ use Rattle.rules.specs.declared.Item.{Item}
 use Rattle.shape.specs.Shaped.{shapedOf}
 use Rattle.shape.specs.declared.Shaped.{Shaped}
 use Rattle.shape.specs.declared.Shaped.the-variants.{Sound, Bad}
-use Rattle.shape.proofs.Shapes.{bad-said, sound-said}
+use Rattle.shape.proofs.Shapes.{bad-said, sound-said, sound-long, sound-book, sound-fit}
 use Rattle.files.specs.Read.{pairsRead}
-use Rattle.files.proofs.Judged.{sound-pairs}
+use Rattle.files.proofs.Judged.{sound-pairs, sound-files}
+use Rattle.info.specs.Sound.{HeldBook, HeldFit}
 use Rattle.tallies.specs.Tallies.{Line, lineOf, counted}
 use Rattle.tournament.specs.Tournament.{standsAfter, lineGood, badFrom, tally, isOver, broken, Verdict, allowed, breaks, shape, rules, verdictFrom, judged, checked, checkedFiles}
 use Rattle.tournament.specs.Answered.{lineBefore}
@@ -71,7 +72,7 @@ module _ (rows : List (List ℕ)) where
       turn e =
           S .left ∙ ap (badFrom i (lineBefore ls i)) (opened i h)
           ∙ ap (λ (u : Bool). elim u [ false ↦ some i | true ↦ badFrom (suc i) (some (lineAt i)) (drop (suc i) ls) ])
-            (sym (ap (λ (x : Bool). x && t) a ∙ ap (λ (x : Bool). standsAfter (lineBefore ls i) (lineAt i) && x) g) ∙ e)
+          (sym (ap (λ (x : Bool). x && t) a ∙ ap (λ (x : Bool). standsAfter (lineBefore ls i) (lineAt i) && x) g) ∙ e)
 
       pub scanned-more : s && t ≡ true → Scanned (i + 1)
       scanned-more e =
@@ -106,7 +107,7 @@ module _ (rows : List (List ℕ)) where
         sought-turn u =
             S .left ∙ ap (verdictFrom ls os i) (opened i h)
             ∙ ap (λ (x : Bool). elim x [ true ↦ breaks i (tally ls os (lineAt i)) | false ↦ verdictFrom ls os (suc i) (drop (suc i) ls) ])
-              (sym (o ∙ ap (isOver (lineAt i)) e) ∙ u)
+            (sym (o ∙ ap (isOver (lineAt i)) e) ∙ u)
 
         pub sought-more : t ≡ false → Sought (i + 1)
         sought-more u = subst Sought (sym (add-one i)) (record { within = omega arith; left = sought-turn u })
@@ -140,6 +141,14 @@ module _ (b : List ℕ) (rows : List (List ℕ)) where
     pub checked-shape : {t : ℕ} → r ≡ Bad t → shape t ≡ checked b rows
     checked-shape e = sym (checked-by (bad-said (badShape b) (sym e ∙ h)))
 
+    -- what a sound sheet holds, by the pairs that were read
+    pub checked-held : {p : List (List ℕ)} → r ≡ Sound → p ≡ pairsOf b → HeldBook b p × HeldFit b p
+    checked-held e q =
+        (subst (λ (x : List (List ℕ)). HeldBook b x) (sym q) (sound-book b (sym e ∙ h) .held), subst (λ (x : List (List ℕ)). HeldFit b x) (sym q) (sound-fit b (sym e ∙ h) .held))
+
+    pub checked-long : r ≡ Sound → 100 ≤ length b
+    checked-long e = sound-long b (sym e ∙ h)
+
     pub checked-lines : {v : Verdict} {p : List (List ℕ)} → r ≡ Sound → p ≡ pairsOf b → v ≡ judged (bookOf b p) (fitOf b p) (map lineOf rows) → v ≡ checked b rows
     checked-lines e q w =
         w ∙ ap (λ (x : List (List ℕ)). judged (bookOf b x) (fitOf b x) (map lineOf rows)) q ∙ sym (checked-by (sound-said (badShape b) (sym e ∙ h)))
@@ -155,6 +164,9 @@ module _ (k f : List ℕ) (rows : List (List ℕ)) where
 
     pub no-bad-file : r ≡ Sound → badFiles k f ≡ none
     no-bad-file e = sound-said (badFiles k f) (sym e ∙ h)
+
+    pub files-held : {p : List (List ℕ)} → r ≡ Sound → p ≡ pairsRead k ++ pairsRead f → HeldBook k p × HeldFit f p
+    files-held e q = let both = sound-files k f (no-bad-file e) q in (both .0 .held, both .1 .held)
 
     pub files-lines : {v : Verdict} {p : List (List ℕ)} → r ≡ Sound → p ≡ pairsRead k ++ pairsRead f → v ≡ judged (bookOf k p) (fitOf f p) (map lineOf rows) → v ≡ checkedFiles k f rows
     files-lines e q w =

@@ -1,9 +1,9 @@
 -- What the definition promises: allowed exactly if no line is broken, else the first broken line and its count; items alone come in.
-use Prim.Native.Nat.{ℕ, suc, _+_, _*_, _≤_, _<_, _^_}
-use native.Mathlib.Nat.{mul-le-mul, mul-suc, mul-le-mul-left}
+use Prim.Native.Nat.{ℕ, suc, _+_, _*_, _≤_, _<_, _^_, suc-le-suc, zero-le}
+use native.Mathlib.Nat.{mul-le-mul, mul-suc}
 use native.Mathlib.Omega.{arith}
 use mathlib.Core.Path.{_≡_, refl, sym, ap, subst, _∙_}
-use mathlib.Core.Bool.{Bool, true, false, not, _&&_, cond}
+use mathlib.Core.Bool.{Bool, true, false, _&&_, cond, true≢false}
 use mathlib.Core.List.{List, [], _∷_, _++_, map}
 use mathlib.Core.Option.{Option, none, some}
 use lib.Dec.{eqb, ltb}
@@ -18,7 +18,7 @@ use Rattle.rules.specs.Bytes.{pairsOf}
 use Rattle.rules.specs.Sheet.{Book, Fit, bookOf, fitOf}
 use Rattle.rules.specs.Shape.{badShape}
 use Rattle.rules.specs.Files.{pairsIn, badFiles}
-use Rattle.rules.specs.Item.{isItem, isCharge, isSkill}
+use Rattle.rules.specs.Item.{isCharge, isSkill, isCalculated}
 use Rattle.rules.specs.declared.Item.{Item}
 use Rattle.tallies.specs.Tallies.{Line, lineOf, counts, counted, total, pieces, isPriceOf, numberOr0, pointsOf, points}
 use Rattle.tallies.specs.Chains.{Ordered}
@@ -32,15 +32,24 @@ use Rattle.tournament.proofs.Rising.{good-ordered}
 abbrev pub AllowedExactly : Verdict → List Line → List Item → Type 0
 AllowedExactly v ls os = (v ≡ allowed → every? (holds ls os) ls ≡ true) × (every? (holds ls os) ls ≡ true → v ≡ allowed)
 
+-- whether a line is broken
+breaking : Verdict → Bool
+breaking allowed = false
+breaking (breaks i c) = true
+breaking (shape t) = false
+breaking (rules i) = false
+
 -- what is told of the lines
 module _ (ls : List Line) (os : List Item) where
   told-allowed : {v : Verdict} → Told ls os 0 ls v → v ≡ allowed → every? (holds ls os) ls ≡ true
+  unfolding breaking
   told-allowed (none-broken e h) a = h
-  told-allowed (broken-first n c e f) a = let z : breaks n c ≡ allowed = sym e ∙ a in (cc)
+  told-allowed (broken-first n c e f) a = absurd (true≢false (ap breaking (sym e ∙ a)))
 
   told-broken : {v : Verdict} {n c : ℕ} → Told ls os 0 ls v → v ≡ breaks n c → First ls os 0 ls n c
-  told-broken {n = n} {c} (none-broken e h) b = let z : allowed ≡ breaks n c = sym e ∙ b in (cc)
-  told-broken {n = n} {c} (broken-first m d e f) b =
+  unfolding breaking
+  told-broken (none-broken e h) b = absurd (true≢false (ap breaking (sym b ∙ e)))
+  told-broken {n = n} {c = c} (broken-first m d e f) b =
       let z : breaks m d ≡ breaks n c = sym e ∙ b in
       subst (λ (x : ℕ). First ls os 0 ls x c) (ap brokenLine z) (subst (λ (x : ℕ). First ls os 0 ls m x) (ap countOf z) f)
 
@@ -57,9 +66,10 @@ module _ (k : Book) (f : Fit) (ls : List Line) where
       (λ a. told-allowed ls (counted k f) (told ls (counted k f) 0 ls) (sym (judged-by k f ls e) ∙ a), λ h. judged-by k f ls e ∙ all-hold ls (counted k f) 0 ls h)
 
   pub first-broken : {n c : ℕ} → judged k f ls ≡ breaks n c → First ls (counted k f) 0 ls n c
-  first-broken {n} {c} b =
+  unfolding breaking
+  first-broken b =
       by-table (λ e. told-broken ls (counted k f) (told ls (counted k f) 0 ls) (sym (judged-by k f ls e) ∙ b))
-      (λ i e. let z : rules i ≡ breaks n c = sym (judged-by k f ls e) ∙ b in (cc))
+      (λ i e. absurd (true≢false (ap breaking (sym b ∙ judged-by k f ls e))))
 
 -- of a sheet, and of a book and a fit
 pub of-sheet : (b : List ℕ) (rows : List (List ℕ)) → badShape b ≡ none → checked b rows ≡ judged (bookOf b (pairsOf b)) (fitOf b (pairsOf b)) (map lineOf rows)
@@ -80,13 +90,13 @@ not-there k xs ys o e =
     keep-append (counts k) xs (o ∷ ys) ∙ ap (λ (t : Bool). keep (counts k) xs ++ put t o (keep (counts k) ys)) e ∙ sym (keep-append (counts k) xs ys)
 
 no-item : (k : Book) (o : Item) {n : ℕ} → eqb (o .kind) n ≡ true → eqb n 3 ≡ false → counts k o ≡ false
-no-item k o {n} e h = rw (eqb-true (o .kind) n e, h) refl
+no-item k o {n} e h = ap (λ (m : ℕ). eqb m 3 && isCalculated k o) (eqb-true (o .kind) n e) ∙ ap (λ (b : Bool). b && isCalculated k o) h
 
 pub never-charges : (k : Book) (o : Item) → isCharge o ≡ true → counts k o ≡ false
-never-charges k o e = no-item k o e refl
+never-charges k o e = no-item k o {n = 4} e refl
 
 pub never-skills : (k : Book) (o : Item) → isSkill o ≡ true → counts k o ≡ false
-never-skills k o e = no-item k o e refl
+never-skills k o e = no-item k o {n = 5} e refl
 
 -- ---- "A type without a line costs 0"
 
@@ -104,14 +114,11 @@ total-most f m p h (o ∷ os) e =
 
 points-most : (ls : List Line) → ((i : ℕ) → i < length ls → getD ls i (lineOf []) .kind ≡ 0 → getD ls i (lineOf []) .number ≤ 65535) → (t : ℤ) → pointsOf ls t ≤ 65535
 points-most [] h t = omega arith
-points-most (l ∷ r) h t = by (isPriceOf t l) refl
+points-most (l ∷ r) h t = by (isPriceOf t l) refl (points-most r (λ i k e. h (suc i) (suc-le-suc k) e) t)
   where
-    rest : pointsOf r t ≤ 65535
-    rest = points-most r (λ i k e. h (suc i) (omega arith) e) t
-
-    by : (b : Bool) → isPriceOf t l ≡ b → numberOr0 (orElse b l (first (isPriceOf t) r)) ≤ 65535
-    by true e = h 0 (omega arith) (eqb-true (l .kind) 0 (and-left (eqb (l .kind) 0) (eqZ (l .id) t) e))
-    by false e = rest
+    by : (b : Bool) → isPriceOf t l ≡ b → pointsOf r t ≤ 65535 → numberOr0 (orElse b l (first (isPriceOf t) r)) ≤ 65535
+    by true e m = h 0 (suc-le-suc zero-le) (eqb-true (l .kind) 0 (and-left (eqb (l .kind) 0) (eqZ (l .id) t) e))
+    by false e m = m
 
 -- a sheet's quantities have 32 bits
 abbrev pub isNarrow : Item → Bool
@@ -127,8 +134,7 @@ module _ (ls : List Line) (os : List Item) (good : badFrom 0 none ls ≡ none) (
 
   points-small : points ls os ≤ 281470681677825 * 1024
   points-small =
-      let each = λ (o : Item) (e : isNarrow o ≡ true). cost o e in
-      let a = total-most (λ o. o .quantity * pointsOf ls (o .«type_id»)) 281470681677825 isNarrow each os narrow in
+      let a = total-most (λ o. o .quantity * pointsOf ls (o .«type_id»)) 281470681677825 isNarrow cost os narrow in
       omega (arith, a, few)
     where
       cost : (o : Item) → isNarrow o ≡ true → o .quantity * pointsOf ls (o .«type_id») ≤ 281470681677825

@@ -33,7 +33,7 @@ rise-of a b r = by (ltb (a .kind) (b .kind)) refl r
     by false h q = by-id (eqb-true (a .kind) (b .kind) (and-left (eqb (a .kind) (b .kind)) (ltZ (a .id) (b .id)) q)) (and-right (eqb (a .kind) (b .kind)) (ltZ (a .id) (b .id)) q)
 
 of-rise : (a b : Line) → Rise a b → rises a b ≡ true
-of-rise a b (by-kind h) = rw (lt-ltb (a .kind) (b .kind) h) refl
+of-rise a b (by-kind h) = ap (λ (t : Bool). t || (eqb (a .kind) (b .kind) && ltZ (a .id) (b .id))) (lt-ltb (a .kind) (b .kind) h)
 of-rise a b (by-id h q) =
     ap (λ (t : Bool). ltb (a .kind) (b .kind) || t) (and-both (eq-eqb (a .kind) (b .kind) h) q) ∙ or-true-right (ltb (a .kind) (b .kind))
 

@@ -26,7 +26,7 @@ ghost use Rattle.rules.specs.Sheet.{fitOf};
 ghost use Rattle.info.specs.At.{bookAt, fitAt};
 ghost use Rattle.info.specs.Sound.{HeldBook, HeldFit};
 ghost use Rattle.tallies.specs.Tallies.{lineOf, counted};
-ghost use Rattle.tallies.specs.Tallies as tally;
+ghost use Rattle.tallies.specs.Tallies as tallied;
 ghost use Rattle.tallies.specs.Chains.{Linked, Ordered};
 ghost use Rattle.tournament.specs.Tournament as rule;
 ghost use Rattle.tournament.specs.Answered.{badLine, verdictOf, answerOf, lineBefore};
@@ -65,7 +65,7 @@ pub struct Checked {
 
 // Whether a line comes strictly after another, by kind and id.
 fn rises(last: RuleLine, line: RuleLine) -> bool
-    ensures defined { λ r. ⌜ r ≡ tally.rises (lineOf last) (lineOf line) ⌝ }
+    ensures defined { λ r. ⌜ r ≡ tallied.rises (lineOf last) (lineOf line) ⌝ }
 {
     let before = signed(last[RULE_ID]);
     let own = signed(line[RULE_ID]);
@@ -121,7 +121,15 @@ fn most(line: RuleLine) -> u64
 }
 
 // What a line counts: the points of all, or the pieces in its group.
-fn tally(lines: &[RuleLine], heads: &Links, nexts: &Links, book: &[u8], fit: &[u8], pairs: &TablePairs, line: RuleLine) -> u64
+fn tally(
+    lines: &[RuleLine],
+    heads: &Links,
+    nexts: &Links,
+    book: &[u8],
+    fit: &[u8],
+    pairs: &TablePairs,
+    line: RuleLine,
+) -> u64
     requires ordered { ⌜ Ordered (map lineOf (now lines)) ⌝ }
     requires held_book { ⌜ HeldBook (now book) (now pairs) ⌝ }
     requires held_fit { ⌜ HeldFit (now fit) (now pairs) ⌝ }
@@ -146,13 +154,21 @@ fn is_broken(line: RuleLine, count: u64) -> bool
 }
 
 // The first broken line.
-fn first_broken(lines: &[RuleLine], heads: &Links, nexts: &Links, book: &[u8], fit: &[u8], pairs: &TablePairs) -> Verdict
+fn first_broken(
+    lines: &[RuleLine],
+    heads: &Links,
+    nexts: &Links,
+    book: &[u8],
+    fit: &[u8],
+    pairs: &TablePairs,
+) -> Verdict
     requires ordered { ⌜ Ordered (map lineOf (now lines)) ⌝ }
     requires held_book { ⌜ HeldBook (now book) (now pairs) ⌝ }
     requires held_fit { ⌜ HeldFit (now fit) (now pairs) ⌝ }
     requires linked { ⌜ Linked (fitOf (now fit) (now pairs)) (countOf (now pairs) 6) (now heads) (now nexts) ⌝ }
     ensures defined { λ r. let ls = map lineOf (now (lines .entry)) in
         ⌜ verdictOf r ≡ rule.verdictFrom ls (counted (bookAt book pairs) (fitAt fit pairs)) 0 ls ⌝ }
+    ensures no_wrap { λ r. ⌜ rule.countOf (verdictOf r) < 2 ^ 58 ⌝ }
 {
     let mut i = 0;
     while i < lines.len() {
@@ -171,6 +187,7 @@ fn judged(lines: &[RuleLine], book: &[u8], fit: &[u8], pairs: &TablePairs) -> Ve
     requires held_book { ⌜ HeldBook (now book) (now pairs) ⌝ }
     requires held_fit { ⌜ HeldFit (now fit) (now pairs) ⌝ }
     ensures defined { λ r. ⌜ verdictOf r ≡ rule.judged (bookAt book pairs) (fitAt fit pairs) (map lineOf (now (lines .entry))) ⌝ }
+    ensures no_wrap { λ r. ⌜ rule.countOf (verdictOf r) < 2 ^ 58 ⌝ }
 {
     let table = bad_line(lines);
     match table {
@@ -224,6 +241,7 @@ fn answer(v: Verdict) -> Checked
 #[no_mangle]
 pub extern "C" fn dogma_check_rules(lines: &[RuleLine], sheet: &[u8]) -> Checked
     ensures defined { λ r. ⌜ r ≡ answerOf (rule.checked (now (sheet .entry)) (now (lines .entry))) ⌝ }
+    ensures no_sum_wraps { λ r. ⌜ r .count < 2 ^ 58 ⌝ }
 {
     let verdict = shape(sheet);
     match verdict {
@@ -240,6 +258,7 @@ pub extern "C" fn dogma_check_rules(lines: &[RuleLine], sheet: &[u8]) -> Checked
 #[no_mangle]
 pub extern "C" fn dogma_check_rules_files(lines: &[RuleLine], book: &[u8], fit: &[u8]) -> Checked
     ensures defined { λ r. ⌜ r ≡ answerOf (rule.checkedFiles (now (book .entry)) (now (fit .entry)) (now (lines .entry))) ⌝ }
+    ensures no_sum_wraps { λ r. ⌜ r .count < 2 ^ 58 ⌝ }
 {
     let pairs = pairs_in(book, fit);
     let verdict = files_shape(book, fit, &pairs);

@@ -6,6 +6,13 @@ use Rattle.tallies.proofs.is_below.Tie as tie
 use Rattle.tallies.proofs.is_below.Reads as reads
 use Rattle.tallies.proofs.is_below.Lts as lts
 use Rattle.numbers.proofs.integers.signed.Reads as signed-reads
+use mathlib.Core.Path.{ap, _∙_}
+use lib.IntN.{ℤ}
+use mir.Syntax.{w32}
+use mir.Val.{toZ, ofZ}
+use mir.Facts.{toZ-ofZ}
+use Rattle.tallies.specs.Tallies.{lineOf}
+use Rattle.tallies.specs.Chains.{below}
 use Rattle.tallies.proofs.Prices.{below-told}
 
 array-read-signed : tie.Need-array-read-signed
@@ -18,7 +25,7 @@ array-read-result : tie.Need-array-read-result
 array-read-result c = search needs
 
 returns : tie.Need-returns
-returns c = below-told (c .before .args .id) (c .before .args .line) (c .signed .result) (c .signed .ensures .1)
+returns c = below-told (toZ w32 (ofZ w32 (c .before .args .id))) (c .before .args .t1) (c .signed .result) (c .signed .ensures .1) ∙ ap (λ (z : ℤ). below z (lineOf (c .before .args .t1))) (toZ-ofZ (c .before .fits .id))
 
 pub is-below-spec : {M : Type 1} → statement M
 is-below-spec = tie.close (tie.spec array-read-signed signed-requires array-read-result returns)

@@ -8,10 +8,11 @@ use Rattle.info.proofs.header.count_of.Reads as count-of-reads
 use Rattle.info.proofs.records.object.Reads as object-reads
 use Rattle.tallies.proofs.bucket.Reads as bucket-reads
 use borrow.Author.Needs.{needs}
-use Prim.Native.Nat.{_-_, _≤_}
+use Prim.Native.Nat.{ℕ, _-_, _≤_}
 use native.Mathlib.Omega.{arith}
 use borrow.Author.Needs.{sfits-of}
 use mathlib.Core.Path.{_≡_, refl, sym, ap, subst, _∙_}
+use Rattle.rules.specs.Bytes.{countOf}
 use Rattle.rules.specs.Item.{noItem}
 use Rattle.rules.specs.Sheet.{fitOf}
 use Rattle.rules.specs.declared.Item.{Item}
@@ -67,7 +68,7 @@ loop-again : tie.Need-loop-again Inv-loop μ-loop
 loop-again c = (omega (arith, c .before .before .before .before .loop-test .taken), linked-more (c .before .before .before .before .before .loop .inv .1) (omega (arith, c .before .before .before .before .loop-test .taken, c .before .before .before .before .before .before .count-of .ensures, c .before .before .before .before .before .before .before .before .pre .0 .objects .few)) (bucket-own (c .before .before .before .object .result .«group_id») (sfits-of (c .before .before .struct-told .given .1 .1 .1 .0 .1)) (c .before .bucket .ensures .0) ∙ ap (λ (o : Item). bucketOf (o .«group_id»)) (c .before .before .before .object .ensures noItem)) (c .before .bucket .ensures .1) refl)
 
 returns : tie.Need-returns Inv-loop μ-loop
-returns c = search needs
+returns c = subst (λ (m : ℕ). Linked (fitOf (c .before .before .before .before .args .fit .now) (c .before .before .before .before .args .pairs .now)) m (c .before .loop .heads) (c .before .loop .nexts)) (let e : (c .before .loop .i) ≡ countOf (c .before .before .before .before .args .pairs .now) 6 = omega (arith, c .before .loop .inv .0, c .loop-test .left, c .before .before .count-of .ensures) in e) (c .before .loop .inv .1)
 
 pub link-spec : {M : Type 1} → statement M
 link-spec =

@@ -49,7 +49,7 @@ index-requires : tie.Need-index-requires Inv-loop μ-loop
 index-requires c κs = search needs
 
 loop-holds : tie.Need-loop-holds Inv-loop μ-loop
-loop-holds c = walked-none (bookOf (c .before .before .before .before .before .before .args .book .now) (c .before .before .before .before .before .before .args .pairs .now)) (fitOf (c .before .before .before .before .before .before .args .fit .now) (c .before .before .before .before .before .before .args .pairs .now)) (toZ w32 (ofZ w32 (c .before .before .before .before .before .before .args .group))) _ (objects-length (c .before .before .before .before .before .before .args .fit .now) (c .before .before .before .before .before .before .args .pairs .now)) (c .before .before .before .before .before .before .pre .1 .0 .objects .few) (head-found (c .before .before .before .before .before .before .pre .1 .1) _ (c .before .before .bucket .ensures .0) (c .before .before .bucket .ensures .1) (c .index .ensures .0))
+loop-holds c = walked-none (bookOf (c .before .before .before .before .before .before .args .book .now) (c .before .before .before .before .before .before .args .pairs .now)) (fitOf (c .before .before .before .before .before .before .args .fit .now) (c .before .before .before .before .before .before .args .pairs .now)) (toZ w32 (ofZ w32 (c .before .before .before .before .before .before .args .group))) _ (objects-length (c .before .before .before .before .before .before .args .fit .now) (c .before .before .before .before .before .before .args .pairs .now)) (c .before .before .before .before .before .before .pre .1 .0 .objects .few) (head-found (c .before .before .before .before .before .before .pre .1 .1) (toZ w32 (ofZ w32 (c .before .before .before .before .before .before .args .group))) (c .before .before .bucket .ensures .0) (c .before .before .bucket .ensures .1) (c .index .ensures .0))
 
 sub-object : tie.Need-sub-object Inv-loop μ-loop
 sub-object c = search needs
@@ -79,7 +79,7 @@ index-requires-2 : tie.Need-index-requires-2 Inv-loop μ-loop
 index-requires-2 c κs = search needs
 
 loop-less : tie.Need-loop-less Inv-loop μ-loop
-loop-less c = search needs
+loop-less c = walked-less _ _ _ _ (objects-length (c .before .before .before .before .before .before .before .before .before .before .before .before .before .before .before .args .fit .now) (c .before .before .before .before .before .before .before .before .before .before .before .before .before .before .before .args .pairs .now)) (c .before .before .before .before .before .before .before .before .before .before .before .before .before .before .before .pre .1 .0 .objects .few) (c .before .before .before .before .before .before .before .before .loop .inv) (c .before .before .before .before .before .before .before .loop-test .taken) (c .before .before .before .before .before .before .before .before .before .before .before .before .before .before .before .pre .1 .1) (c .index2 .ensures .0)
 
 loop-again : tie.Need-loop-again Inv-loop μ-loop
 loop-again c = walked-more _ _ _ _ (objects-length (c .before .before .before .before .before .before .before .before .before .before .before .before .before .before .before .args .fit .now) (c .before .before .before .before .before .before .before .before .before .before .before .before .before .before .before .args .pairs .now)) (c .before .before .before .before .before .before .before .before .before .before .before .before .before .before .before .pre .1 .0 .objects .few) (c .before .before .before .before .before .before .before .before .loop .inv) (c .before .before .before .before .before .before .before .loop-test .taken) (c .before .before .before .before .before .before .before .before .before .before .before .before .before .before .before .pre .1 .1) (c .before .before .before .before .before .before .object .ensures noItem) (group-tested (bookOf (c .before .before .before .before .before .before .before .before .before .before .before .before .before .before .before .args .book .now) (c .before .before .before .before .before .before .before .before .before .before .before .before .before .before .before .args .pairs .now)) (c .before .before .before .before .before .before .object .result) (c .before .before .before .before .before .before .before .before .before .before .before .before .before .before .before .args .group) (sfits-of (c .before .before .before .struct-told .given .1 .1 .1 .0 .1)) (c .before .before .before .before .before .before .before .before .before .before .before .before .before .before .before .fits .group) (c .before .before .before .before .before .is-counted .ensures (bookOf (c .before .before .before .before .before .before .before .before .before .before .before .before .before .before .before .args .book .now) (c .before .before .before .before .before .before .before .before .before .before .before .before .before .before .before .args .pairs .now)) (c .before .before .before .before .before .before .before .before .before .before .before .before .categories-of .ensures))) (c .before .before .many .ensures .0) (c .before .before .many .ensures .1) (c .index2 .ensures .0)
