@@ -89,14 +89,14 @@ pub not-there : (k : Book) (xs ys : List Item) (o : Item) → counts k o ≡ fal
 not-there k xs ys o e =
     keep-append (counts k) xs (o ∷ ys) ∙ ap (λ (t : Bool). keep (counts k) xs ++ put t o (keep (counts k) ys)) e ∙ sym (keep-append (counts k) xs ys)
 
-no-item : (k : Book) (o : Item) {n : ℕ} → eqb (o .kind) n ≡ true → eqb n 3 ≡ false → counts k o ≡ false
-no-item k o {n} e h = ap (λ (m : ℕ). eqb m 3 && isCalculated k o) (eqb-true (o .kind) n e) ∙ ap (λ (b : Bool). b && isCalculated k o) h
+no-item : (k : Book) (o : Item) (n : ℕ) → eqb (o .kind) n ≡ true → eqb n 3 ≡ false → counts k o ≡ false
+no-item k o n e h = ap (λ (m : ℕ). eqb m 3 && isCalculated k o) (eqb-true (o .kind) n e) ∙ ap (λ (b : Bool). b && isCalculated k o) h
 
 pub never-charges : (k : Book) (o : Item) → isCharge o ≡ true → counts k o ≡ false
-never-charges k o e = no-item k o {n = 4} e refl
+never-charges k o e = no-item k o 4 e refl
 
 pub never-skills : (k : Book) (o : Item) → isSkill o ≡ true → counts k o ≡ false
-never-skills k o e = no-item k o {n = 5} e refl
+never-skills k o e = no-item k o 5 e refl
 
 -- ---- "A type without a line costs 0"
 

@@ -51,5 +51,5 @@ tally-group ls os r x e f h =
     h ∙ ap (λ (m : ℕ). pieces os (toZ w32 m)) f ∙ sym (ap (λ (b : Bool). cond b (points ls os) (pieces os (lineOf r .id))) (ne-eqb (getD r 0 0) 3 e))
 
 -- whether a count is over what was read
-pub over-told : (r : List ℕ) {m c : ℕ} → m ≡ most (lineOf r) → ltb 0 (getD r 0 0) && ltb m c ≡ isOver (lineOf r) c
-over-told r {c = c} e = ap (λ (n : ℕ). ltb 0 (getD r 0 0) && ltb n c) e
+pub over-told : (r : List ℕ) (c : ℕ) {m : ℕ} → m ≡ most (lineOf r) → ltb 0 (getD r 0 0) && ltb m c ≡ isOver (lineOf r) c
+over-told r c e = ap (λ (n : ℕ). ltb 0 (getD r 0 0) && ltb n c) e
