@@ -25,16 +25,16 @@ enum-known-v-3 : tie.Need-enum-known-v-3
 enum-known-v-3 c = search needs
 
 returns : tie.Need-returns
-returns c = cc
+returns c = sym (ap (λ (v : Verdict). answerOf (verdictOf v)) (c .enum-told .given .1))
 
 returns-2 : tie.Need-returns-2
-returns-2 c = cc
+returns-2 c = sym (ap (λ (v : Verdict). answerOf (verdictOf v)) (c .before .v .given .1))
 
 returns-3 : tie.Need-returns-3
-returns-3 c = cc
+returns-3 c = sym (ap (λ (v : Verdict). answerOf (verdictOf v)) (c .before .v2 .given .1))
 
 returns-4 : tie.Need-returns-4
-returns-4 c = cc
+returns-4 c = sym (ap (λ (v : Verdict). answerOf (verdictOf v)) (c .before .v3 .given .1))
 
 pub answer-spec : {M : Type 1} → statement M
 answer-spec =

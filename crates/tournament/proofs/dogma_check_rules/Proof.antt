@@ -40,7 +40,7 @@ returns : tie.Need-returns
 returns c = (c .answer .ensures ∙ ap answerOf (checked-shape (c .before .before .before .before .before .before .args .sheet .now) (c .before .before .before .before .before .before .args .lines .now) (c .before .before .before .before .shape .ensures) (c .before .before .verdict .given .1)), omega (arith, ap (λ (r : Checked). r .count) (c .answer .ensures)))
 
 returns-2 : tie.Need-returns-2
-returns-2 c = ?
+returns-2 c = (c .answer2 .ensures ∙ ap answerOf (checked-lines (c .before .before .before .before .before .before .before .before .args .sheet .now) (c .before .before .before .before .before .before .before .before .args .lines .now) (c .before .before .before .before .before .before .shape .ensures) (c .before .before .before .before .enum-told .given .1) (c .before .before .before .pairs-of .ensures) (c .before .judged .ensures .0)), omega (arith, ap (λ (r : Checked). r .count) (c .answer2 .ensures), c .before .judged .ensures .1))
 
 pub dogma-check-rules-spec : {M : Type 1} → statement M
 dogma-check-rules-spec =

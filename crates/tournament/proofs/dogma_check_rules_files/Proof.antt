@@ -40,7 +40,7 @@ returns : tie.Need-returns
 returns c = (c .answer .ensures ∙ ap answerOf (files-shape (c .before .before .before .before .before .before .before .before .before .args .book .now) (c .before .before .before .before .before .before .before .before .before .args .fit .now) (c .before .before .before .before .before .before .before .before .before .args .lines .now) (c .before .before .before .before .files-shape .ensures) (c .before .before .verdict .given .1)), omega (arith, ap (λ (r : Checked). r .count) (c .answer .ensures)))
 
 returns-2 : tie.Need-returns-2
-returns-2 c = ?
+returns-2 c = (c .answer2 .ensures ∙ ap answerOf (files-lines (c .before .before .before .before .before .before .before .before .before .before .args .book .now) (c .before .before .before .before .before .before .before .before .before .before .args .fit .now) (c .before .before .before .before .before .before .before .before .before .before .args .lines .now) (c .before .before .before .before .before .files-shape .ensures) (c .before .before .before .enum-told .given .1) (c .before .before .before .before .before .before .before .pairs-in .ensures) (c .before .judged .ensures .0)), omega (arith, ap (λ (r : Checked). r .count) (c .answer2 .ensures), c .before .judged .ensures .1))
 
 pub dogma-check-rules-files-spec : {M : Type 1} → statement M
 dogma-check-rules-files-spec =

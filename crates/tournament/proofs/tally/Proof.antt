@@ -21,7 +21,7 @@ points-requires : tie.Need-points-requires
 points-requires c κs = (c .before .before .before .pre .0, (c .before .before .before .pre .1 .0, c .before .before .before .pre .1 .1 .0))
 
 returns : tie.Need-returns
-returns c = (tally-total (map lineOf (c .before .before .before .before .args .lines .now)) (counted (bookOf (c .before .before .before .before .args .book .now) (c .before .before .before .before .args .pairs .now)) (fitOf (c .before .before .before .before .args .fit .now) (c .before .before .before .before .args .pairs .now))) (c .before .before .before .before .args .t1) (c .before .if1 .taken) (c .points .ensures .0), omega (arith, c .points .ensures .1))
+returns c = (tally-total (map lineOf (c .before .before .before .before .args .lines .now)) (counted (bookOf (c .before .before .before .before .args .book .now) (c .before .before .before .before .args .pairs .now)) (fitOf (c .before .before .before .before .args .fit .now) (c .before .before .before .before .args .pairs .now))) (c .before .before .before .before .args .t7) (c .before .if1 .taken) (c .points .ensures .0), omega (arith, c .points .ensures .1))
 
 array-read-signed : tie.Need-array-read-signed
 array-read-signed c = search needs
@@ -33,7 +33,7 @@ pieces-requires : tie.Need-pieces-requires
 pieces-requires c κs = (c .before .before .before .before .pre .1 .0, (c .before .before .before .before .pre .1 .1 .0, c .before .before .before .before .pre .1 .1 .1))
 
 returns-2 : tie.Need-returns-2
-returns-2 c = (tally-group (map lineOf (c .before .before .before .before .before .args .lines .now)) (counted (bookOf (c .before .before .before .before .before .args .book .now) (c .before .before .before .before .before .args .pairs .now)) (fitOf (c .before .before .before .before .before .args .fit .now) (c .before .before .before .before .before .args .pairs .now))) (c .before .before .before .before .before .args .t1) (c .before .signed .result) (c .before .before .if1 .left) (c .before .signed .ensures .1) (c .pieces .ensures .0), omega (arith, c .pieces .ensures .1))
+returns-2 c = (tally-group (map lineOf (c .before .before .before .before .before .args .lines .now)) (counted (bookOf (c .before .before .before .before .before .args .book .now) (c .before .before .before .before .before .args .pairs .now)) (fitOf (c .before .before .before .before .before .args .fit .now) (c .before .before .before .before .before .args .pairs .now))) (c .before .before .before .before .before .args .t7) (c .before .signed .result) (c .before .before .if1 .left) (c .before .signed .ensures .1) (c .pieces .ensures .0), omega (arith, c .pieces .ensures .1))
 
 pub tally-spec : {M : Type 1} → statement M
 tally-spec =
