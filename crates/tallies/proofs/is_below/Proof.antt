@@ -3,9 +3,6 @@
 use borrow.Author.Needs.{needs}
 use Rattle.tallies.proofs.is_below.Statement.{statement}
 use Rattle.tallies.proofs.is_below.Tie as tie
-use Rattle.tallies.proofs.is_below.Reads as reads
-use Rattle.tallies.proofs.is_below.Lts as lts
-use Rattle.numbers.proofs.integers.signed.Reads as signed-reads
 use mathlib.Core.Path.{ap, _∙_}
 use lib.IntN.{ℤ}
 use mir.Syntax.{w32}
@@ -15,17 +12,6 @@ use Rattle.tallies.specs.Tallies.{lineOf}
 use Rattle.tallies.specs.Chains.{below}
 use Rattle.tallies.proofs.Prices.{below-told}
 
-array-read-signed : tie.Need-array-read-signed
-array-read-signed c = search needs
-
-signed-requires : tie.Need-signed-requires
-signed-requires c κs = search needs
-
-array-read-result : tie.Need-array-read-result
-array-read-result c = search needs
-
-returns : tie.Need-returns
-returns c = below-told (toZ w32 (ofZ w32 (c .before .args .id))) (c .before .args .t1) (c .signed .result) (c .signed .ensures .1) ∙ ap (λ (z : ℤ). below z (lineOf (c .before .args .t1))) (toZ-ofZ (c .before .fits .id))
-
 pub is-below-spec : {M : Type 1} → statement M
-is-below-spec = tie.close (tie.spec array-read-signed signed-requires array-read-result returns)
+is-below-spec =
+    tie.close (tie.spec (λ c. search needs) (λ c κs. search needs) (λ c. search needs) (λ c. below-told (toZ w32 (ofZ w32 (c .before .args .id))) (c .before .args .t1) (c .signed .result) (c .signed .ensures .1) ∙ ap (λ (z : ℤ). below z (lineOf (c .before .args .t1))) (toZ-ofZ (c .before .fits .id))))
