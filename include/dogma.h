@@ -6,6 +6,7 @@
  * dogma_calculate_pilot does the same for up to 16 fits over one book of records, in one lent pool: see "several pilots" below.
  * dogma_admit and dogma_leave lend and take back that pool's rows as pilots come and go.
  * dogma_write_sheet makes a sheet's bytes of tables, dogma_write_book and dogma_write_fit the two parts: see "writing sheets" below.
+ * dogma_check_rules holds a sheet against an organiser's table of rules: see "tournament rules" below.
  * The engine allocates nothing, keeps nothing between calls, and may be called from several threads with lists of their own.
  * Any bytes are taken: a damaged sheet is refused with a number and a place. What is demanded of the caller, since the
  * engine cannot test it, stands at DOGMA_DEMANDS below; dogma_calculate_checked tests it, and DOGMA_LEND counts arrays
@@ -54,6 +55,7 @@ enum dogma_number {
     DOGMA_PILOT = 13,    /* of an admission or a leaving: the number as given; above 15, already in, or not in */
     DOGMA_LENGTH = 14,   /* of an admission: the number as given, which wants no row */
     DOGMA_TABLE = 18,    /* of an admission or a leaving, 0: what is lent is no state of the pool */
+    DOGMA_RULES = 11,    /* a line of a table of rules, from 0 */
     DOGMA_MISUSED = 256  /* not the engine's: a checked form found a demand broken; enum dogma_argument, dogma_pilot_argument */
 };
 
@@ -472,6 +474,32 @@ struct dogma_written dogma_write_fit(
     const double *buff_values, size_t buff_value_count,
     const dogma_ask *asks, size_t ask_count);
 
+/* ---- tournament rules
+ *
+ * An organiser's table is lines (kind, id, number), which ascend strictly by kind and, within a kind, by signed id:
+ *     { DOGMA_RULE_POINTS, type, points }     points of one piece of the type, at most 65,535; a type without a line costs 0
+ *     { DOGMA_RULE_MOST, group, pieces }      at most so many pieces in the group; a group without a line has no cap
+ *     { DOGMA_RULE_FORBIDDEN, group, 0 }      no piece in the group; the number is not read
+ *     { DOGMA_RULE_TOTAL, 0, points }         at most so many points in all
+ * Counted are calculated items by quantity: modules, services, drones, fighters, implants and boosters in slots that fit them,
+ * whatever their state; never the hull, charges, skills or what is projected (docs/FORMAT.md, "Tournament rules").
+ *
+ * number DOGMA_SHAPE with the bad table of the sheet, then DOGMA_RULES with the first bad line: the rest is 0. After DOGMA_DONE
+ * allowed is 1, and line and count are 0; or allowed is 0, line is the first broken line, from 0, and count what it counted.
+ */
+typedef uint32_t dogma_rule[3];
+enum dogma_rule_field { DOGMA_RULE_KIND = 0, DOGMA_RULE_ID = 1 /* signed */, DOGMA_RULE_NUMBER = 2 };
+enum dogma_rule_kind { DOGMA_RULE_POINTS = 0, DOGMA_RULE_MOST = 1, DOGMA_RULE_FORBIDDEN = 2, DOGMA_RULE_TOTAL = 3 };
+struct dogma_checked { uint64_t number, place, allowed, line, count; };
+
+/* Nothing is written, so lines and sheet may overlap. No pointer is null, also where its count is 0; lines are aligned to 4 bytes;
+ * the stack has 32 KiB left. */
+struct dogma_checked dogma_check_rules(const dogma_rule *lines, size_t line_count, const uint8_t *sheet, size_t sheet_length);
+
+/* The same of a book and a fit; SHAPE's place is 0 to 5 of the book, 20 more of the fit. */
+struct dogma_checked dogma_check_rules_files(
+    const dogma_rule *lines, size_t line_count, const uint8_t *book, size_t book_length, const uint8_t *fit, size_t fit_length);
+
 /* ---- the entries with their demands tested */
 
 /* the arguments, as MISUSED's place has them */
@@ -830,6 +858,7 @@ _Static_assert(sizeof(size_t) == 8 && sizeof(double) == 8, "the library is for 6
 _Static_assert(sizeof(struct dogma_answer) == 56, "seven numbers of 64 bits");
 _Static_assert(sizeof(struct dogma_stretch) == 8 && sizeof(struct dogma_seat) == 24, "two of 32 bits, three of 64");
 _Static_assert(sizeof(struct dogma_written) == 24, "three numbers of 64 bits");
+_Static_assert(sizeof(struct dogma_checked) == 40, "five numbers of 64 bits");
 
 /* An array and the number of its elements. A pointer, or an array of another row, does not compile. */
 #define DOGMA_ARRAY_(array, row) \

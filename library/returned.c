@@ -149,3 +149,25 @@ struct dogma_written dogma_write_fit(
         base_value_count, ids, id_count, buffs, buff_count, buff_values, buff_value_count, asks, ask_count);
     return written;
 }
+
+extern void dogma_check_rules_into(
+    struct dogma_checked *checked, const dogma_rule *lines, size_t line_count, const uint8_t *sheet, size_t sheet_length);
+
+struct dogma_checked dogma_check_rules(const dogma_rule *lines, size_t line_count, const uint8_t *sheet, size_t sheet_length)
+{
+    struct dogma_checked checked;
+    dogma_check_rules_into(&checked, lines, line_count, sheet, sheet_length);
+    return checked;
+}
+
+extern void dogma_check_rules_files_into(
+    struct dogma_checked *checked, const dogma_rule *lines, size_t line_count, const uint8_t *book, size_t book_length,
+    const uint8_t *fit, size_t fit_length);
+
+struct dogma_checked dogma_check_rules_files(
+    const dogma_rule *lines, size_t line_count, const uint8_t *book, size_t book_length, const uint8_t *fit, size_t fit_length)
+{
+    struct dogma_checked checked;
+    dogma_check_rules_files_into(&checked, lines, line_count, book, book_length, fit, fit_length);
+    return checked;
+}

@@ -24,6 +24,15 @@
 //! guest.calculate(&book, &fit)?;
 //! guest.with_fit(|fit| println!("{}", fit.row_count()));
 //! ```
+//! A fit against an organiser's table:
+//!
+//! ```ignore
+//! match check_rules(&[Rule::Points { of: 9, points: 3 }, Rule::Total { points: 5 }], &bytes) {
+//!     Ok(Verdict::Allowed) => println!("allowed"),
+//!     Ok(Verdict::Broken { line, count }) => println!("line {line} is broken by {count}"),
+//!     Err(refusal) => println!("{refusal}"),
+//! }
+//! ```
 //! The library to link is the one whose path `library/build` prints.
 #![allow(dead_code)]
 
@@ -61,6 +70,20 @@ struct Seat {
     place: u64,
     free: u64,
 }
+
+// Five numbers, as include/dogma.h has them.
+#[repr(C)]
+#[derive(Copy, Clone)]
+struct Checked {
+    number: u64,
+    place: u64,
+    allowed: u64,
+    line: u64,
+    count: u64,
+}
+
+// A line of an organiser's table: kind, id and number.
+type Line = [u32; 3];
 
 impl Answer {
     fn counts(&self) -> [usize; LISTS] {
@@ -155,6 +178,17 @@ unsafe extern "C" {
         count: u32,
         pilot: u32,
     ) -> Seat;
+
+    fn dogma_check_rules(lines: *const Line, line_count: usize, sheet: *const u8, sheet_length: usize) -> Checked;
+
+    fn dogma_check_rules_files(
+        lines: *const Line,
+        line_count: usize,
+        book: *const u8,
+        book_length: usize,
+        fit: *const u8,
+        fit_length: usize,
+    ) -> Checked;
 }
 
 /// A list that can be full.
@@ -735,6 +769,103 @@ impl Drop for Guest<'_> {
     }
 }
 
+/// A line of an organiser's table. A table ascends strictly: points by type, caps by group, forbidden groups, the total.
+#[derive(Debug, Copy, Clone, PartialEq, Eq)]
+pub enum Rule {
+    /// What one piece of a type costs, at most 65,535; a type without a line costs 0.
+    Points { of: i32, points: u32 },
+    /// At most so many pieces in a group; a group without a line has no cap.
+    Most { group: i32, pieces: u32 },
+    Forbidden { group: i32 },
+    /// At most so many points in all.
+    Total { points: u32 },
+}
+
+impl Rule {
+    fn line(self) -> Line {
+        match self {
+            Rule::Points { of, points } => [0, of as u32, points],
+            Rule::Most { group, pieces } => [1, group as u32, pieces],
+            Rule::Forbidden { group } => [2, group as u32, 0],
+            Rule::Total { points } => [3, 0, points],
+        }
+    }
+}
+
+/// What a sound table says of a sound fit.
+#[derive(Debug, Copy, Clone, PartialEq, Eq)]
+pub enum Verdict {
+    Allowed,
+    /// The first broken line, from 0, and what it counted: pieces in its group, or points of all.
+    Broken { line: usize, count: u64 },
+}
+
+/// Why a fit was not held against a table.
+#[derive(Debug, Copy, Clone, PartialEq, Eq)]
+pub enum CheckRefusal {
+    /// The sheet is damaged: the first bad table, 0 for the header.
+    Sheet { table: u32 },
+    /// The book is damaged: the first bad table, 1 to 5, 0 for its header.
+    Book { table: u32 },
+    /// The fit is damaged: the first bad table, 6 to 10, 0 for its header.
+    Fit { table: u32 },
+    /// The first line, from 0, that does not come strictly after the one before it, or costs too much.
+    Rules { line: usize },
+}
+
+impl CheckRefusal {
+    /// The library's number and place.
+    pub fn number_and_place(self) -> (u32, u64) {
+        match self {
+            CheckRefusal::Sheet { table } | CheckRefusal::Book { table } => (1, table.into()),
+            CheckRefusal::Fit { table } => (1, u64::from(table) + 20),
+            CheckRefusal::Rules { line } => (11, line as u64),
+        }
+    }
+}
+
+impl fmt::Display for CheckRefusal {
+    fn fmt(&self, f: &mut fmt::Formatter) -> fmt::Result {
+        let (file, table) = match self {
+            CheckRefusal::Rules { line } => return write!(f, "line {line} of the rules is bad"),
+            CheckRefusal::Sheet { table } => ("sheet", table),
+            CheckRefusal::Book { table } => ("book", table),
+            CheckRefusal::Fit { table } => ("fit", table),
+        };
+        if *table == 0 {
+            return write!(f, "the {file}'s header is bad");
+        }
+        write!(f, "the {file}'s table {table} is bad")
+    }
+}
+
+impl std::error::Error for CheckRefusal {}
+
+/// Holds a sheet against an organiser's table.
+pub fn check_rules(rules: &[Rule], sheet: &[u8]) -> Result<Verdict, CheckRefusal> {
+    let lines: Vec<Line> = rules.iter().map(|rule| rule.line()).collect();
+    // SAFETY: both are borrowed slices with their own lengths, and nothing is written.
+    let checked = unsafe { dogma_check_rules(lines.as_ptr(), lines.len(), sheet.as_ptr(), sheet.len()) };
+    verdict_of(checked, |table| CheckRefusal::Sheet { table })
+}
+
+/// Holds a book and a fit against an organiser's table.
+pub fn check_rules_files(rules: &[Rule], book: &[u8], fit: &[u8]) -> Result<Verdict, CheckRefusal> {
+    let lines: Vec<Line> = rules.iter().map(|rule| rule.line()).collect();
+    // SAFETY: all three are borrowed slices with their own lengths, and nothing is written.
+    let checked = unsafe { dogma_check_rules_files(lines.as_ptr(), lines.len(), book.as_ptr(), book.len(), fit.as_ptr(), fit.len()) };
+    verdict_of(checked, |table| if table >= 20 { CheckRefusal::Fit { table: table - 20 } } else { CheckRefusal::Book { table } })
+}
+
+fn verdict_of(checked: Checked, shape: fn(u32) -> CheckRefusal) -> Result<Verdict, CheckRefusal> {
+    match (checked.number, checked.allowed) {
+        (0, 1) => Ok(Verdict::Allowed),
+        (0, _) => Ok(Verdict::Broken { line: checked.line as usize, count: checked.count }),
+        (1, _) => Err(shape(checked.place as u32)),
+        _ => Err(CheckRefusal::Rules { line: checked.place as usize }),
+    }
+}
+
 // The used rows of each list.
 struct Lists<'a> {
     states: &'a States,
@@ -974,6 +1105,22 @@ mod tests {
         drop(second);
         drop(third);
         assert_eq!(hall.free(), [[0, 10]]);
+    }
+
+    #[test]
+    fn what_rules_allow() {
+        let sheet: &[u8] = include_bytes!("../../cases/L.sheet");
+        let table = |points| [Rule::Points { of: 9, points: 3 }, Rule::Most { group: 0, pieces: 2 }, Rule::Forbidden { group: -1 }, Rule::Total { points }];
+        assert_eq!(check_rules(&table(6), sheet), Ok(Verdict::Allowed));
+        assert_eq!(check_rules_files(&table(5), BOOK, FIT), Ok(Verdict::Broken { line: 3, count: 6 }));
+        assert_eq!(check_rules(&[Rule::Most { group: 0, pieces: 1 }], sheet), Ok(Verdict::Broken { line: 0, count: 2 }));
+        assert_eq!(check_rules(&[], sheet), Ok(Verdict::Allowed));
+        let twice = [Rule::Total { points: 1 }; 2];
+        assert_eq!(check_rules(&twice, sheet), Err(CheckRefusal::Rules { line: 1 }));
+        assert_eq!(check_rules(&twice, &sheet[..99]), Err(CheckRefusal::Sheet { table: 0 }));
+        assert_eq!(check_rules_files(&twice, &BOOK[1..], FIT), Err(CheckRefusal::Book { table: 0 }));
+        assert_eq!(check_rules_files(&twice, BOOK, &FIT[1..]), Err(CheckRefusal::Fit { table: 0 }));
+        assert_eq!(CheckRefusal::Fit { table: 6 }.number_and_place(), (1, 26));
     }
 
     #[test]

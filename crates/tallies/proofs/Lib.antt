@@ -1,0 +1,3 @@
+pub mod Sums
+pub mod Linking
+pub mod Prices

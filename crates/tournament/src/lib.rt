@@ -1,0 +1,272 @@
+// A fit checked against an organiser's lines: allowed, or the first broken line and the count that broke it.
+use columns::OBJECTS;
+use columns::TablePairs;
+use files::files_shape;
+use files::pairs_in;
+use info::header::pairs_of;
+use numbers::integers::signed;
+use shape::Shaped;
+use shape::shape;
+use tallies::Links;
+use tallies::RULE_ID;
+use tallies::RULE_KIND;
+use tallies::RULE_NUMBER;
+use tallies::RULE_POINTS;
+use tallies::RuleLine;
+use tallies::link;
+use tallies::pieces;
+use tallies::points;
+ghost use mathlib.Core.Path.{_≡_};
+ghost use mathlib.Core.List.{[], map};
+ghost use mathlib.Core.Option.{none};
+ghost use Prim.Native.Nat.{_<_, _^_};
+ghost use lib.ListN.{length, getD};
+ghost use Rattle.rules.specs.Bytes.{countOf};
+ghost use Rattle.rules.specs.Sheet.{fitOf};
+ghost use Rattle.info.specs.At.{bookAt, fitAt};
+ghost use Rattle.info.specs.Sound.{HeldBook, HeldFit};
+ghost use Rattle.tallies.specs.Tallies.{lineOf, counted};
+ghost use Rattle.tallies.specs.Tallies as tallied;
+ghost use Rattle.tallies.specs.Chains.{Linked, Ordered};
+ghost use Rattle.tournament.specs.Tournament as rule;
+ghost use Rattle.tournament.specs.Answered.{badLine, verdictOf, answerOf, lineBefore};
+
+// The kind of a line that forbids a group, and of the total.
+const RULE_FORBIDDEN: u32 = 2;
+
+const RULE_TOTAL: u32 = 3;
+
+// The most points of one piece.
+const MOST_POINTS: u32 = 65535;
+
+// The first bad line of a table.
+enum Table {
+    Good,
+    Bad(usize),
+}
+
+// The first broken line with its count; or the bad table of the records, or the bad line.
+enum Verdict {
+    Allowed,
+    Breaks(usize, u64),
+    Shape(u32),
+    Rules(usize),
+}
+
+// What comes back of a check.
+#[repr(C)]
+pub struct Checked {
+    pub number: u64,
+    pub place: u64,
+    pub allowed: u64,
+    pub line: u64,
+    pub count: u64,
+}
+
+// Whether a line comes strictly after another, by kind and id.
+fn rises(last: RuleLine, line: RuleLine) -> bool
+    ensures defined { λ r. ⌜ r ≡ tallied.rises (lineOf last) (lineOf line) ⌝ }
+{
+    let before = signed(last[RULE_ID]);
+    let own = signed(line[RULE_ID]);
+    (last[RULE_KIND] < line[RULE_KIND]) | ((last[RULE_KIND] == line[RULE_KIND]) & (before < own))
+}
+
+// Whether line i comes strictly after the one before it.
+fn stands(lines: &[RuleLine], i: usize) -> bool
+    requires inside { ⌜ i < length (now lines) ⌝ }
+    ensures defined { λ r. let ls = map lineOf (now (lines .entry)) in
+        ⌜ r ≡ rule.standsAfter (lineBefore ls i) (lineOf (getD (now (lines .entry)) i [])) ⌝ }
+{
+    if i == 0 {
+        return true;
+    }
+    rises(lines[i - 1], lines[i])
+}
+
+// Whether a line is good by itself: a known kind, points at most 65,535, a total of id 0.
+fn line_good(line: RuleLine) -> bool
+    ensures defined { λ r. ⌜ r ≡ rule.lineGood (lineOf line) ⌝ }
+{
+    let id = signed(line[RULE_ID]);
+    (line[RULE_KIND] <= RULE_TOTAL)
+        & ((line[RULE_KIND] != RULE_POINTS) | (line[RULE_NUMBER] <= MOST_POINTS))
+        & ((line[RULE_KIND] != RULE_TOTAL) | (id == 0))
+}
+
+// The first bad line.
+fn bad_line(lines: &[RuleLine]) -> Table
+    ensures defined { λ r. ⌜ badLine r ≡ rule.badFrom 0 none (map lineOf (now (lines .entry))) ⌝ }
+{
+    let mut i = 0;
+    while i < lines.len() {
+        let after = stands(lines, i);
+        let good = after & line_good(lines[i]);
+        if !good {
+            return Table::Bad(i);
+        }
+        i += 1;
+    }
+    Table::Good
+}
+
+// The most that a line allows.
+fn most(line: RuleLine) -> u64
+    ensures defined { λ r. ⌜ r ≡ rule.most (lineOf line) ⌝ }
+{
+    if line[RULE_KIND] == RULE_FORBIDDEN {
+        return 0;
+    }
+    line[RULE_NUMBER] as u64
+}
+
+// What a line counts: the points of all, or the pieces in its group.
+fn tally(
+    lines: &[RuleLine],
+    heads: &Links,
+    nexts: &Links,
+    book: &[u8],
+    fit: &[u8],
+    pairs: &TablePairs,
+    line: RuleLine,
+) -> u64
+    requires ordered { ⌜ Ordered (map lineOf (now lines)) ⌝ }
+    requires held_book { ⌜ HeldBook (now book) (now pairs) ⌝ }
+    requires held_fit { ⌜ HeldFit (now fit) (now pairs) ⌝ }
+    requires linked { ⌜ Linked (fitOf (now fit) (now pairs)) (countOf (now pairs) 6) (now heads) (now nexts) ⌝ }
+    ensures defined { λ r. let ls = map lineOf (now (lines .entry)) in
+        ⌜ r ≡ rule.tally ls (counted (bookAt book pairs) (fitAt fit pairs)) (lineOf line) ⌝ }
+    ensures no_wrap { λ r. ⌜ r < 2 ^ 58 ⌝ }
+{
+    if line[RULE_KIND] == RULE_TOTAL {
+        return points(lines, book, fit, pairs);
+    }
+    let group = signed(line[RULE_ID]);
+    pieces(heads, nexts, book, fit, pairs, group)
+}
+
+// Whether a line is broken by what it counts.
+fn is_broken(line: RuleLine, count: u64) -> bool
+    ensures defined { λ r. ⌜ r ≡ rule.isOver (lineOf line) count ⌝ }
+{
+    let allows = most(line);
+    (RULE_POINTS < line[RULE_KIND]) & (allows < count)
+}
+
+// The first broken line.
+fn first_broken(
+    lines: &[RuleLine],
+    heads: &Links,
+    nexts: &Links,
+    book: &[u8],
+    fit: &[u8],
+    pairs: &TablePairs,
+) -> Verdict
+    requires ordered { ⌜ Ordered (map lineOf (now lines)) ⌝ }
+    requires held_book { ⌜ HeldBook (now book) (now pairs) ⌝ }
+    requires held_fit { ⌜ HeldFit (now fit) (now pairs) ⌝ }
+    requires linked { ⌜ Linked (fitOf (now fit) (now pairs)) (countOf (now pairs) 6) (now heads) (now nexts) ⌝ }
+    ensures defined { λ r. let ls = map lineOf (now (lines .entry)) in
+        ⌜ verdictOf r ≡ rule.verdictFrom ls (counted (bookAt book pairs) (fitAt fit pairs)) 0 ls ⌝ }
+    ensures no_wrap { λ r. ⌜ rule.countOf (verdictOf r) < 2 ^ 58 ⌝ }
+{
+    let mut i = 0;
+    while i < lines.len() {
+        let line = lines[i];
+        let count = tally(lines, heads, nexts, book, fit, pairs, line);
+        if is_broken(line, count) {
+            return Verdict::Breaks(i, count);
+        }
+        i += 1;
+    }
+    Verdict::Allowed
+}
+
+// The verdict on a book and a fit that are sound: the table of lines first.
+fn judged(lines: &[RuleLine], book: &[u8], fit: &[u8], pairs: &TablePairs) -> Verdict
+    requires held_book { ⌜ HeldBook (now book) (now pairs) ⌝ }
+    requires held_fit { ⌜ HeldFit (now fit) (now pairs) ⌝ }
+    ensures defined { λ r. ⌜ verdictOf r ≡ rule.judged (bookAt book pairs) (fitAt fit pairs) (map lineOf (now (lines .entry))) ⌝ }
+    ensures no_wrap { λ r. ⌜ rule.countOf (verdictOf r) < 2 ^ 58 ⌝ }
+{
+    let table = bad_line(lines);
+    match table {
+        Table::Bad(i) => Verdict::Rules(i),
+        Table::Good => {
+            let mut heads = [0u32; OBJECTS];
+            let mut nexts = [0u32; OBJECTS];
+            link(&mut heads, &mut nexts, fit, pairs);
+            first_broken(lines, &heads, &nexts, book, fit, pairs)
+        }
+    }
+}
+
+// 01's number and place, and the rest of the answer.
+fn answer(v: Verdict) -> Checked
+    ensures defined { λ r. ⌜ r ≡ answerOf (verdictOf v) ⌝ }
+{
+    match v {
+        Verdict::Allowed => Checked {
+            number: 0,
+            place: 0,
+            allowed: 1,
+            line: 0,
+            count: 0,
+        },
+        Verdict::Breaks(i, c) => Checked {
+            number: 0,
+            place: 0,
+            allowed: 0,
+            line: i as u64,
+            count: c,
+        },
+        Verdict::Shape(t) => Checked {
+            number: 1,
+            place: t as u64,
+            allowed: 0,
+            line: 0,
+            count: 0,
+        },
+        Verdict::Rules(i) => Checked {
+            number: 11,
+            place: i as u64,
+            allowed: 0,
+            line: 0,
+            count: 0,
+        },
+    }
+}
+
+// A sheet against an organiser's lines: nothing is required, nothing is written.
+#[no_mangle]
+pub extern "C" fn dogma_check_rules(lines: &[RuleLine], sheet: &[u8]) -> Checked
+    ensures defined { λ r. ⌜ r ≡ answerOf (rule.checked (now (sheet .entry)) (now (lines .entry))) ⌝ }
+    ensures no_sum_wraps { λ r. ⌜ r .count < 2 ^ 58 ⌝ }
+{
+    let verdict = shape(sheet);
+    match verdict {
+        Shaped::Bad(t) => answer(Verdict::Shape(t)),
+        Shaped::Sound => {
+            let pairs = pairs_of(sheet);
+            let judgement = judged(lines, sheet, sheet, &pairs);
+            answer(judgement)
+        }
+    }
+}
+
+// The same of a book and a fit.
+#[no_mangle]
+pub extern "C" fn dogma_check_rules_files(lines: &[RuleLine], book: &[u8], fit: &[u8]) -> Checked
+    ensures defined { λ r. ⌜ r ≡ answerOf (rule.checkedFiles (now (book .entry)) (now (fit .entry)) (now (lines .entry))) ⌝ }
+    ensures no_sum_wraps { λ r. ⌜ r .count < 2 ^ 58 ⌝ }
+{
+    let pairs = pairs_in(book, fit);
+    let verdict = files_shape(book, fit, &pairs);
+    match verdict {
+        Shaped::Bad(t) => answer(Verdict::Shape(t)),
+        Shaped::Sound => {
+            let judgement = judged(lines, book, fit, &pairs);
+            answer(judgement)
+        }
+    }
+}
