@@ -2,6 +2,7 @@
 use super::collecting::collect_modifiers;
 use super::uses::is_used;
 use columns::CollectedRow;
+use columns::EffectPlaces;
 use columns::PlainRow;
 use columns::TablePairs;
 use info::look_ups::FoundEffect;
@@ -97,6 +98,7 @@ fn collect_effect(
     book: &[u8],
     fit: &[u8],
     pairs: &TablePairs,
+    places: &EffectPlaces,
     rooms: CollectedRooms,
     used: usize,
     used_plain: usize,
@@ -111,7 +113,7 @@ fn collect_effect(
     ensures defined { λ r.
         ⌜ Runs rooms r used «used_plain» (effectMoves (bookAt book pairs) (fitAt fit pairs) (w .item) t) collected «collected_values» plain ⌝ }
 {
-    let found = get_dogma_effect(book, pairs, t.effect_id);
+    let found = get_dogma_effect(book, pairs, places, t.effect_id);
     match found {
         FoundEffect::At(e) => collect_found(
             collected,
@@ -139,6 +141,7 @@ fn collect_new(
     book: &[u8],
     fit: &[u8],
     pairs: &TablePairs,
+    places: &EffectPlaces,
     rooms: CollectedRooms,
     used: usize,
     used_plain: usize,
@@ -166,6 +169,7 @@ fn collect_new(
         book,
         fit,
         pairs,
+        places,
         rooms,
         used,
         used_plain,
@@ -182,6 +186,7 @@ fn collect_run(
     book: &[u8],
     fit: &[u8],
     pairs: &TablePairs,
+    places: &EffectPlaces,
     rooms: CollectedRooms,
     used: usize,
     used_plain: usize,
@@ -214,6 +219,7 @@ fn collect_run(
             book,
             fit,
             pairs,
+            places,
             rooms,
             a,
             b,
@@ -240,6 +246,7 @@ pub fn collect_effects(
     book: &[u8],
     fit: &[u8],
     pairs: &TablePairs,
+    places: &EffectPlaces,
     rooms: CollectedRooms,
     used: usize,
     used_plain: usize,
@@ -253,7 +260,7 @@ pub fn collect_effects(
     ensures defined { λ r. ⌜ Runs rooms r used «used_plain» (ownMoves (bookAt book pairs) (fitAt fit pairs) (w .item)) collected «collected_values» plain ⌝ }
 {
     let o = w.item;
-    let own = get_dogma_effects(book, pairs, o.type_id);
+    let own = get_dogma_effects(book, pairs, places, o.type_id);
     let none = TypeEffects { first: 0, count: 0 };
     let got = collect_run(
         collected,
@@ -262,6 +269,7 @@ pub fn collect_effects(
         book,
         fit,
         pairs,
+        places,
         rooms,
         used,
         used_plain,
@@ -274,7 +282,7 @@ pub fn collect_effects(
     }
     match got {
         Counted::At(a, b) => {
-            let base = get_dogma_effects(book, pairs, o.mutation_base);
+            let base = get_dogma_effects(book, pairs, places, o.mutation_base);
             collect_run(
                 collected,
                 collected_values,
@@ -282,6 +290,7 @@ pub fn collect_effects(
                 book,
                 fit,
                 pairs,
+                places,
                 rooms,
                 a,
                 b,

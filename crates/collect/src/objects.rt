@@ -7,6 +7,7 @@ use super::owners::hull_of;
 use super::owners::owner_of;
 use super::projected::collect_projected;
 use columns::CollectedRow;
+use columns::EffectPlaces;
 use columns::PlainRow;
 use columns::TABLE_OBJECTS;
 use columns::TablePairs;
@@ -55,6 +56,7 @@ fn collect_object(
     book: &[u8],
     fit: &[u8],
     pairs: &TablePairs,
+    places: &EffectPlaces,
     rooms: CollectedRooms,
     used: usize,
     used_plain: usize,
@@ -86,6 +88,7 @@ fn collect_object(
             book,
             fit,
             pairs,
+            places,
             rooms,
             used,
             used_plain,
@@ -99,6 +102,7 @@ fn collect_object(
         book,
         fit,
         pairs,
+        places,
         rooms,
         used,
         used_plain,
@@ -114,6 +118,7 @@ fn collect_objects(
     book: &[u8],
     fit: &[u8],
     pairs: &TablePairs,
+    places: &EffectPlaces,
     rooms: CollectedRooms,
     used: usize,
     used_plain: usize,
@@ -140,6 +145,7 @@ fn collect_objects(
             book,
             fit,
             pairs,
+            places,
             rooms,
             a,
             b,
@@ -166,6 +172,7 @@ fn collect_phases(
     book: &[u8],
     fit: &[u8],
     pairs: &TablePairs,
+    places: &EffectPlaces,
     rooms: CollectedRooms,
     used: usize,
     used_plain: usize,
@@ -188,6 +195,7 @@ fn collect_phases(
         book,
         fit,
         pairs,
+        places,
         rooms,
         used,
         used_plain,
@@ -202,6 +210,7 @@ fn collect_phases(
             book,
             fit,
             pairs,
+            places,
             rooms,
             a,
             b,
@@ -220,6 +229,7 @@ fn collect_rest(
     book: &[u8],
     fit: &[u8],
     pairs: &TablePairs,
+    places: &EffectPlaces,
     rooms: CollectedRooms,
     used: usize,
     used_plain: usize,
@@ -252,6 +262,7 @@ fn collect_rest(
                 book,
                 fit,
                 pairs,
+                places,
                 rooms,
                 a,
                 b,
@@ -272,6 +283,7 @@ pub fn collect(
     book: &[u8],
     fit: &[u8],
     pairs: &TablePairs,
+    places: &EffectPlaces,
     room: usize,
     room_plain: usize,
 ) -> Counted
@@ -297,6 +309,7 @@ pub fn collect(
         book,
         fit,
         pairs,
+        places,
         rooms,
         0,
         0,
@@ -312,6 +325,7 @@ pub fn collect(
             book,
             fit,
             pairs,
+            places,
             rooms,
             a,
             b,

@@ -1,6 +1,7 @@
 // Projected objects.
 use super::collecting::collect_modifiers;
 use columns::CollectedRow;
+use columns::EffectPlaces;
 use columns::TablePairs;
 use info::look_ups::FoundBase;
 use info::look_ups::FoundEffect;
@@ -115,6 +116,7 @@ pub fn collect_projected(
     book: &[u8],
     fit: &[u8],
     pairs: &TablePairs,
+    places: &EffectPlaces,
     rooms: CollectedRooms,
     used: usize,
     used_plain: usize,
@@ -129,7 +131,7 @@ pub fn collect_projected(
         ⌜ RunsCollected rooms r used «used_plain» (projectedMoves (bookAt book pairs) (fitAt fit pairs) (w .item)) collected «collected_values» ⌝ }
 {
     let o = w.item;
-    let found = get_dogma_effect(book, pairs, o.projected_effect);
+    let found = get_dogma_effect(book, pairs, places, o.projected_effect);
     match found {
         FoundEffect::At(e) => {
             let resistance = get_resistance(fit, pairs, o, e);

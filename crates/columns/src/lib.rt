@@ -35,6 +35,20 @@ pub const LIMIT_MARKS: usize = 1024;
 
 pub type Limits = [u32; LIMIT_MARKS];
 
+// Places told of the book's records, by ids modulo so many: of an effect and of the first of a type's effects; of an attribute.
+// What is told may be wrong: it is tested where it is used.
+pub const EFFECT_SLOTS: usize = 1024;
+
+pub type EffectPlaces = [[u16; 2]; EFFECT_SLOTS];
+
+pub const PLACE_EFFECT: usize = 0;
+
+pub const PLACE_TYPE: usize = 1;
+
+pub const ATTRIBUTE_SLOTS: usize = 4096;
+
+pub type AttributePlaces = [u16; ATTRIBUTE_SLOTS];
+
 // List 1, collected effects.
 pub const COLLECTED_WIDTH: usize = 14;
 
@@ -85,10 +99,15 @@ pub const ROW_FIRST_SOURCE: usize = 4;
 
 pub const ROW_SOURCE_COUNT: usize = 5;
 
-// List 3, entries. Until `entries` writes them out, number 0 is a hit's effect and number 1 the effect at a place.
+// List 3, entries. While hits are counted, numbers 1 and 2 keep a hit's effect and object. Until `entries` writes them out, number 0 is
+// a hit's effect and number 1 the effect at a place.
 pub const ENTRY_WIDTH: usize = 12;
 
 pub type EntryRow = [u32; ENTRY_WIDTH];
+
+pub const ENTRY_KEPT_EFFECT: usize = 1;
+
+pub const ENTRY_KEPT_OBJECT: usize = 2;
 
 pub const ENTRY_HIT: usize = 0;
 
@@ -176,6 +195,10 @@ pub type OperatorMarks = [u32; OPERATORS];
 
 // The tables of a sheet that are counted by their numbers.
 pub const TABLE_ATTRIBUTES: usize = 1;
+
+pub const TABLE_EFFECTS: usize = 2;
+
+pub const TABLE_TYPE_EFFECTS: usize = 4;
 
 pub const TABLE_OBJECTS: usize = 6;
 

@@ -1,4 +1,5 @@
 // Dispatch (pass_2.rs, second half): the rows and entries of all objects, or the list that is full first.
+use columns::AttributePlaces;
 use columns::AttributeRow;
 use columns::CollectedRow;
 use columns::EntryRow;
@@ -39,6 +40,7 @@ pub fn dispatch(
     book: &[u8],
     fit: &[u8],
     pairs: &TablePairs,
+    places: &AttributePlaces,
     n: usize,
     room: usize,
     room_entries: usize,
@@ -76,6 +78,7 @@ pub fn dispatch(
         book,
         fit,
         pairs,
+        places,
         room,
     );
     let Laid::Rows(k) = laid else {

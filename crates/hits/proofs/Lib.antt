@@ -17,6 +17,7 @@ pub mod Walking
 pub mod Gathering
 pub mod Gates
 pub mod Filling
+pub mod Placed
 pub mod Numbering
 pub mod Segmenting
 pub mod Cutting

@@ -19,7 +19,7 @@ use mir.ValLaws.{toZ-ofZ}
 use Rattle.laws.specs.Lists.{eqZ, first, from}
 use Rattle.laws.proofs.From.{from-at, from-length}
 use Rattle.laws.proofs.Signs.{tested-same, tested-apart}
-use Rattle.laws.proofs.Search.{Between, Falls, lessThan, hasKey, between-start, falls-less, lower-found, lower-missing, lower-past, run-is, upper-walked}
+use Rattle.laws.proofs.Search.{Between, Falls, lessThan, hasKey, between-start, between-up, between-down, falls-less, lower-found, lower-missing, lower-past, run-is, upper-walked}
 use Rattle.laws.proofs.Windows.{Counted, counted-more, narrowed}
 use Rattle.info.specs.LookUps.{keyAt, Keyed, Bounds, Lower, RunTo}
 use Rattle.info.proofs.Elements.{kept}
@@ -87,6 +87,21 @@ module _ (b : List ℕ) (at w n : ℕ) where
       bounds-narrowed lo left q i m four e p e2 p2 e3 p3 =
           let high = bounds-high h i in
           narrowed (lessThan (keyAt b at w) a) (from 0 n) 0 falls q i m four (stepped q (lo + q - 1) (omega arith) e p) (stepped q (lo + 2 * q - 1) (omega arith) e2 p2) (stepped q (lo + 3 * q - 1) (omega arith) e3 p3)
+
+      -- a told place whose key is not less, and the one before it is: the first such
+      pub told-first : {t : Bool} (k : ℕ) → k < n → k ≡ 0 → ltZ (keyAt b at w k) a ≡ t → t ≡ false → Lower b at w n a k
+      told-first k l z e f =
+          subst (λ (m : ℕ). Bounds b at w n a m k) (sym z)
+          (between-down (lessThan (keyAt b at w) a) (from 0 n) 0 falls bounds-start k (omega arith) l (ap (lessThan (keyAt b at w) a) (there k l) ∙ e ∙ f))
+
+      pub told-is : {t : Bool} (k : ℕ) → k < n → 0 < k → ltZ (keyAt b at w k) a ≡ t → t ≡ false → ltZ (keyAt b at w (k - 1)) a ≡ true → Lower b at w n a k
+      told-is k l p e f g =
+          let high = between-down (lessThan (keyAt b at w) a) (from 0 n) 0 falls bounds-start k (omega arith) l (ap (lessThan (keyAt b at w) a) (there k l) ∙ e ∙ f) in
+          let low = between-up (lessThan (keyAt b at w) a) (from 0 n) 0 falls high (k - 1) (omega arith) (omega arith) (ap (lessThan (keyAt b at w) a) (there (k - 1) (omega arith)) ∙ g) in
+          subst (λ (m : ℕ). Bounds b at w n a m k) same low
+        where
+          same : k - 1 + 1 ≡ k
+          same = omega arith
 
       pub counts-more : {k found x : ℕ} {t : Bool} → CountedBelow k found → k < n → ltZ (keyAt b at w k) a ≡ t → x ≡ cond t 1 0 → CountedBelow (k + 1) (found + x)
       counts-more {k} c l e p = counted-more (lessThan (keyAt b at w) a) (from 0 n) 0 falls c (rw (from-length 0 n) l) (stepped 1 k l e p)

@@ -2,5 +2,6 @@
 pub mod header;
 pub mod little_endian;
 pub mod look_ups;
+pub mod places;
 pub mod records;
 pub mod standing;

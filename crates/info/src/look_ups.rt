@@ -3,10 +3,17 @@ use super::header::count_of;
 use super::header::offset_of;
 use super::little_endian::i32_at;
 use super::little_endian::index;
+use super::places::attribute_slot;
+use super::places::effect_slot;
+use super::places::place_of;
 use super::records::attribute;
 use super::records::base_attribute;
 use super::records::buff_collection;
 use super::records::effect;
+use columns::AttributePlaces;
+use columns::EffectPlaces;
+use columns::PLACE_EFFECT;
+use columns::PLACE_TYPE;
 use columns::TablePairs;
 use laws::Window;
 use laws::step;
@@ -96,12 +103,33 @@ fn lower(b: &[u8], at: usize, w: usize, n: usize, id: i32) -> usize
     found
 }
 
-// The first of n records whose key is the one sought.
-fn find(b: &[u8], at: usize, w: usize, n: usize, id: i32) -> Found
+// The same where a place is told, which may be wrong: its key and the one before it say whether it is the first.
+fn lower_at(b: &[u8], at: usize, w: usize, n: usize, id: i32, told: usize) -> usize
+    requires { ⌜ Keyed (now b) at w n ⌝ }
+    ensures { λ r. ⌜ Lower (now (b .entry)) at w n id r ⌝ }
+{
+    if told < n {
+        let key = key_at(b, at, w, told);
+        let less = key < id;
+        if !less {
+            if told == 0 {
+                return told;
+            }
+            let before = key_at(b, at, w, told - 1);
+            if before < id {
+                return told;
+            }
+        }
+    }
+    lower(b, at, w, n, id)
+}
+
+// The first of n records whose key is the one sought, where a place is told.
+fn find(b: &[u8], at: usize, w: usize, n: usize, id: i32, told: usize) -> Found
     requires { ⌜ Keyed (now b) at w n ⌝ }
     ensures { λ r. ⌜ placeFound r ≡ first (λ k. eqZ (keyAt (now (b .entry)) at w k) id) (from 0 n) ⌝ }
 {
-    let low = lower(b, at, w, n, id);
+    let low = lower_at(b, at, w, n, id, told);
     if low < n {
         let key = key_at(b, at, w, low);
         if key == id {
@@ -130,11 +158,11 @@ fn run_end(b: &[u8], at: usize, w: usize, n: usize, id: i32, low: usize) -> usiz
 }
 
 // A missing attribute record: not stackable, high not good, default 0.0.
-pub fn get_dogma_attribute(book: &[u8], pairs: &TablePairs, id: i32) -> DogmaAttribute
+fn attribute_by(book: &[u8], pairs: &TablePairs, id: i32, told: usize) -> DogmaAttribute
     requires sound_book { ⌜ SoundBook (now book) (now pairs) ⌝ }
     ensures defined { λ r. ⌜ r ≡ getDogmaAttribute (bookAt book pairs) id ⌝ }
 {
-    let found = find(book, offset_of(pairs, 1), 24, count_of(pairs, 1), id);
+    let found = find(book, offset_of(pairs, 1), 24, count_of(pairs, 1), id, told);
     let Found::At(i) = found else {
         return DogmaAttribute {
             id: id,
@@ -147,12 +175,47 @@ pub fn get_dogma_attribute(book: &[u8], pairs: &TablePairs, id: i32) -> DogmaAtt
     attribute(book, pairs, i)
 }
 
+// The attribute of an id.
+pub fn get_dogma_attribute(book: &[u8], pairs: &TablePairs, id: i32) -> DogmaAttribute
+    requires sound_book { ⌜ SoundBook (now book) (now pairs) ⌝ }
+    ensures defined { λ r. ⌜ r ≡ getDogmaAttribute (bookAt book pairs) id ⌝ }
+{
+    attribute_by(book, pairs, id, 0)
+}
+
+// The same where its place is told.
+pub fn get_told_attribute(
+    book: &[u8],
+    pairs: &TablePairs,
+    places: &AttributePlaces,
+    id: i32,
+) -> DogmaAttribute
+    requires sound_book { ⌜ SoundBook (now book) (now pairs) ⌝ }
+    ensures defined { λ r. ⌜ r ≡ getDogmaAttribute (bookAt book pairs) id ⌝ }
+{
+    let told = places[attribute_slot(id)];
+    attribute_by(book, pairs, id, place_of(told))
+}
+
 // The effect of an id; one may be missing.
-pub fn get_dogma_effect(book: &[u8], pairs: &TablePairs, id: i32) -> FoundEffect
+pub fn get_dogma_effect(
+    book: &[u8],
+    pairs: &TablePairs,
+    places: &EffectPlaces,
+    id: i32,
+) -> FoundEffect
     requires sound_book { ⌜ SoundBook (now book) (now pairs) ⌝ }
     ensures defined { λ r. ⌜ effectFound r ≡ getDogmaEffect (bookAt book pairs) id ⌝ }
 {
-    let found = find(book, offset_of(pairs, 2), 24, count_of(pairs, 2), id);
+    let told = places[effect_slot(id)][PLACE_EFFECT];
+    let found = find(
+        book,
+        offset_of(pairs, 2),
+        24,
+        count_of(pairs, 2),
+        id,
+        place_of(told),
+    );
     let Found::At(i) = found else {
         return FoundEffect::Nothing;
     };
@@ -164,7 +227,7 @@ pub fn get_dbuff_collection(book: &[u8], pairs: &TablePairs, id: i32) -> FoundCo
     requires sound_book { ⌜ SoundBook (now book) (now pairs) ⌝ }
     ensures defined { λ r. ⌜ collectionFound r ≡ getDbuffCollection (bookAt book pairs) id ⌝ }
 {
-    let found = find(book, offset_of(pairs, 5), 16, count_of(pairs, 5), id);
+    let found = find(book, offset_of(pairs, 5), 16, count_of(pairs, 5), id, 0);
     let Found::At(i) = found else {
         return FoundCollection::Nothing;
     };
@@ -172,14 +235,20 @@ pub fn get_dbuff_collection(book: &[u8], pairs: &TablePairs, id: i32) -> FoundCo
 }
 
 // The effects of a type stand together.
-pub fn get_dogma_effects(book: &[u8], pairs: &TablePairs, id: i32) -> TypeEffects
+pub fn get_dogma_effects(
+    book: &[u8],
+    pairs: &TablePairs,
+    places: &EffectPlaces,
+    id: i32,
+) -> TypeEffects
     requires sound_book { ⌜ SoundBook (now book) (now pairs) ⌝ }
     ensures together { λ r. let k = bookAt book pairs in
         ⌜ Stretch (getDogmaEffects k id) (k .typeEffects) (r .first) (r .count) ⌝ }
 {
     let at = offset_of(pairs, 4);
     let n = count_of(pairs, 4);
-    let low = lower(book, at, 12, n, id);
+    let told = places[effect_slot(id)][PLACE_TYPE];
+    let low = lower_at(book, at, 12, n, id, place_of(told));
     let end = run_end(book, at, 12, n, id, low);
     TypeEffects {
         first: low,
@@ -196,7 +265,7 @@ pub fn get_base(fit: &[u8], pairs: &TablePairs, o: Item, id: i32) -> FoundBase
     let first = index(o.first_attribute);
     let n = index(o.attributes);
     let at = offset_of(pairs, 7) + 12 * first;
-    let found = find(fit, at, 12, n, id);
+    let found = find(fit, at, 12, n, id, 0);
     let Found::At(i) = found else {
         return FoundBase::Nothing;
     };

@@ -8,7 +8,7 @@ use mathlib.Core.List.{List, [], _∷_}
 use mathlib.Core.Logic.{_⊎_, inl, inr, ⊎-elim}
 use lib.Dec.{eqb, ltb}
 use lib.IntN.{ℤ}
-use lib.ListN.{length, getD, set, replicate, length-set, length-replicate}
+use lib.ListN.{length, getD, set, replicate, length-set, length-replicate, getD-replicate}
 use lib.Seq.{getD-set-same, getD-set-other}
 use lib.Signed.{ltZ}
 use borrow.Author.Tests.{eqb-true, ltb-true, ltb-false}
@@ -73,7 +73,7 @@ record Stretch (rs : List Row) (o first end : ℕ) : Type 0 where
   own : OfObject o rs first end
   after : (i : ℕ) → i < length rs → end ≤ i → o < getD rs i noRow .object
 
--- the rows from first on are of object o and later ones, and the stretches of all before are laid
+-- the rows from first on are of object o and later ones, the stretches of all before are laid, and those of the others stand at the end
 pub record Laying (c t : List (List ℕ)) (o first : ℕ) : Type 0 where
   pub few : o ≤ 1024
   pub long : length t ≡ 1024
@@ -81,9 +81,11 @@ pub record Laying (c t : List (List ℕ)) (o first : ℕ) : Type 0 where
   below : (rs : List Row) → RowsHeld rs c → (i : ℕ) → i < first → getD rs i noRow .object < o
   above : (rs : List Row) → RowsHeld rs c → (i : ℕ) → first ≤ i → i < length rs → o ≤ getD rs i noRow .object
   laid : (rs : List Row) → RowsHeld rs c → (p : ℕ) → p < o → Stretch rs p (getD (getD t p []) 0 0) (getD (getD t p []) 1 0)
+  rest : (p : ℕ) → o ≤ p → p < 1024 → getD t p [] ≡ length c ∷ length c ∷ []
 
-pub laying-none : {c : List (List ℕ)} (row : List ℕ) → Laying c (replicate 1024 row) 0 0
-laying-none row =
+pub laying-none : {c : List (List ℕ)} → Laying c (replicate 1024 (length c ∷ length c ∷ [])) 0 0
+laying-none {c} =
+    let row = length c ∷ length c ∷ [] in
     record {
       few = omega arith;
       long = length-replicate 1024 row;
@@ -91,6 +93,7 @@ laying-none row =
       below = λ rs H i l. absurd (omega arith);
       above = λ rs H i l h. omega arith;
       laid = λ rs H p l. absurd (omega arith);
+      rest = λ p l h. getD-replicate 1024 p row [] h;
     }
 
 module _ {c t : List (List ℕ)} {o first : ℕ} (L : Laying c t o first) where
@@ -126,6 +129,7 @@ module _ {c t : List (List ℕ)} {o first : ℕ} (L : Laying c t o first) where
           below = below-next;
           above = λ rs H i l m. omega (arith, after-end rs H i m l);
           laid = λ rs H p l. at rs H p (eq-or-lt-of-le {n = p} {m = o} (omega arith));
+          rest = λ p l m. getD-set-other t k p (first ∷ end ∷ []) [] (λ s. absurd (omega (arith, s, e))) ∙ L .rest p (omega arith) m;
         }
       where
         at : (rs : List Row) → RowsHeld rs c → (p : ℕ) → (p ≡ o) ⊎ (p < o) → Stretch rs p (getD (getD (set t k (first ∷ end ∷ [])) p []) 0 0) (getD (getD (set t k (first ∷ end ∷ [])) p []) 1 0)
@@ -143,3 +147,25 @@ module _ {c t : List (List ℕ)} {o first : ℕ} (L : Laying c t o first) where
         own = λ p l. L .laid rs H p (omega arith) .own;
         after = λ p i l. L .laid rs H p (omega arith) .after i;
       }
+
+  -- all rows are passed: behind them all stretches are empty
+  pub laying-short : length c ≤ first → (rs : List Row) → RowsHeld rs c → Stretched rs t
+  laying-short h rs H =
+      record {
+        inside = λ p l. at p l (true-or-false (ltb p o)) .inside;
+        before = λ p i l. at p l (true-or-false (ltb p o)) .before i;
+        own = λ p l. at p l (true-or-false (ltb p o)) .own;
+        after = λ p i l. at p l (true-or-false (ltb p o)) .after i;
+      }
+    where
+      at : (p : ℕ) → p < 1024 → (ltb p o ≡ true) ⊎ (ltb p o ≡ false) → Stretch rs p (getD (getD t p []) 0 0) (getD (getD t p []) 1 0)
+      at p l (inl q) = L .laid rs H p (ltb-true p o q)
+      at p l (inr q) =
+          let later : o ≤ p = ltb-false p o q in
+          subst (λ (row : List ℕ). Stretch rs p (getD row 0 0) (getD row 1 0)) (sym (L .rest p later l))
+          (record {
+            inside = (omega arith, omega (arith, H .long));
+            before = λ i m. omega (arith, L .below rs H i (omega arith));
+            own = λ i m g. absurd (omega arith);
+            after = λ i g m. absurd (omega (arith, H .long));
+          })

@@ -71,16 +71,20 @@ fn past(rows: &[AttributeRow], first: usize, object: u32) -> usize
     i
 }
 
-// The stretches of all objects, in one pass over the rows.
+// The stretches of all objects, in one pass over the rows. Those of objects behind the last row are empty, and stand at the end.
 pub fn set_stretches(rows: &[AttributeRow]) -> Stretches
     requires few { ⌜ length (now rows) < 2 ^ 32 ⌝ }
     ensures stretched { λ r. ⌜ ((rs : List Row) → RowsHeld rs (now (rows .entry)) → Stretched rs r) ⌝ }
 {
-    let none = [0u32; 2];
+    let n = rows.len() as u32;
+    let none = [n, n];
     let mut stretches = [none; OBJECTS];
     let mut first: usize = 0;
     let mut object: u32 = 0;
     while object < 1024 {
+        if rows.len() <= first {
+            return stretches;
+        }
         let end = past(rows, first, object);
         let at = index(object);
         stretches[at] = [first as u32, end as u32];

@@ -4,6 +4,7 @@ use super::rows::Laid;
 use super::rows::object_rows;
 use super::spread::set_firsts;
 use super::spread::spread;
+use columns::AttributePlaces;
 use columns::AttributeRow;
 use columns::CollectedRow;
 use columns::EntryRow;
@@ -39,6 +40,7 @@ fn object_entries(
     book: &[u8],
     fit: &[u8],
     pairs: &TablePairs,
+    places: &AttributePlaces,
     i: u32,
     from: u32,
 )
@@ -65,6 +67,7 @@ fn object_entries(
         book,
         fit,
         pairs,
+        places,
         i,
     );
 }
@@ -80,6 +83,7 @@ pub fn object_lists(
     book: &[u8],
     fit: &[u8],
     pairs: &TablePairs,
+    places: &AttributePlaces,
     i: usize,
     from: u32,
 ) -> Laid
@@ -93,7 +97,7 @@ pub fn object_lists(
         ⌜ ((es : List Pass2Effect) → Holding es collected «collected_values» pairs
         → ObjectLaidAt r from (rowsOf book fit pairs i segment es) rows bases segment values) ⌝ }
 {
-    let laid = object_rows(rows, bases, segment, collected, book, fit, pairs, i);
+    let laid = object_rows(rows, bases, segment, collected, book, fit, pairs, places, i);
     let Laid::Rows(k) = laid else {
         return Laid::Full;
     };
@@ -106,6 +110,7 @@ pub fn object_lists(
         book,
         fit,
         pairs,
+        places,
         i as u32,
         from,
     );
@@ -124,6 +129,7 @@ pub fn all_lists(
     book: &[u8],
     fit: &[u8],
     pairs: &TablePairs,
+    places: &AttributePlaces,
     room: usize,
 ) -> Laid
     requires sound_book { ⌜ SoundBook (now book) (now pairs) ⌝ }
@@ -152,6 +158,7 @@ pub fn all_lists(
             book,
             fit,
             pairs,
+            places,
             i,
             from as u32,
         );

@@ -11,6 +11,8 @@ use columns::TABLE_OBJECTS;
 use columns::TablePairs;
 use info::header::count_of;
 use info::header::recording_of;
+use info::places::attribute_places;
+use info::places::effect_places;
 use lists::ListCounts;
 use lists::ListRooms;
 use lists::Listed;
@@ -95,7 +97,9 @@ pub fn fill(
         let f = fitOf (now (fit .entry)) (now (pairs .entry)) in
         ⌜ RanAs (outcome.run k f (outcome.roomsOf (lentOf (lists .entry)))) r (now (states .exit)) (lists .entry) (lists .exit) ⌝ }
 {
-    correct_states(states, book, fit, pairs);
+    let of_effects = effect_places(book, pairs);
+    let of_attributes = attribute_places(book, pairs);
+    correct_states(states, book, fit, pairs, &of_effects);
     let rooms = ListRooms {
         collected: room_of(collected.len(), collected_values.len()) as usize,
         rows: room_of(rows.len(), least_of(bases.len(), values.len())) as usize,
@@ -117,6 +121,8 @@ pub fn fill(
         book,
         fit,
         pairs,
+        &of_effects,
+        &of_attributes,
         rooms,
     );
     match listed {

@@ -1,7 +1,9 @@
 // Lists 1 to 4 of a sound sheet: base attributes, collection and dispatch, in 01's order.
 use collect::objects::collect;
+use columns::AttributePlaces;
 use columns::AttributeRow;
 use columns::CollectedRow;
+use columns::EffectPlaces;
 use columns::EntryRow;
 use columns::PlainRow;
 use columns::TablePairs;
@@ -66,6 +68,8 @@ pub fn set_lists(
     book: &[u8],
     fit: &[u8],
     pairs: &TablePairs,
+    effect_places: &EffectPlaces,
+    attribute_places: &AttributePlaces,
     rooms: ListRooms,
 ) -> Listed
     requires sound_book { ⌜ SoundBook (now book) (now pairs) ⌝ }
@@ -88,6 +92,7 @@ pub fn set_lists(
         book,
         fit,
         pairs,
+        effect_places,
         rooms.collected,
         rooms.plain,
     );
@@ -103,6 +108,7 @@ pub fn set_lists(
                 book,
                 fit,
                 pairs,
+                attribute_places,
                 n,
                 rooms.rows,
                 rooms.entries,

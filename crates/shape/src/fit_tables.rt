@@ -39,12 +39,23 @@ ghost use Rattle.shape.specs.Ranges.{rangeAscends};
 fn follows(a: u32, k: u32) -> bool
     ensures { λ r. ⌜ r ≡ rule.follows a k ⌝ }
 {
-    ((k == MODE) & (a == SHIP))
-        | ((k == CHAR) & (a <= MODE))
-        | ((k == PROJECTED) & ((a == CHAR) | (a == PROJECTED)))
-        | ((k == ITEM) & ((CHAR <= a) & (a != SKILL)))
-        | ((k == CHARGE) & (a == ITEM))
-        | ((k == SKILL) & (CHAR <= a))
+    // the most frequent first
+    if k == SKILL {
+        return CHAR <= a;
+    }
+    if k == ITEM {
+        return (CHAR <= a) & (a != SKILL);
+    }
+    if k == CHARGE {
+        return a == ITEM;
+    }
+    if k == PROJECTED {
+        return (a == CHAR) | (a == PROJECTED);
+    }
+    if k == CHAR {
+        return a <= MODE;
+    }
+    (k == MODE) & (a == SHIP)
 }
 
 // Whether an object's codes and ranges are good; there are n base attributes and m ids.

@@ -54,9 +54,9 @@ module _ (k : Book) (f : Fit) (o : Item) where
       e ∙ ap (passed k f) (n noItem ∙ ap (λ (j : ℕ). getD (f .objects) j noItem) a)
       ∙ sym (charge-passes (o .kind) (passed k f o) (passed k f (itemOf f o)) (sym i ∙ h))
 
-  pub item-over : {p s t : Bool} → t ≡ isCharge o → t ≡ false → s ≡ isItem o → p ≡ passed k f o → s && p ≡ isItem o && passed k f o || isCharge o && passed k f (itemOf f o)
-  item-over {p} i h e q =
-      ap (λ (x : Bool). x && p) e ∙ ap (λ (x : Bool). isItem o && x) q
+  pub item-over : {r s t : Bool} → t ≡ isCharge o → t ≡ false → s ≡ isItem o → r ≡ s && passed k f o → r ≡ isItem o && passed k f o || isCharge o && passed k f (itemOf f o)
+  item-over i h e q =
+      q ∙ ap (λ (x : Bool). x && passed k f o) e
       ∙ sym (item-passes (o .kind) (passed k f o) (passed k f (itemOf f o)) (sym i ∙ h))
 
 -- ---- one object, test by test

@@ -1,4 +1,5 @@
 // States and max states after collection (Item::collect_effects, PassTwo::pass).
+use columns::EffectPlaces;
 use columns::OBJECTS;
 use columns::STATE_WIDTH;
 use columns::StateRow;
@@ -124,7 +125,10 @@ pub fn is_passed_over(
         let m = object(fit, pairs, previous(o.number));
         return is_passed(categories, structure, m);
     }
-    is_item(o) & is_passed(categories, structure, o)
+    if !is_item(o) {
+        return false;
+    }
+    is_passed(categories, structure, o)
 }
 
 // The states of an object that collection does not pass over, with the max state that it was raised to.
@@ -139,11 +143,17 @@ pub fn collected_states(o: Item, top: u32) -> StateRow
 }
 
 // The state that one effect lets an object be in.
-fn reach_by(book: &[u8], pairs: &TablePairs, o: Item, t: TypeDogmaEffect) -> u32
+fn reach_by(
+    book: &[u8],
+    pairs: &TablePairs,
+    places: &EffectPlaces,
+    o: Item,
+    t: TypeDogmaEffect,
+) -> u32
     requires { ⌜ SoundBook (now book) (now pairs) ⌝ }
     ensures { λ r. ⌜ r ≡ reachOn (bookAt book pairs) o t ⌝ }
 {
-    let found = get_dogma_effect(book, pairs, t.effect_id);
+    let found = get_dogma_effect(book, pairs, places, t.effect_id);
     match found {
         FoundEffect::At(e) => raises_to(o, e.category),
         FoundEffect::Nothing => 0,
@@ -154,6 +164,7 @@ fn reach_by(book: &[u8], pairs: &TablePairs, o: Item, t: TypeDogmaEffect) -> u32
 fn raised(
     book: &[u8],
     pairs: &TablePairs,
+    places: &EffectPlaces,
     o: Item,
     first: usize,
     count: usize,
@@ -173,7 +184,7 @@ fn raised(
         let t = type_effect(book, pairs, i);
         i += 1;
         if !has_effect(book, pairs, own, owned, t) {
-            let reach = reach_by(book, pairs, o, t);
+            let reach = reach_by(book, pairs, places, o, t);
             top = higher(top, reach);
         }
     }
@@ -181,17 +192,28 @@ fn raised(
 }
 
 // The max state that all its effects raise an object to: its own type's, then its base's that the type lacks.
-fn reached(book: &[u8], pairs: &TablePairs, o: Item) -> u32
+fn reached(book: &[u8], pairs: &TablePairs, places: &EffectPlaces, o: Item) -> u32
     requires { ⌜ SoundBook (now book) (now pairs) ⌝ }
     ensures { λ r. ⌜ r ≡ reachedOf (bookAt book pairs) o ⌝ }
 {
-    let own = get_dogma_effects(book, pairs, o.type_id);
-    let top = raised(book, pairs, o, own.first, own.count, 0, 0, o.max_state);
+    let own = get_dogma_effects(book, pairs, places, o.type_id);
+    let top = raised(
+        book,
+        pairs,
+        places,
+        o,
+        own.first,
+        own.count,
+        0,
+        0,
+        o.max_state,
+    );
     if mutated(o) {
-        let base = get_dogma_effects(book, pairs, o.mutation_base);
+        let base = get_dogma_effects(book, pairs, places, o.mutation_base);
         return raised(
             book,
             pairs,
+            places,
             o,
             base.first,
             base.count,
@@ -204,13 +226,13 @@ fn reached(book: &[u8], pairs: &TablePairs, o: Item) -> u32
 }
 
 // With attribute 6 it can be Active.
-fn able(book: &[u8], fit: &[u8], pairs: &TablePairs, o: Item) -> u32
+fn able(book: &[u8], fit: &[u8], pairs: &TablePairs, places: &EffectPlaces, o: Item) -> u32
     requires { ⌜ SoundBook (now book) (now pairs) ⌝ }
     requires { ⌜ SoundFit (now fit) (now pairs) ⌝ }
     requires { ⌜ ObjectOf (fitOf (now fit) (now pairs)) o ⌝ }
     ensures { λ r. ⌜ r ≡ ableOf (bookAt book pairs) (fitAt fit pairs) o ⌝ }
 {
-    let top = reached(book, pairs, o);
+    let top = reached(book, pairs, places, o);
     let found = get_base(fit, pairs, o, ATTRIBUTE_CAPACITOR_NEED_ID);
     match found {
         FoundBase::At(_) => higher(top, 2),
@@ -223,6 +245,7 @@ fn states_of(
     book: &[u8],
     fit: &[u8],
     pairs: &TablePairs,
+    places: &EffectPlaces,
     c: Categories,
     structure: bool,
     o: Item,
@@ -243,37 +266,33 @@ fn states_of(
     if is_passed_over(fit, pairs, c, structure, o) {
         return [o.state, o.max_state];
     }
-    let top = able(book, fit, pairs, o);
+    let top = able(book, fit, pairs, places, o);
     collected_states(o, top)
 }
 
-// Every object's states, and zeros past the last.
-fn all_states(book: &[u8], fit: &[u8], pairs: &TablePairs) -> States
-    requires { ⌜ SoundBook (now book) (now pairs) ⌝ }
-    requires { ⌜ SoundFit (now fit) (now pairs) ⌝ }
-    ensures { λ r. ⌜ r ≡ rowsOf (bookAt book pairs) (fitAt fit pairs) ⌝ }
+// Every object's state and max state after collection, and zeros past the last.
+pub fn correct_states(
+    states: &mut States,
+    book: &[u8],
+    fit: &[u8],
+    pairs: &TablePairs,
+    places: &EffectPlaces,
+)
+    requires sound_book { ⌜ SoundBook (now book) (now pairs) ⌝ }
+    requires sound_fit { ⌜ SoundFit (now fit) (now pairs) ⌝ }
+    ensures defined { λ r. ⌜ now (states .exit) ≡ rowsOf (bookAt book pairs) (fitAt fit pairs) ⌝ }
 {
     let c = categories_of(book, pairs);
     let structure = is_structure_fit(fit, pairs);
     let n = count_of(pairs, 6);
     let zeros = [0u32; STATE_WIDTH];
-    let mut rows = [zeros; OBJECTS];
+    let blank = [zeros; OBJECTS];
+    *states = blank;
     let mut i = 0;
     while i < n {
         let o = object(fit, pairs, i);
-        let row = states_of(book, fit, pairs, c, structure, o);
-        rows[i] = row;
+        let row = states_of(book, fit, pairs, places, c, structure, o);
+        states[i] = row;
         i += 1;
     }
-    rows
-}
-
-// Every object's state and max state after collection.
-pub fn correct_states(states: &mut States, book: &[u8], fit: &[u8], pairs: &TablePairs)
-    requires sound_book { ⌜ SoundBook (now book) (now pairs) ⌝ }
-    requires sound_fit { ⌜ SoundFit (now fit) (now pairs) ⌝ }
-    ensures defined { λ r. ⌜ now (states .exit) ≡ rowsOf (bookAt book pairs) (fitAt fit pairs) ⌝ }
-{
-    let rows = all_states(book, fit, pairs);
-    *states = rows;
 }
