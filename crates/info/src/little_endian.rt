@@ -8,14 +8,14 @@ ghost use Rattle.rules.specs.Bytes.{u32At, i32At, f64At};
 
 // A byte as a wider number.
 fn wide(x: u8) -> u32
-    ensures { λ r. ⌜ (r ≡ x) × (r < 256) ⌝ }
+    ensures the_same { λ r. ⌜ (r ≡ x) × (r < 256) ⌝ }
 {
     x as u32
 }
 
 // 32 bits as 64.
 fn wider(x: u32) -> u64
-    ensures { λ r. ⌜ (r ≡ x) × (r < 2 ^ 32) ⌝ }
+    ensures the_same { λ r. ⌜ (r ≡ x) × (r < 2 ^ 32) ⌝ }
 {
     x as u64
 }
@@ -47,15 +47,15 @@ pub fn i32_at(b: &[u8], at: usize) -> i32
 }
 
 fn u64_at(b: &[u8], at: usize) -> u64
-    requires { ⌜ at + 8 ≤ length (now b) ⌝ }
-    ensures { λ r. ⌜ r ≡ u32At (now (b .entry)) at + 2 ^ 32 * u32At (now (b .entry)) (at + 4) ⌝ }
+    requires inside { ⌜ at + 8 ≤ length (now b) ⌝ }
+    ensures defined { λ r. ⌜ r ≡ u32At (now (b .entry)) at + 2 ^ 32 * u32At (now (b .entry)) (at + 4) ⌝ }
 {
     wider(u32_at(b, at)) + 0x1_0000_0000 * wider(u32_at(b, at + 4))
 }
 
 // The float whose 64 bits these are; every NaN's bits give the one NaN.
 fn float_of(n: u64) -> f64
-    ensures { λ r. ⌜ r ≡ ofBits binary64 n ⌝ }
+    ensures defined { λ r. ⌜ r ≡ ofBits binary64 n ⌝ }
 {
     if 0x7ff0_0000_0000_0000 < n % 0x8000_0000_0000_0000 {
         return 0.0 / 0.0;

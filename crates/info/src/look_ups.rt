@@ -59,16 +59,16 @@ pub enum FoundBase {
 }
 
 fn key_at(b: &[u8], at: usize, w: usize, k: usize) -> i32
-    requires { ⌜ at + w * k + 4 ≤ length (now b) ⌝ }
-    ensures { λ r. ⌜ r ≡ keyAt (now (b .entry)) at w k ⌝ }
+    requires inside { ⌜ at + w * k + 4 ≤ length (now b) ⌝ }
+    ensures defined { λ r. ⌜ r ≡ keyAt (now (b .entry)) at w k ⌝ }
 {
     i32_at(b, at + w * k)
 }
 
 // Where the first of n places, each of w bytes, whose key is not less than the one sought lies: of eight or more a quarter and what is over is left.
 fn narrowed(b: &[u8], at: usize, w: usize, n: usize, id: i32) -> Window
-    requires { ⌜ Keyed (now b) at w n ⌝ }
-    ensures { λ r. ⌜ Bounds (now (b .entry)) at w n id (r .low) (r .low + r .left) ⌝ }
+    requires keyed { ⌜ Keyed (now b) at w n ⌝ }
+    ensures narrowed { λ r. ⌜ Bounds (now (b .entry)) at w n id (r .low) (r .low + r .left) ⌝ }
 {
     let mut low = 0;
     let mut left = n;
@@ -88,8 +88,8 @@ fn narrowed(b: &[u8], at: usize, w: usize, n: usize, id: i32) -> Window
 
 // The first of n places whose key is not less than the one sought: in its window the lesser are counted.
 fn lower(b: &[u8], at: usize, w: usize, n: usize, id: i32) -> usize
-    requires { ⌜ Keyed (now b) at w n ⌝ }
-    ensures { λ r. ⌜ Lower (now (b .entry)) at w n id r ⌝ }
+    requires keyed { ⌜ Keyed (now b) at w n ⌝ }
+    ensures defined { λ r. ⌜ Lower (now (b .entry)) at w n id r ⌝ }
 {
     let window = narrowed(b, at, w, n, id);
     let mut k = window.low;
@@ -105,8 +105,8 @@ fn lower(b: &[u8], at: usize, w: usize, n: usize, id: i32) -> usize
 
 // The same where a place is told, which may be wrong: its key and the one before it say whether it is the first.
 fn lower_at(b: &[u8], at: usize, w: usize, n: usize, id: i32, told: usize) -> usize
-    requires { ⌜ Keyed (now b) at w n ⌝ }
-    ensures { λ r. ⌜ Lower (now (b .entry)) at w n id r ⌝ }
+    requires keyed { ⌜ Keyed (now b) at w n ⌝ }
+    ensures defined { λ r. ⌜ Lower (now (b .entry)) at w n id r ⌝ }
 {
     if told < n {
         let key = key_at(b, at, w, told);
@@ -126,8 +126,8 @@ fn lower_at(b: &[u8], at: usize, w: usize, n: usize, id: i32, told: usize) -> us
 
 // The first of n records whose key is the one sought, where a place is told.
 fn find(b: &[u8], at: usize, w: usize, n: usize, id: i32, told: usize) -> Found
-    requires { ⌜ Keyed (now b) at w n ⌝ }
-    ensures { λ r. ⌜ placeFound r ≡ first (λ k. eqZ (keyAt (now (b .entry)) at w k) id) (from 0 n) ⌝ }
+    requires keyed { ⌜ Keyed (now b) at w n ⌝ }
+    ensures defined { λ r. ⌜ placeFound r ≡ first (λ k. eqZ (keyAt (now (b .entry)) at w k) id) (from 0 n) ⌝ }
 {
     let low = lower_at(b, at, w, n, id, told);
     if low < n {
@@ -142,9 +142,9 @@ fn find(b: &[u8], at: usize, w: usize, n: usize, id: i32, told: usize) -> Found
 
 // Where the records whose key is the one sought end, from the first that is not less on.
 fn run_end(b: &[u8], at: usize, w: usize, n: usize, id: i32, low: usize) -> usize
-    requires { ⌜ Keyed (now b) at w n ⌝ }
-    requires { ⌜ Lower (now b) at w n id low ⌝ }
-    ensures { λ r. ⌜ RunTo (now (b .entry)) at w n id low r ⌝ }
+    requires keyed { ⌜ Keyed (now b) at w n ⌝ }
+    requires from_the_first { ⌜ Lower (now b) at w n id low ⌝ }
+    ensures defined { λ r. ⌜ RunTo (now (b .entry)) at w n id low r ⌝ }
 {
     let mut end = low;
     while end < n {

@@ -22,8 +22,8 @@ ghost use Rattle.info.specs.Sound.{HeldBook, HeldFit, Nth};
 
 // The bytes of record i of a table that begins at `at`, each of w bytes.
 fn record_of(b: &[u8], at: usize, w: usize, i: usize) -> &[u8]
-    requires { ⌜ at + w * i + w ≤ length (now b) ⌝ }
-    ensures { λ r. ⌜ (now r ≡ take w (drop (at + w * i) (now (b .entry)))) × (length (now r) ≡ w) ⌝ }
+    requires inside { ⌜ at + w * i + w ≤ length (now b) ⌝ }
+    ensures record_and_width { λ r. ⌜ (now r ≡ take w (drop (at + w * i) (now (b .entry)))) × (length (now r) ≡ w) ⌝ }
 {
     let start = at + w * i;
     let end = start + w;

@@ -34,9 +34,9 @@ pub fn char_of(fit: &[u8], pairs: &TablePairs) -> u32
 
 // The first skill from one object on: skills stand last.
 fn first_skill(fit: &[u8], pairs: &TablePairs, from: usize) -> usize
-    requires { ⌜ HeldFit (now fit) (now pairs) ⌝ }
-    requires { ⌜ from ≤ countOf (now pairs) 6 ⌝ }
-    ensures { λ r. ⌜ FirstSkill (fitAt fit pairs) from r ⌝ }
+    requires held_fit { ⌜ HeldFit (now fit) (now pairs) ⌝ }
+    requires a_number { ⌜ from ≤ countOf (now pairs) 6 ⌝ }
+    ensures defined { λ r. ⌜ FirstSkill (fitAt fit pairs) from r ⌝ }
 {
     let objects = count_of(pairs, 6);
     let mut i = from;

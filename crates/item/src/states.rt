@@ -69,7 +69,7 @@ pub fn category_on(o: Item, category: EffectCategory) -> EffectCategory
 
 // The state that an effect of the category lets its object be in; the last four raise nothing.
 fn reaches(category: EffectCategory) -> u32
-    ensures { λ r. ⌜ r ≡ codeOr0 (requiredState category) ⌝ }
+    ensures defined { λ r. ⌜ r ≡ codeOr0 (requiredState category) ⌝ }
 {
     match category {
         EffectCategory::Passive => 0,

@@ -9,8 +9,8 @@ const LIMIT: u64 = 100_000_000_000_000;
 
 // The hundredths of the size that an exponent's field and the digits below it say, the nearest, up to the limit.
 fn counted(field: u64, digits: u64) -> u64
-    requires { ⌜ digits < 2 ^ 52 ⌝ }
-    ensures { λ r. ⌜ r ≡ countOf field digits ⌝ }
+    requires of_52_bits { ⌜ digits < 2 ^ 52 ⌝ }
+    ensures defined { λ r. ⌜ r ≡ countOf field digits ⌝ }
 {
     if field == 0 {
         return 0;

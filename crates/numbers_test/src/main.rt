@@ -11,7 +11,7 @@ struct Tally {
 }
 
 fn digit(b: u8) -> u64
-    ensures { λ r. ⌜ r < 16 ⌝ }
+    ensures inside { λ r. ⌜ r < 16 ⌝ }
 {
     match b {
         48..=57 => b as u64 - 48,
@@ -22,7 +22,7 @@ fn digit(b: u8) -> u64
 
 // 16 hexadecimal digits.
 fn field(s: &[u8], at: usize) -> u64
-    requires { ⌜ at + 16 ≤ length (now s) ⌝ }
+    requires inside { ⌜ at + 16 ≤ length (now s) ⌝ }
 {
     let mut n: u64 = 0;
     let mut i: usize = 0;
@@ -98,7 +98,7 @@ fn answer(kind: u8, a: u64, b: u64) -> u64 {
 
 // The line at a place, where it is of the kind that is asked for.
 fn line(s: &[u8], at: usize, kind: u8, t: Tally) -> Tally
-    requires { ⌜ at + 53 ≤ length (now s) ⌝ }
+    requires inside { ⌜ at + 53 ≤ length (now s) ⌝ }
 {
     let k = s[at];
     if k != kind {

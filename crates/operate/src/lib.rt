@@ -33,7 +33,7 @@ pub struct Running {
 }
 
 fn is_set(flag: u32) -> bool
-    ensures { λ r. ⌜ r ≡ set? flag ⌝ }
+    ensures defined { λ r. ⌜ r ≡ set? flag ⌝ }
 {
     if flag == 0 {
         return false;
@@ -54,7 +54,7 @@ pub fn start(v: f64) -> Running
 
 // The same as a step.
 fn step_so_far(running: Running) -> Step
-    ensures { λ r. ⌜ r ≡ stepOf running ⌝ }
+    ensures defined { λ r. ⌜ r ≡ stepOf running ⌝ }
 {
     if is_set(running.finite) {
         return Step::Finite(running.value);
@@ -64,7 +64,7 @@ fn step_so_far(running: Running) -> Step
 
 // The last of equal greatest, or the first of equal least.
 fn better_of(high: bool, best: f64, x: f64) -> f64
-    ensures { λ r. ⌜ r ≡ better high best x ⌝ }
+    ensures defined { λ r. ⌜ r ≡ better high best x ⌝ }
 {
     let below = less(x, best);
     if high {
@@ -75,7 +75,7 @@ fn better_of(high: bool, best: f64, x: f64) -> f64
 
 // The first value that is assigned, or the better one.
 fn chosen(high: bool, any: bool, best: Step, x: f64) -> Step
-    ensures { λ r. ⌜ r ≡ chosenOf high any best x ⌝ }
+    ensures defined { λ r. ⌜ r ≡ chosenOf high any best x ⌝ }
 {
     if !any {
         return Step::Finite(x);
@@ -88,7 +88,7 @@ fn chosen(high: bool, any: bool, best: Step, x: f64) -> Step
 
 // So many times x more.
 fn added(step: Step, x: f64, quantity: u32) -> Step
-    ensures { λ r. ⌜ r ≡ N._>>=_ step (λ v. addedOne v x quantity) ⌝ }
+    ensures defined { λ r. ⌜ r ≡ N._>>=_ step (λ v. addedOne v x quantity) ⌝ }
 {
     let Step::Finite(v) = step else {
         return Step::NotFinite;
@@ -102,7 +102,7 @@ fn added(step: Step, x: f64, quantity: u32) -> Step
 
 // So many times 1.0 + x as a factor.
 fn multiplied(step: Step, x: f64, quantity: u32) -> Step
-    ensures { λ r. ⌜ r ≡ N._>>=_ step (λ v. multipliedOne v x quantity) ⌝ }
+    ensures defined { λ r. ⌜ r ≡ N._>>=_ step (λ v. multipliedOne v x quantity) ⌝ }
 {
     let Step::Finite(v) = step else {
         return Step::NotFinite;
@@ -120,7 +120,7 @@ fn multiplied(step: Step, x: f64, quantity: u32) -> Step
 
 // One unpenalised value more.
 fn stepped(running: Running, high: bool, operator: EffectOperator, x: f64, quantity: u32) -> Step
-    ensures { λ r. ⌜ r ≡ plainlyOne high operator running x quantity ⌝ }
+    ensures defined { λ r. ⌜ r ≡ plainlyOne high operator running x quantity ⌝ }
 {
     let step = step_so_far(running);
     let any = is_set(running.any);

@@ -423,7 +423,7 @@ fn operated(
 
 // Whether an operator assigns.
 fn is_assign(operator: EffectOperator) -> bool
-    ensures { λ r. ⌜ r ≡ isAssign operator ⌝ }
+    ensures defined { λ r. ⌜ r ≡ isAssign operator ⌝ }
 {
     match operator {
         EffectOperator::PreAssign => true,

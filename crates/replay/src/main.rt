@@ -53,7 +53,7 @@ fn number(data: &[u8], at: usize) -> u32 {
 
 // A number of a case's head.
 fn head(data: &[u8], at: usize, k: usize) -> usize
-    requires { ⌜ k < 19 ⌝ }
+    requires in_the_head { ⌜ k < 19 ⌝ }
 {
     index(number(data, wrapping_add_usize(at, 4 * k)))
 }
@@ -226,7 +226,7 @@ fn see_outcome(seen: Seen, data: &[u8], found: Outcome) -> Seen {
 
 // As many rows as are to be lent, and no more than there are.
 fn held(n: usize, most: usize) -> usize
-    ensures { λ r. ⌜ r ≤ most ⌝ }
+    ensures inside { λ r. ⌜ r ≤ most ⌝ }
 {
     if n < most { n } else { most }
 }

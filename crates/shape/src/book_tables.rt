@@ -29,7 +29,7 @@ pub fn inside(first: u32, count: u32, n: usize) -> bool
 
 // Whether record i of table 1 is good, after one of id last.
 pub fn attribute_good(i: usize, last: i32, r: DogmaAttribute) -> bool
-    ensures { λ t. ⌜ t ≡ (eqb i 0 || ltZ last (r .id)) && (leb (r .flags) 3 && finite (r .«default_value»)) ⌝ }
+    ensures defined { λ t. ⌜ t ≡ (eqb i 0 || ltZ last (r .id)) && (leb (r .flags) 3 && finite (r .«default_value»)) ⌝ }
 {
     let sized = is_finite(r.default_value);
     ((i == 0) | (last < r.id)) & ((r.flags <= 3) & sized)
@@ -57,7 +57,7 @@ pub fn attributes_good(book: &[u8], pairs: &TablePairs) -> bool
 
 // Whether record i of table 2 is good, after one of id last; there are n modifiers.
 pub fn effect_good(i: usize, last: i32, r: DogmaEffect, n: usize) -> bool
-    ensures { λ t. ⌜ t ≡ (eqb i 0 || ltZ last (r .id)) && rule.inside (r .«first_modifier») (r .modifiers) n ⌝ }
+    ensures defined { λ t. ⌜ t ≡ (eqb i 0 || ltZ last (r .id)) && rule.inside (r .«first_modifier») (r .modifiers) n ⌝ }
 {
     let within = inside(r.first_modifier, r.modifiers, n);
     ((i == 0) | (last < r.id)) & within
@@ -86,7 +86,7 @@ pub fn effects_good(book: &[u8], pairs: &TablePairs) -> bool
 
 // Whether record i of table 4 is good, after one of type last.
 pub fn type_effect_good(i: usize, last: i32, r: TypeDogmaEffect) -> bool
-    ensures { λ t. ⌜ t ≡ (eqb i 0 || leZ last (r .«type_id»)) && leb (r .«is_default») 1 ⌝ }
+    ensures defined { λ t. ⌜ t ≡ (eqb i 0 || leZ last (r .«type_id»)) && leb (r .«is_default») 1 ⌝ }
 {
     ((i == 0) | (last <= r.type_id)) & (r.is_default <= 1)
 }
@@ -113,7 +113,7 @@ pub fn type_effects_good(book: &[u8], pairs: &TablePairs) -> bool
 
 // Whether record i of table 5 is good, after one of id last; there are n modifiers.
 pub fn buff_collection_good(i: usize, last: i32, r: DbuffCollection, n: usize) -> bool
-    ensures { λ t. ⌜ t ≡ (eqb i 0 || ltZ last (r .id)) && rule.inside (r .«first_modifier») (r .modifiers) n ⌝ }
+    ensures defined { λ t. ⌜ t ≡ (eqb i 0 || ltZ last (r .id)) && rule.inside (r .«first_modifier») (r .modifiers) n ⌝ }
 {
     let held = inside(r.first_modifier, r.modifiers, n);
     ((i == 0) | (last < r.id)) & held

@@ -37,7 +37,7 @@ ghost use Rattle.shape.specs.Ranges.{rangeAscends};
 
 // Whether an object of kind k may stand right after one of kind a.
 fn follows(a: u32, k: u32) -> bool
-    ensures { λ r. ⌜ r ≡ rule.follows a k ⌝ }
+    ensures defined { λ r. ⌜ r ≡ rule.follows a k ⌝ }
 {
     // the most frequent first
     if k == SKILL {
@@ -60,7 +60,7 @@ fn follows(a: u32, k: u32) -> bool
 
 // Whether an object's codes and ranges are good; there are n base attributes and m ids.
 pub fn object_good(o: Item, n: usize, m: usize) -> bool
-    ensures { λ r. ⌜ ((f : Fit) → n ≡ length (f .bases) → m ≡ length (f .ids) → r ≡ objectGood f o) ⌝ }
+    ensures defined { λ r. ⌜ ((f : Fit) → n ≡ length (f .bases) → m ≡ length (f .ids) → r ≡ objectGood f o) ⌝ }
 {
     let bases = inside(o.first_attribute, o.attributes, n);
     let abilities = inside(o.first_ability, o.abilities, m);
@@ -77,7 +77,7 @@ pub fn object_good(o: Item, n: usize, m: usize) -> bool
 
 // Whether object i may be of kind k, after one of kind last: the first is a ship.
 pub fn stands(i: usize, last: u32, k: u32) -> bool
-    ensures { λ r. ⌜ r ≡ ((eqb i 0 && eqb k 0) || (ltb 0 i && rule.follows last k)) ⌝ }
+    ensures defined { λ r. ⌜ r ≡ ((eqb i 0 && eqb k 0) || (ltb 0 i && rule.follows last k)) ⌝ }
 {
     let after = follows(last, k);
     ((i == 0) & (k == SHIP)) | ((0 < i) & after)
@@ -108,8 +108,8 @@ pub fn objects_good(fit: &[u8], pairs: &TablePairs) -> bool
 }
 
 fn bases_finite(fit: &[u8], pairs: &TablePairs) -> bool
-    requires { ⌜ HeldFit (now fit) (now pairs) ⌝ }
-    ensures { λ r. ⌜ r ≡ every? (λ x. finite (x .value)) (fitAt fit pairs .bases) ⌝ }
+    requires held_fit { ⌜ HeldFit (now fit) (now pairs) ⌝ }
+    ensures defined { λ r. ⌜ r ≡ every? (λ x. finite (x .value)) (fitAt fit pairs .bases) ⌝ }
 {
     let n = count_of(pairs, 7);
     let mut i = 0;
@@ -126,16 +126,16 @@ fn bases_finite(fit: &[u8], pairs: &TablePairs) -> bool
 
 // Whether a base attribute may stand at place i of a range, after one of id last.
 pub fn base_attribute_stands(i: usize, last: i32, r: BaseAttribute) -> bool
-    ensures { λ t. ⌜ t ≡ (eqb i 0 || ltZ last (r .«attribute_id»)) ⌝ }
+    ensures defined { λ t. ⌜ t ≡ (eqb i 0 || ltZ last (r .«attribute_id»)) ⌝ }
 {
     (i == 0) | (last < r.attribute_id)
 }
 
 // Whether n base attributes ascend, from the first on.
 fn range_ascends(fit: &[u8], pairs: &TablePairs, first: usize, n: usize) -> bool
-    requires { ⌜ HeldFit (now fit) (now pairs) ⌝ }
-    requires { ⌜ first + n ≤ countOf (now pairs) 7 ⌝ }
-    ensures { λ r. ⌜ r ≡ ascends (map (λ x. x .«attribute_id») (span first n (fitAt fit pairs .bases))) ⌝ }
+    requires held_fit { ⌜ HeldFit (now fit) (now pairs) ⌝ }
+    requires inside { ⌜ first + n ≤ countOf (now pairs) 7 ⌝ }
+    ensures defined { λ r. ⌜ r ≡ ascends (map (λ x. x .«attribute_id») (span first n (fitAt fit pairs .bases))) ⌝ }
 {
     let mut last = 0;
     let mut i = 0;
@@ -153,9 +153,9 @@ fn range_ascends(fit: &[u8], pairs: &TablePairs, first: usize, n: usize) -> bool
 
 // Whether the base attributes of each object ascend. The ranges are good.
 fn bases_ascend(fit: &[u8], pairs: &TablePairs) -> bool
-    requires { ⌜ HeldFit (now fit) (now pairs) ⌝ }
-    requires { ⌜ objectsGood (fitOf (now fit) (now pairs)) ≡ true ⌝ }
-    ensures { λ r. ⌜ r ≡ every? (rangeAscends (fitAt fit pairs)) (fitAt fit pairs .objects) ⌝ }
+    requires held_fit { ⌜ HeldFit (now fit) (now pairs) ⌝ }
+    requires good_objects { ⌜ objectsGood (fitOf (now fit) (now pairs)) ≡ true ⌝ }
+    ensures defined { λ r. ⌜ r ≡ every? (rangeAscends (fitAt fit pairs)) (fitAt fit pairs .objects) ⌝ }
 {
     let n = count_of(pairs, 6);
     let mut i = 0;

@@ -54,7 +54,7 @@ pub fn limit_of(t: usize) -> usize
 
 // Whether tables follow in order without gaps, each with at most its most records, up to the end of n bytes.
 fn placed(pairs: &TablePairs, n: usize) -> bool
-    ensures { λ r. ⌜ r ≡ every? (rule.placed (now (pairs .entry))) (from 0 10) && eqb (endOf (now (pairs .entry)) 10) n ⌝ }
+    ensures defined { λ r. ⌜ r ≡ every? (rule.placed (now (pairs .entry))) (from 0 10) && eqb (endOf (now (pairs .entry)) 10) n ⌝ }
 {
     let mut end = 100;
     let mut t = 0;

@@ -95,7 +95,7 @@ fn judge(sheet: &[u8], n: u32, expected: u32, tally: Tally) -> Tally {
 }
 
 fn number(step: &[u8; 24], at: usize) -> u32
-    requires { ⌜ at + 4 ≤ 24 ⌝ }
+    requires inside { ⌜ at + 4 ≤ 24 ⌝ }
 {
     u32_at(step, at)
 }

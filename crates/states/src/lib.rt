@@ -87,7 +87,7 @@ pub fn has_effect(
 
 // The place before a number's; the first has none before it.
 fn previous(n: u32) -> usize
-    ensures { λ r. ⌜ r ≡ n - 1 ⌝ }
+    ensures defined { λ r. ⌜ r ≡ n - 1 ⌝ }
 {
     if n == 0 {
         return 0;
@@ -150,8 +150,8 @@ fn reach_by(
     o: Item,
     t: TypeDogmaEffect,
 ) -> u32
-    requires { ⌜ SoundBook (now book) (now pairs) ⌝ }
-    ensures { λ r. ⌜ r ≡ reachOn (bookAt book pairs) o t ⌝ }
+    requires sound_book { ⌜ SoundBook (now book) (now pairs) ⌝ }
+    ensures defined { λ r. ⌜ r ≡ reachOn (bookAt book pairs) o t ⌝ }
 {
     let found = get_dogma_effect(book, pairs, places, t.effect_id);
     match found {
@@ -172,10 +172,10 @@ fn raised(
     owned: usize,
     start: u32,
 ) -> u32
-    requires { ⌜ SoundBook (now book) (now pairs) ⌝ }
-    requires { ⌜ first + count ≤ countOf (now pairs) 4 ⌝ }
-    requires { ⌜ own + owned ≤ countOf (now pairs) 4 ⌝ }
-    ensures { λ r. ⌜ r ≡ raisedIn (bookAt book pairs) o first count own owned start ⌝ }
+    requires sound_book { ⌜ SoundBook (now book) (now pairs) ⌝ }
+    requires inside { ⌜ first + count ≤ countOf (now pairs) 4 ⌝ }
+    requires own_inside { ⌜ own + owned ≤ countOf (now pairs) 4 ⌝ }
+    ensures defined { λ r. ⌜ r ≡ raisedIn (bookAt book pairs) o first count own owned start ⌝ }
 {
     let end = first + count;
     let mut top = start;
@@ -193,8 +193,8 @@ fn raised(
 
 // The max state that all its effects raise an object to: its own type's, then its base's that the type lacks.
 fn reached(book: &[u8], pairs: &TablePairs, places: &EffectPlaces, o: Item) -> u32
-    requires { ⌜ SoundBook (now book) (now pairs) ⌝ }
-    ensures { λ r. ⌜ r ≡ reachedOf (bookAt book pairs) o ⌝ }
+    requires sound_book { ⌜ SoundBook (now book) (now pairs) ⌝ }
+    ensures defined { λ r. ⌜ r ≡ reachedOf (bookAt book pairs) o ⌝ }
 {
     let own = get_dogma_effects(book, pairs, places, o.type_id);
     let top = raised(
@@ -227,10 +227,10 @@ fn reached(book: &[u8], pairs: &TablePairs, places: &EffectPlaces, o: Item) -> u
 
 // With attribute 6 it can be Active.
 fn able(book: &[u8], fit: &[u8], pairs: &TablePairs, places: &EffectPlaces, o: Item) -> u32
-    requires { ⌜ SoundBook (now book) (now pairs) ⌝ }
-    requires { ⌜ SoundFit (now fit) (now pairs) ⌝ }
-    requires { ⌜ ObjectOf (fitOf (now fit) (now pairs)) o ⌝ }
-    ensures { λ r. ⌜ r ≡ ableOf (bookAt book pairs) (fitAt fit pairs) o ⌝ }
+    requires sound_book { ⌜ SoundBook (now book) (now pairs) ⌝ }
+    requires sound_fit { ⌜ SoundFit (now fit) (now pairs) ⌝ }
+    requires an_object { ⌜ ObjectOf (fitOf (now fit) (now pairs)) o ⌝ }
+    ensures defined { λ r. ⌜ r ≡ ableOf (bookAt book pairs) (fitAt fit pairs) o ⌝ }
 {
     let top = reached(book, pairs, places, o);
     let found = get_base(fit, pairs, o, ATTRIBUTE_CAPACITOR_NEED_ID);
@@ -250,12 +250,12 @@ fn states_of(
     structure: bool,
     o: Item,
 ) -> StateRow
-    requires { ⌜ SoundBook (now book) (now pairs) ⌝ }
-    requires { ⌜ SoundFit (now fit) (now pairs) ⌝ }
-    requires { ⌜ CategoriesOf (bookOf (now book) (now pairs)) c ⌝ }
-    requires { ⌜ structure ≡ structureFit (fitOf (now fit) (now pairs)) ⌝ }
-    requires { ⌜ ObjectOf (fitOf (now fit) (now pairs)) o ⌝ }
-    ensures { λ r. ⌜ r ≡ both (statesOf (bookAt book pairs) (fitAt fit pairs) o) ⌝ }
+    requires sound_book { ⌜ SoundBook (now book) (now pairs) ⌝ }
+    requires sound_fit { ⌜ SoundFit (now fit) (now pairs) ⌝ }
+    requires the_categories { ⌜ CategoriesOf (bookOf (now book) (now pairs)) c ⌝ }
+    requires structure { ⌜ structure ≡ structureFit (fitOf (now fit) (now pairs)) ⌝ }
+    requires an_object { ⌜ ObjectOf (fitOf (now fit) (now pairs)) o ⌝ }
+    ensures defined { λ r. ⌜ r ≡ both (statesOf (bookAt book pairs) (fitAt fit pairs) o) ⌝ }
 {
     if is_projected(o) {
         return [o.state, o.max_state];
