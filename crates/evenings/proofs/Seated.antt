@@ -51,9 +51,8 @@ list-same ss s q l h k = by (eqb l 1) refl
         let more : 2 ≤ l = (let z = eqb-false l 1 e in omega (arith, z, k .0)) in
         let all : sameFive ss q ≡ true = each-row 16 (sameFive ss) s q h in
         let pair : samePair (stretchOf ss q 1) (stretchOf ss q l) ≡ true =
-            subst (λ (m : ℕ). samePair (stretchOf ss q 1) (stretchOf ss q m) ≡ true) (from-at 2 4 (l - 2) 0 (omega (arith, more, k .1)) ∙ (let z : 2 + (l - 2) ≡ l = omega (arith, more) in z))
-            (every-at (λ m. samePair (stretchOf ss q 1) (stretchOf ss q m)) (from 2 4) (l - 2) 0 all (let z = from-length 2 4 in omega (arith, z, more, k .1))) in
-        (
+        subst (λ (m : ℕ). samePair (stretchOf ss q 1) (stretchOf ss q m) ≡ true) (from-at 2 4 (l - 2) 0 (omega (arith, more, k .1)) ∙ (let z : 2 + (l - 2) ≡ l = omega (arith, more) in z))
+        (every-at (λ m. samePair (stretchOf ss q 1) (stretchOf ss q m)) (from 2 4) (l - 2) 0 all (let z = from-length 2 4 in omega (arith, z, more, k .1))) in (
           sym (eqb-true (firstOf (stretchOf ss q 1)) (firstOf (stretchOf ss q l)) (and-left (eqb (firstOf (stretchOf ss q 1)) (firstOf (stretchOf ss q l))) (eqb (lengthOf (stretchOf ss q 1)) (lengthOf (stretchOf ss q l))) pair)),
           sym (eqb-true (lengthOf (stretchOf ss q 1)) (lengthOf (stretchOf ss q l)) (and-right (eqb (firstOf (stretchOf ss q 1)) (firstOf (stretchOf ss q l))) (eqb (lengthOf (stretchOf ss q 1)) (lengthOf (stretchOf ss q l))) pair)),
         )
@@ -200,13 +199,13 @@ rows-by-lengths c c′ e = ap (λ (l : Lent). min 4294967295 (min (l .collected)
 
 result-same : {s s′ : List (List ℕ)} {x0 y0 : List (List ℕ)} {x1 y1 : List (Float)} {x2 y2 : List (List ℕ)} {x3 y3 : List (Float)} {x4 y4 : List (Float)} {x5 y5 : List (List ℕ)} {x6 y6 : List (Float)} {x7 y7 : List (List ℕ)} {x8 y8 : List (List ℕ)} {x9 y9 : List (List Float)}
     → s ≡ s′ → x0 ≡ y0 → x1 ≡ y1 → x2 ≡ y2 → x3 ≡ y3 → x4 ≡ y4 → x5 ≡ y5 → x6 ≡ y6 → x7 ≡ y7 → x8 ≡ y8 → x9 ≡ y9 → (t : Told)
-    → _≡_ {A = Result} (record { number = t .number; place = t .place; counts = t .counts; states = s; collected = x0; collectedValues = x1; rows = x2; bases = x3; values = x4; entries = x5; entryValues = x6; plain = x7; sources = x8; sourceFloats = x9; }) (record { number = t .number; place = t .place; counts = t .counts; states = s′; collected = y0; collectedValues = y1; rows = y2; bases = y3; values = y4; entries = y5; entryValues = y6; plain = y7; sources = y8; sourceFloats = y9; })
+    → _≡_ {A = Result} (record { number = t .number; place = t .place; counts = t .counts; states = s; collected = x0; collectedValues = x1; rows = x2; bases = x3; values = x4; entries = x5; entryValues = x6; plain = x7; sources = x8; sourceFloats = x9 }) (record { number = t .number; place = t .place; counts = t .counts; states = s′; collected = y0; collectedValues = y1; rows = y2; bases = y3; values = y4; entries = y5; entryValues = y6; plain = y7; sources = y8; sourceFloats = y9 })
 result-same e e0 e1 e2 e3 e4 e5 e6 e7 e8 e9 t = rw (e, e0, e1, e2, e3, e4, e5, e6, e7, e8, e9) refl
 
 -- what a pilot has hangs on its own five stretches
 own-result : (ss uu : List (List (List ℕ))) (p : ℕ) (c : Pool) (t : Told) → getD uu p [] ≡ getD ss p [] → pilotResult uu p c t ≡ pilotResult ss p c t
 own-result ss uu p c t e =
-    ap (λ (row : List (List ℕ)). record { number = t .number; place = t .place; counts = t .counts; states = getD (c .states) p []; collected = span (firstOf (getD row 0 [])) (lengthOf (getD row 0 [])) (c .collected); collectedValues = span (firstOf (getD row 0 [])) (lengthOf (getD row 0 [])) (c .collectedValues); rows = span (firstOf (getD row 1 [])) (lengthOf (getD row 1 [])) (c .rows); bases = span (firstOf (getD row 1 [])) (lengthOf (getD row 1 [])) (c .bases); values = span (firstOf (getD row 1 [])) (lengthOf (getD row 1 [])) (c .values); entries = span (firstOf (getD row 2 [])) (lengthOf (getD row 2 [])) (c .entries); entryValues = span (firstOf (getD row 2 [])) (lengthOf (getD row 2 [])) (c .entryValues); plain = span (firstOf (getD row 3 [])) (lengthOf (getD row 3 [])) (c .plain); sources = span (firstOf (getD row 4 [])) (lengthOf (getD row 4 [])) (c .sources); sourceFloats = span (firstOf (getD row 4 [])) (lengthOf (getD row 4 [])) (c .sourceFloats); }) e
+    ap (λ (row : List (List ℕ)). record { number = t .number; place = t .place; counts = t .counts; states = getD (c .states) p []; collected = span (firstOf (getD row 0 [])) (lengthOf (getD row 0 [])) (c .collected); collectedValues = span (firstOf (getD row 0 [])) (lengthOf (getD row 0 [])) (c .collectedValues); rows = span (firstOf (getD row 1 [])) (lengthOf (getD row 1 [])) (c .rows); bases = span (firstOf (getD row 1 [])) (lengthOf (getD row 1 [])) (c .bases); values = span (firstOf (getD row 1 [])) (lengthOf (getD row 1 [])) (c .values); entries = span (firstOf (getD row 2 [])) (lengthOf (getD row 2 [])) (c .entries); entryValues = span (firstOf (getD row 2 [])) (lengthOf (getD row 2 [])) (c .entryValues); plain = span (firstOf (getD row 3 [])) (lengthOf (getD row 3 [])) (c .plain); sources = span (firstOf (getD row 4 [])) (lengthOf (getD row 4 [])) (c .sources); sourceFloats = span (firstOf (getD row 4 [])) (lengthOf (getD row 4 [])) (c .sourceFloats) }) e
 
 -- another pilot's leaving
 module _ (h : Hall) (s : Sound h) (c : Pool) (rows : h .rows ≡ poolRows c) (p q : ℕ) (pilot : p < 16) (other : q < 16) (differ : q ≡ p → ⊥) (is-in : 0 < seatOf (h .seats) q .length) where
