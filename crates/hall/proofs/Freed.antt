@@ -15,7 +15,7 @@ use Rattle.seats.specs.Seats.{Hall, Given, Seated, number, seatOf, leave}
 use Rattle.seats.specs.Told.{hallOf, told, toldLeft, leaver, roomed, ReadyFor, freedTable}
 use Rattle.seats.proofs.Whole.{Alike, alike-told, leave-roomed, leave-ready, leave-table-is}
 use Rattle.evenings.specs.Leaving.{LeaveMeets, LeavesSeats, poolRows, leftPool}
-use Rattle.hall.proofs.Leaving.{held}
+use Rattle.evenings.proofs.Seated.{held}
 
 -- the stretch that a leaver had, and what is told of it
 abbrev pub stretchOf : Left → Stretch

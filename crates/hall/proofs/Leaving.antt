@@ -19,46 +19,6 @@ use Rattle.seats.proofs.Ways.{roomed-small, roomed-wide}
 use Rattle.seats.proofs.Either.{LeaveWay, left, kept-in, leave-way}
 use Rattle.evenings.specs.Leaving.{LeavesSeats, poolRows, clearedOf, leftPool}
 
-low : (a b : ℕ) → min a b ≤ a
-low a b = omega arith
-
-high : (a b k : ℕ) → b ≤ k → min a b ≤ k
-high a b k h = omega (arith, h)
-
-same : (a : ℕ) → a ≤ a
-same a = omega arith
-
--- the pool's rows are rows of every column
-pub record Held (m : ℕ) (c : Pool) : Type 0 where
-  pub most : m ≤ 4294967295
-  pub collected : m ≤ length (c .collected)
-  pub collectedValues : m ≤ length (c .collectedValues)
-  pub rows : m ≤ length (c .rows)
-  pub bases : m ≤ length (c .bases)
-  pub values : m ≤ length (c .values)
-  pub entries : m ≤ length (c .entries)
-  pub entryValues : m ≤ length (c .entryValues)
-  pub plain : m ≤ length (c .plain)
-  pub sources : m ≤ length (c .sources)
-  pub sourceFloats : m ≤ length (c .sourceFloats)
-
-pub held : (c : Pool) → Held (poolRows c) c
-unfolding poolRows
-held c =
-    record {
-      most = low 4294967295 (min (length (c .collected)) (min (length (c .collectedValues)) (min (length (c .rows)) (min (length (c .bases)) (min (length (c .values)) (min (length (c .entries)) (min (length (c .entryValues)) (min (length (c .plain)) (min (length (c .sources)) (length (c .sourceFloats)))))))))));
-      collected = high 4294967295 (min (length (c .collected)) (min (length (c .collectedValues)) (min (length (c .rows)) (min (length (c .bases)) (min (length (c .values)) (min (length (c .entries)) (min (length (c .entryValues)) (min (length (c .plain)) (min (length (c .sources)) (length (c .sourceFloats))))))))))) (length (c .collected)) (low (length (c .collected)) (min (length (c .collectedValues)) (min (length (c .rows)) (min (length (c .bases)) (min (length (c .values)) (min (length (c .entries)) (min (length (c .entryValues)) (min (length (c .plain)) (min (length (c .sources)) (length (c .sourceFloats)))))))))));
-      collectedValues = high 4294967295 (min (length (c .collected)) (min (length (c .collectedValues)) (min (length (c .rows)) (min (length (c .bases)) (min (length (c .values)) (min (length (c .entries)) (min (length (c .entryValues)) (min (length (c .plain)) (min (length (c .sources)) (length (c .sourceFloats))))))))))) (length (c .collectedValues)) (high (length (c .collected)) (min (length (c .collectedValues)) (min (length (c .rows)) (min (length (c .bases)) (min (length (c .values)) (min (length (c .entries)) (min (length (c .entryValues)) (min (length (c .plain)) (min (length (c .sources)) (length (c .sourceFloats)))))))))) (length (c .collectedValues)) (low (length (c .collectedValues)) (min (length (c .rows)) (min (length (c .bases)) (min (length (c .values)) (min (length (c .entries)) (min (length (c .entryValues)) (min (length (c .plain)) (min (length (c .sources)) (length (c .sourceFloats)))))))))));
-      rows = high 4294967295 (min (length (c .collected)) (min (length (c .collectedValues)) (min (length (c .rows)) (min (length (c .bases)) (min (length (c .values)) (min (length (c .entries)) (min (length (c .entryValues)) (min (length (c .plain)) (min (length (c .sources)) (length (c .sourceFloats))))))))))) (length (c .rows)) (high (length (c .collected)) (min (length (c .collectedValues)) (min (length (c .rows)) (min (length (c .bases)) (min (length (c .values)) (min (length (c .entries)) (min (length (c .entryValues)) (min (length (c .plain)) (min (length (c .sources)) (length (c .sourceFloats)))))))))) (length (c .rows)) (high (length (c .collectedValues)) (min (length (c .rows)) (min (length (c .bases)) (min (length (c .values)) (min (length (c .entries)) (min (length (c .entryValues)) (min (length (c .plain)) (min (length (c .sources)) (length (c .sourceFloats))))))))) (length (c .rows)) (low (length (c .rows)) (min (length (c .bases)) (min (length (c .values)) (min (length (c .entries)) (min (length (c .entryValues)) (min (length (c .plain)) (min (length (c .sources)) (length (c .sourceFloats)))))))))));
-      bases = high 4294967295 (min (length (c .collected)) (min (length (c .collectedValues)) (min (length (c .rows)) (min (length (c .bases)) (min (length (c .values)) (min (length (c .entries)) (min (length (c .entryValues)) (min (length (c .plain)) (min (length (c .sources)) (length (c .sourceFloats))))))))))) (length (c .bases)) (high (length (c .collected)) (min (length (c .collectedValues)) (min (length (c .rows)) (min (length (c .bases)) (min (length (c .values)) (min (length (c .entries)) (min (length (c .entryValues)) (min (length (c .plain)) (min (length (c .sources)) (length (c .sourceFloats)))))))))) (length (c .bases)) (high (length (c .collectedValues)) (min (length (c .rows)) (min (length (c .bases)) (min (length (c .values)) (min (length (c .entries)) (min (length (c .entryValues)) (min (length (c .plain)) (min (length (c .sources)) (length (c .sourceFloats))))))))) (length (c .bases)) (high (length (c .rows)) (min (length (c .bases)) (min (length (c .values)) (min (length (c .entries)) (min (length (c .entryValues)) (min (length (c .plain)) (min (length (c .sources)) (length (c .sourceFloats)))))))) (length (c .bases)) (low (length (c .bases)) (min (length (c .values)) (min (length (c .entries)) (min (length (c .entryValues)) (min (length (c .plain)) (min (length (c .sources)) (length (c .sourceFloats)))))))))));
-      values = high 4294967295 (min (length (c .collected)) (min (length (c .collectedValues)) (min (length (c .rows)) (min (length (c .bases)) (min (length (c .values)) (min (length (c .entries)) (min (length (c .entryValues)) (min (length (c .plain)) (min (length (c .sources)) (length (c .sourceFloats))))))))))) (length (c .values)) (high (length (c .collected)) (min (length (c .collectedValues)) (min (length (c .rows)) (min (length (c .bases)) (min (length (c .values)) (min (length (c .entries)) (min (length (c .entryValues)) (min (length (c .plain)) (min (length (c .sources)) (length (c .sourceFloats)))))))))) (length (c .values)) (high (length (c .collectedValues)) (min (length (c .rows)) (min (length (c .bases)) (min (length (c .values)) (min (length (c .entries)) (min (length (c .entryValues)) (min (length (c .plain)) (min (length (c .sources)) (length (c .sourceFloats))))))))) (length (c .values)) (high (length (c .rows)) (min (length (c .bases)) (min (length (c .values)) (min (length (c .entries)) (min (length (c .entryValues)) (min (length (c .plain)) (min (length (c .sources)) (length (c .sourceFloats)))))))) (length (c .values)) (high (length (c .bases)) (min (length (c .values)) (min (length (c .entries)) (min (length (c .entryValues)) (min (length (c .plain)) (min (length (c .sources)) (length (c .sourceFloats))))))) (length (c .values)) (low (length (c .values)) (min (length (c .entries)) (min (length (c .entryValues)) (min (length (c .plain)) (min (length (c .sources)) (length (c .sourceFloats)))))))))));
-      entries = high 4294967295 (min (length (c .collected)) (min (length (c .collectedValues)) (min (length (c .rows)) (min (length (c .bases)) (min (length (c .values)) (min (length (c .entries)) (min (length (c .entryValues)) (min (length (c .plain)) (min (length (c .sources)) (length (c .sourceFloats))))))))))) (length (c .entries)) (high (length (c .collected)) (min (length (c .collectedValues)) (min (length (c .rows)) (min (length (c .bases)) (min (length (c .values)) (min (length (c .entries)) (min (length (c .entryValues)) (min (length (c .plain)) (min (length (c .sources)) (length (c .sourceFloats)))))))))) (length (c .entries)) (high (length (c .collectedValues)) (min (length (c .rows)) (min (length (c .bases)) (min (length (c .values)) (min (length (c .entries)) (min (length (c .entryValues)) (min (length (c .plain)) (min (length (c .sources)) (length (c .sourceFloats))))))))) (length (c .entries)) (high (length (c .rows)) (min (length (c .bases)) (min (length (c .values)) (min (length (c .entries)) (min (length (c .entryValues)) (min (length (c .plain)) (min (length (c .sources)) (length (c .sourceFloats)))))))) (length (c .entries)) (high (length (c .bases)) (min (length (c .values)) (min (length (c .entries)) (min (length (c .entryValues)) (min (length (c .plain)) (min (length (c .sources)) (length (c .sourceFloats))))))) (length (c .entries)) (high (length (c .values)) (min (length (c .entries)) (min (length (c .entryValues)) (min (length (c .plain)) (min (length (c .sources)) (length (c .sourceFloats)))))) (length (c .entries)) (low (length (c .entries)) (min (length (c .entryValues)) (min (length (c .plain)) (min (length (c .sources)) (length (c .sourceFloats)))))))))));
-      entryValues = high 4294967295 (min (length (c .collected)) (min (length (c .collectedValues)) (min (length (c .rows)) (min (length (c .bases)) (min (length (c .values)) (min (length (c .entries)) (min (length (c .entryValues)) (min (length (c .plain)) (min (length (c .sources)) (length (c .sourceFloats))))))))))) (length (c .entryValues)) (high (length (c .collected)) (min (length (c .collectedValues)) (min (length (c .rows)) (min (length (c .bases)) (min (length (c .values)) (min (length (c .entries)) (min (length (c .entryValues)) (min (length (c .plain)) (min (length (c .sources)) (length (c .sourceFloats)))))))))) (length (c .entryValues)) (high (length (c .collectedValues)) (min (length (c .rows)) (min (length (c .bases)) (min (length (c .values)) (min (length (c .entries)) (min (length (c .entryValues)) (min (length (c .plain)) (min (length (c .sources)) (length (c .sourceFloats))))))))) (length (c .entryValues)) (high (length (c .rows)) (min (length (c .bases)) (min (length (c .values)) (min (length (c .entries)) (min (length (c .entryValues)) (min (length (c .plain)) (min (length (c .sources)) (length (c .sourceFloats)))))))) (length (c .entryValues)) (high (length (c .bases)) (min (length (c .values)) (min (length (c .entries)) (min (length (c .entryValues)) (min (length (c .plain)) (min (length (c .sources)) (length (c .sourceFloats))))))) (length (c .entryValues)) (high (length (c .values)) (min (length (c .entries)) (min (length (c .entryValues)) (min (length (c .plain)) (min (length (c .sources)) (length (c .sourceFloats)))))) (length (c .entryValues)) (high (length (c .entries)) (min (length (c .entryValues)) (min (length (c .plain)) (min (length (c .sources)) (length (c .sourceFloats))))) (length (c .entryValues)) (low (length (c .entryValues)) (min (length (c .plain)) (min (length (c .sources)) (length (c .sourceFloats)))))))))));
-      plain = high 4294967295 (min (length (c .collected)) (min (length (c .collectedValues)) (min (length (c .rows)) (min (length (c .bases)) (min (length (c .values)) (min (length (c .entries)) (min (length (c .entryValues)) (min (length (c .plain)) (min (length (c .sources)) (length (c .sourceFloats))))))))))) (length (c .plain)) (high (length (c .collected)) (min (length (c .collectedValues)) (min (length (c .rows)) (min (length (c .bases)) (min (length (c .values)) (min (length (c .entries)) (min (length (c .entryValues)) (min (length (c .plain)) (min (length (c .sources)) (length (c .sourceFloats)))))))))) (length (c .plain)) (high (length (c .collectedValues)) (min (length (c .rows)) (min (length (c .bases)) (min (length (c .values)) (min (length (c .entries)) (min (length (c .entryValues)) (min (length (c .plain)) (min (length (c .sources)) (length (c .sourceFloats))))))))) (length (c .plain)) (high (length (c .rows)) (min (length (c .bases)) (min (length (c .values)) (min (length (c .entries)) (min (length (c .entryValues)) (min (length (c .plain)) (min (length (c .sources)) (length (c .sourceFloats)))))))) (length (c .plain)) (high (length (c .bases)) (min (length (c .values)) (min (length (c .entries)) (min (length (c .entryValues)) (min (length (c .plain)) (min (length (c .sources)) (length (c .sourceFloats))))))) (length (c .plain)) (high (length (c .values)) (min (length (c .entries)) (min (length (c .entryValues)) (min (length (c .plain)) (min (length (c .sources)) (length (c .sourceFloats)))))) (length (c .plain)) (high (length (c .entries)) (min (length (c .entryValues)) (min (length (c .plain)) (min (length (c .sources)) (length (c .sourceFloats))))) (length (c .plain)) (high (length (c .entryValues)) (min (length (c .plain)) (min (length (c .sources)) (length (c .sourceFloats)))) (length (c .plain)) (low (length (c .plain)) (min (length (c .sources)) (length (c .sourceFloats)))))))))));
-      sources = high 4294967295 (min (length (c .collected)) (min (length (c .collectedValues)) (min (length (c .rows)) (min (length (c .bases)) (min (length (c .values)) (min (length (c .entries)) (min (length (c .entryValues)) (min (length (c .plain)) (min (length (c .sources)) (length (c .sourceFloats))))))))))) (length (c .sources)) (high (length (c .collected)) (min (length (c .collectedValues)) (min (length (c .rows)) (min (length (c .bases)) (min (length (c .values)) (min (length (c .entries)) (min (length (c .entryValues)) (min (length (c .plain)) (min (length (c .sources)) (length (c .sourceFloats)))))))))) (length (c .sources)) (high (length (c .collectedValues)) (min (length (c .rows)) (min (length (c .bases)) (min (length (c .values)) (min (length (c .entries)) (min (length (c .entryValues)) (min (length (c .plain)) (min (length (c .sources)) (length (c .sourceFloats))))))))) (length (c .sources)) (high (length (c .rows)) (min (length (c .bases)) (min (length (c .values)) (min (length (c .entries)) (min (length (c .entryValues)) (min (length (c .plain)) (min (length (c .sources)) (length (c .sourceFloats)))))))) (length (c .sources)) (high (length (c .bases)) (min (length (c .values)) (min (length (c .entries)) (min (length (c .entryValues)) (min (length (c .plain)) (min (length (c .sources)) (length (c .sourceFloats))))))) (length (c .sources)) (high (length (c .values)) (min (length (c .entries)) (min (length (c .entryValues)) (min (length (c .plain)) (min (length (c .sources)) (length (c .sourceFloats)))))) (length (c .sources)) (high (length (c .entries)) (min (length (c .entryValues)) (min (length (c .plain)) (min (length (c .sources)) (length (c .sourceFloats))))) (length (c .sources)) (high (length (c .entryValues)) (min (length (c .plain)) (min (length (c .sources)) (length (c .sourceFloats)))) (length (c .sources)) (high (length (c .plain)) (min (length (c .sources)) (length (c .sourceFloats))) (length (c .sources)) (low (length (c .sources)) (length (c .sourceFloats)))))))))));
-      sourceFloats = high 4294967295 (min (length (c .collected)) (min (length (c .collectedValues)) (min (length (c .rows)) (min (length (c .bases)) (min (length (c .values)) (min (length (c .entries)) (min (length (c .entryValues)) (min (length (c .plain)) (min (length (c .sources)) (length (c .sourceFloats))))))))))) (length (c .sourceFloats)) (high (length (c .collected)) (min (length (c .collectedValues)) (min (length (c .rows)) (min (length (c .bases)) (min (length (c .values)) (min (length (c .entries)) (min (length (c .entryValues)) (min (length (c .plain)) (min (length (c .sources)) (length (c .sourceFloats)))))))))) (length (c .sourceFloats)) (high (length (c .collectedValues)) (min (length (c .rows)) (min (length (c .bases)) (min (length (c .values)) (min (length (c .entries)) (min (length (c .entryValues)) (min (length (c .plain)) (min (length (c .sources)) (length (c .sourceFloats))))))))) (length (c .sourceFloats)) (high (length (c .rows)) (min (length (c .bases)) (min (length (c .values)) (min (length (c .entries)) (min (length (c .entryValues)) (min (length (c .plain)) (min (length (c .sources)) (length (c .sourceFloats)))))))) (length (c .sourceFloats)) (high (length (c .bases)) (min (length (c .values)) (min (length (c .entries)) (min (length (c .entryValues)) (min (length (c .plain)) (min (length (c .sources)) (length (c .sourceFloats))))))) (length (c .sourceFloats)) (high (length (c .values)) (min (length (c .entries)) (min (length (c .entryValues)) (min (length (c .plain)) (min (length (c .sources)) (length (c .sourceFloats)))))) (length (c .sourceFloats)) (high (length (c .entries)) (min (length (c .entryValues)) (min (length (c .plain)) (min (length (c .sources)) (length (c .sourceFloats))))) (length (c .sourceFloats)) (high (length (c .entryValues)) (min (length (c .plain)) (min (length (c .sources)) (length (c .sourceFloats)))) (length (c .sourceFloats)) (high (length (c .plain)) (min (length (c .sources)) (length (c .sourceFloats))) (length (c .sourceFloats)) (high (length (c .sources)) (length (c .sourceFloats)) (length (c .sourceFloats)) (same (length (c .sourceFloats))))))))))));
-    }
-
 pub rows-are : (c : Pool) {m : ℕ} → m ≡ min 4294967295 (min (length (c .collected)) (min (length (c .collectedValues)) (min (length (c .rows)) (min (length (c .bases)) (min (length (c .values)) (min (length (c .entries)) (min (length (c .entryValues)) (min (length (c .plain)) (min (length (c .sources)) (length (c .sourceFloats)))))))))))
     → m ≡ poolRows c
 unfolding poolRows

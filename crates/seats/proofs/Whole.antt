@@ -19,6 +19,7 @@ use Rattle.seats.specs.Tiling.{endOf, tiled}
 use Rattle.seats.specs.Seats.{Hall, freeOf, seatOf, seatsOf, sameFive, apart, tableGood, Cut, cutFirst, freed, Seated, Done, Table, Pilot, Length, Pool, number, place, Given, refused, tabled, five, withSeat, seat, admit, leave}
 use Rattle.seats.specs.Told.{hallOf, told, toldLeft, leaver, roomed, Ready, ReadyFor, cutTable, freedTable}
 use Rattle.seats.proofs.Fit.{cut-short}
+use Rattle.seats.proofs.Gather.{app-app}
 use Rattle.seats.proofs.Good.{Good, good, good-few, free-long, free-end, seat-end, freed-few}
 use Rattle.seats.proofs.Ways.{roomed-small, roomed-wide, admit-bad, leave-bad, admit-cut, leave-done, admit-number, admit-in, admit-none, leave-number, leave-out}
 use Rattle.seats.proofs.Either.{positive, AdmitWay, admitted, turned-away, admit-way, LeaveWay, left, kept-in, leave-way}
@@ -62,10 +63,6 @@ drop-take zero n t h = take-append-drop n t
 drop-take (suc m) zero t h = absurd (omega (arith, h))
 drop-take (suc m) (suc n) [] h = refl
 drop-take (suc m) (suc n) (s ∷ t) h = drop-take m n t (omega (arith, h))
-
-app-app : (a b c : List Stretch) → (a ++ b) ++ c ≡ a ++ (b ++ c)
-app-app [] b c = refl
-app-app (x ∷ a) b c = ap (λ (l : List Stretch). x ∷ l) (app-app a b c)
 
 pub loaded-is : (ys : List Stretch) → 17 ≤ length ys → loaded ys ≡ take 17 ys
 unfolding loaded

@@ -14,7 +14,8 @@ use native.Mathlib.Omega.{arith}
 use mathlib.Core.Path.{_≡_, refl, sym, ap, _∙_}
 use Rattle.seats.specs.Told.{hallOf}
 use Rattle.evenings.specs.Leaving.{poolRows}
-use Rattle.hall.proofs.Leaving.{held, rows-are, at-rows, has-left, has-stayed, has-gone}
+use Rattle.evenings.proofs.Seated.{held}
+use Rattle.hall.proofs.Leaving.{rows-are, at-rows, has-left, has-stayed, has-gone}
 
 sixteen-requires : tie.Need-sixteen-requires
 sixteen-requires c κs = search needs
