@@ -37,6 +37,7 @@ fn two(numbers: FitNumbers)
     ensures whole { λ _. ⌜ length numbers ≡ 2 ⌝ }
 {}
 
+// A whole sheet: its header, then the ten tables in their order.
 pub fn put_sheet(
     bytes: &mut [u8],
     header: &SheetNumbers,
@@ -109,6 +110,7 @@ pub fn put_sheet(
     )
 }
 
+// A book's file: its header, then tables 1 to 5.
 pub fn put_book_file(
     bytes: &mut [u8],
     header: &BookNumbers,
@@ -150,6 +152,7 @@ pub fn put_book_file(
     )
 }
 
+// A fit's file: its header, then tables 6 to 10.
 pub fn put_fit_file(
     bytes: &mut [u8],
     header: &FitNumbers,
