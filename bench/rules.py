@@ -1,25 +1,18 @@
 #!/usr/bin/env python3
 """Times dogma_check_rules beside dogma_calculate on the same sheet, and prints the table of docs/SPEED.md, "Tournament rules".
 
-Usage: rules.py [--seconds S]: S seconds for each sheet (default 1). Sheets of 1,024 objects, most of them counted, with 1,000 lines that
+Usage: rules.py [--seconds S] [NAME ..]: S seconds for each sheet (default 1); with names only these. Sheets of 1,024 objects, most of them counted, with 1,000 lines that
 are all walked, since none is broken. Where valgrind is at hand instructions are counted too. The library is the one of library/build.
 """
-import argparse
-import os
-import platform
 import random
-import re
-import shutil
 import struct
-import subprocess
 import sys
 
 import sheets
-from sheets import HERE, LOW, recorded
 from make_sheets import CHAR, ITEM, SHIP, Sheet, object_record
+from sheets import LOW, recorded
+from timed import built, given_words, instructions, print_head, timed, written
 
-ROOT = HERE.parent
-PLACE = ROOT / "target" / "bench"
 POINTS, MOST, FORBIDDEN, TOTAL = range(4)
 HIGHEST = 2 ** 32 - 1
 
@@ -70,56 +63,31 @@ def kinds():
     yield "one bucket", "all groups alike modulo 1,021, made to be slow; a cap of 1 on 999", items(alike), table([], [g for _, g in alike][:999], [], 1)
 
 
-def write(name, data, lines):
-    stem = PLACE / ("rules-" + name.replace(" ", "-"))
-    files = [str(stem.with_suffix(ending)) for ending in (".sheet", ".lines")]
-    open(files[0], "wb").write(data)
-    open(files[1], "wb").write(b"".join(struct.pack("<III", kind, i & 0xffffffff, number) for kind, i, number in lines))
-    return files
-
-
-def instructions(program, what, files):
-    """The instructions of one call: what two more take, halved."""
-    def all_of(times):
-        words = ["valgrind", "--tool=callgrind", f"--callgrind-out-file={PLACE / 'callgrind'}", program, "count", str(what), str(times), *files]
-        return int(re.search(r"Collected : (\d+)", subprocess.run(words, stdout=subprocess.DEVNULL, stderr=subprocess.PIPE, text=True).stderr).group(1))
-    return (all_of(3) - all_of(1)) // 2
+def packed(lines):
+    return b"".join(struct.pack("<III", kind, i & 0xffffffff, number) for kind, i, number in lines)
 
 
 def line(name, data, lines, program, seconds):
-    files = write(name, data, lines)
-    done = subprocess.run([program, str(seconds), *files], stdout=subprocess.PIPE, text=True)
-    if done.returncode != 0:
-        sys.exit(f"{name} was not timed")
-    rounds, objects, count, allowed, broken, tally, *numbers = done.stdout.split()
-    calculated, checked, empty, ratio = [tuple(map(float, numbers[3 * k:3 * k + 3])) for k in range(4)]
+    files = written(f"rules {name}", (".sheet", data), (".lines", packed(lines)))
+    rounds, (objects, count, allowed, broken, tally), (calculated, checked, empty, ratio) = timed(name, program, seconds, files, 5)
     if allowed != "1":
         sys.exit(f"{name}: line {broken} is broken by {tally}, so the later ones were not walked")
-    counted = "not counted"
-    if shutil.which("valgrind"):
-        n = [instructions(program, what, files) for what in range(2)]
-        counted = f"{n[0]:,}, {n[1]:,}, **{n[1] / n[0]:.2f}**"
+    n = instructions(program, 2, files)
+    counted = f"{n[0]:,}, {n[1]:,}, **{n[1] / n[0]:.2f}**" if n else "not counted"
     print(f"| {name} | {int(objects):,} | {int(count):,} | {calculated[0] / 1e3:.1f} µs, {checked[0] / 1e3:.1f} µs | "
           f"**{ratio[0]:.2f}** ({ratio[1]:.2f} to {ratio[2]:.2f}) | {empty[0] / 1e3:.1f} µs | {counted} | {rounds} |", flush=True)
 
 
 def main():
-    arguments = argparse.ArgumentParser()
-    arguments.add_argument("--seconds", type=float, default=1.0)
-    given = arguments.parse_args()
-    PLACE.mkdir(parents=True, exist_ok=True)
-    made = subprocess.run([ROOT / "library" / "build"], cwd=ROOT, stdout=subprocess.PIPE, text=True)
-    if made.returncode != 0:
-        sys.exit(made.returncode)
-    program = str(PLACE / "rules")
-    subprocess.run(["cc", "-std=c11", "-O2", "-Wall", "-Wextra", "-Iinclude", "bench/rules.c", made.stdout.strip(), "-o", program], cwd=ROOT, check=True)
-    what = "an archive that was given, and may be anything" if os.environ.get("DOGMA_LIBRARY") else "the library of library/build"
-    print(f"Measured by `bench/rules.py --seconds {given.seconds:g}` on {platform.machine()} Linux, {what}.\n")
-    print("| sheet | objects | lines | `dogma_calculate`, `dogma_check_rules` | ratio | no line | instructions: calculation, check, ratio | rounds |")
-    print("|---" * 8 + "|", flush=True)
+    given = given_words(__doc__)
+    program = built("rules")
+    print_head("rules", given.seconds, ["sheet", "objects", "lines", "`dogma_calculate`, `dogma_check_rules`", "ratio", "no line",
+                                        "instructions: calculation, check, ratio", "rounds"])
     for name, _, data, lines in kinds():
-        line(name, data, lines, program, given.seconds)
+        if not given.names or name in given.names:
+            line(name, data, lines, program, given.seconds)
     print("\n" + "; ".join(f"{name}: {what}" for name, what, _, _ in kinds()) + ".")
 
 
-main()
+if __name__ == "__main__":
+    main()

@@ -2,18 +2,11 @@
  * nanoseconds, each as median and the tenth and ninetieth of a hundred: writing; calculating; and of neighbouring runs their ratio.
  * `write count WHAT TIMES SHEET`: writing (0) or calculating (1) so many times, for a tool that counts instructions.
  * The tables are cut out of the sheet first, and what is written must be the sheet. Bytes are lent to the byte, lists to the row. */
-#define _POSIX_C_SOURCE 199309L
-#include <stdio.h>
-#include <stdlib.h>
-#include <string.h>
-#include <time.h>
+enum { AHEAD = 0, ROOM = 65536 };
 
-enum { ROOM = 65536, MOST = 5000, COLUMNS = 13 };
-
-#include "lent.h"
+#include "timed.h"
 
 static uint8_t written[DOGMA_LONGEST_SHEET];
-static size_t sheet_length, rooms[DOGMA_LISTS];
 static struct dogma_tables tables;
 static dogma_attribute attributes[2048];
 static dogma_effect effects[1024];
@@ -24,14 +17,6 @@ static dogma_object objects[1024];
 static uint32_t base_attributes[16384], ids[4096], buffs[64];
 static double defaults[2048], base_values[16384], buff_values[64];
 static dogma_ask asks[1024];
-
-static void expect(int right, const char *what)
-{
-    if (!right) {
-        fprintf(stderr, "write: %s\n", what);
-        exit(2);
-    }
-}
 
 static uint32_t word(size_t at)
 {
@@ -82,87 +67,40 @@ static struct dogma_written by_tables(void)
         t->ask_count);
 }
 
-static struct dogma_answer by_sheet(void)
-{
-    return dogma_calculate(
-        states, collected, rooms[0], collected_values, rooms[0], rows, rooms[1], bases, rooms[1], values, rooms[1], entries, rooms[2],
-        entry_values, rooms[2], plain, rooms[3], sources, rooms[4], source_values, rooms[4], sheet, sheet_length);
-}
-
 static void run(int what)
 {
     if (what == 0)
         by_tables();
     else
-        by_sheet();
+        calculated();
 }
 
-/* The rooms that the sheet needs, and that it is written as it is. */
+/* That the sheet is written as it is. */
 static void ready(void)
 {
-    for (int list = 0; list < DOGMA_LISTS; list++)
-        rooms[list] = 1;
-    struct dogma_answer answer;
-    while ((answer = by_sheet()).number == DOGMA_ROOM) {
-        rooms[answer.place - 1] *= 2;
-        expect(rooms[answer.place - 1] <= ROOM, "a list is too long");
-    }
-    expect(answer.number == DOGMA_DONE, "the sheet is refused");
-    const uint64_t counts[DOGMA_LISTS] = { answer.collected, answer.rows, answer.entries, answer.plain, answer.sources };
-    for (int list = 0; list < DOGMA_LISTS; list++)
-        rooms[list] = counts[list];
+    seat();
     cut_all();
     const struct dogma_written made = by_tables();
     expect(made.number == DOGMA_DONE && made.length == sheet_length && memcmp(written, sheet, sheet_length) == 0, "it is not the same sheet");
 }
 
-static double now(void)
-{
-    struct timespec time;
-    clock_gettime(CLOCK_MONOTONIC, &time);
-    return 1e9 * (double)time.tv_sec + (double)time.tv_nsec;
-}
-
-static int by_size(const void *a, const void *b)
-{
-    const double x = *(const double *)a, y = *(const double *)b;
-    return (x > y) - (x < y);
-}
-
-static void print_spread(double *some, int count)
-{
-    qsort(some, (size_t)count, sizeof *some, by_size);
-    printf(" %.6f %.6f %.6f", some[(count - 1) / 2], some[(count - 1) / 10], some[(count - 1) * 9 / 10]);
-}
-
 static void measure(double seconds)
 {
     static double times[2][MOST], ratio[MOST];
-    const double start = now();
-    int round = 0;
-    while (round < 33 || (now() - start < 1e9 * seconds && round < MOST)) {
-        for (int what = 0; what < 2; what++) {
-            const double before = now();
-            run(what);
-            times[what][round] = now() - before;
-        }
+    const int rounds = take_times(seconds, 2, times);
+    for (int round = 0; round < rounds; round++)
         ratio[round] = times[0][round] / times[1][round];
-        round++;
-    }
-    printf("%d", round);
+    printf("%d", rounds);
     for (int what = 0; what < 2; what++)
-        print_spread(times[what], round);
-    print_spread(ratio, round);
+        print_spread(times[what], rounds);
+    print_spread(ratio, rounds);
     putchar('\n');
 }
 
 int main(int count, char **words)
 {
     expect(count == 3 || count == 5, "usage: write SECONDS SHEET | write count WHAT TIMES SHEET");
-    FILE *file = fopen(words[count - 1], "rb");
-    expect(file != NULL, words[count - 1]);
-    sheet_length = fread(sheet, 1, sizeof sheet, file);
-    fclose(file);
+    sheet_length = read_file(words[count - 1], sheet, sizeof sheet);
     ready();
     if (count == 3)
         measure(atof(words[1]));

@@ -57,3 +57,60 @@ static void flush(void)
     }
     out_at = 0;
 }
+
+/* n bytes, which are there */
+static inline void get(void *to, size_t n)
+{
+    if (take(to, n) != n)
+        stop("the input ends inside a call\n");
+}
+
+static inline void give(const void *from, size_t n)
+{
+    for (size_t done = 0; done < n;) {
+        if (out_at == sizeof out_buffer)
+            flush();
+        const size_t part = sizeof out_buffer - out_at < n - done ? sizeof out_buffer - out_at : n - done;
+        memcpy(out_buffer + out_at, (const uint8_t *)from + done, part);
+        out_at += part;
+        done += part;
+    }
+}
+
+/* ---- memory */
+
+/* what stands around what is lent */
+static inline uint8_t filler(size_t i)
+{
+    return (uint8_t)(i * 37 + 11);
+}
+
+/* memory for so many bytes; what it held is gone */
+static inline uint8_t *grown(uint8_t *old, size_t *size, size_t wanted)
+{
+    if (old && wanted <= *size)
+        return old;
+    free(old);
+    *size = wanted + wanted / 2 + 64;
+    uint8_t *fresh = malloc(*size);
+    if (!fresh)
+        stop("no memory\n");
+    return fresh;
+}
+
+/* n bytes of the input, and a copy behind them */
+static inline uint8_t *taken(size_t n)
+{
+    uint8_t *bytes = malloc(2 * n + 8);
+    if (!bytes)
+        stop("no memory\n");
+    get(bytes, n);
+    memcpy(bytes + n, bytes, n);
+    return bytes;
+}
+
+/* whether such bytes are no longer as they were */
+static inline uint64_t changed(const uint8_t *bytes, size_t n)
+{
+    return memcmp(bytes, bytes + n, n) != 0;
+}

@@ -7,36 +7,6 @@
 #include "bytes.h"
 #include "dogma.h"
 
-static void get(void *to, size_t n)
-{
-    if (take(to, n) != n)
-        stop("rules: the input ends inside a call\n");
-}
-
-/* n bytes twice, the copy behind them, at an address that is a multiple of 4 */
-static uint8_t *taken(size_t n)
-{
-    uint8_t *bytes = malloc(2 * n + 8);
-    if (!bytes)
-        stop("rules: no memory\n");
-    get(bytes, n);
-    memcpy(bytes + n, bytes, n);
-    return bytes;
-}
-
-static uint64_t changed(const uint8_t *bytes, size_t n)
-{
-    return memcmp(bytes, bytes + n, n) != 0;
-}
-
-static void give(const uint64_t *numbers, size_t count)
-{
-    if (sizeof out_buffer - out_at < 8 * count)
-        flush();
-    memcpy(out_buffer + out_at, numbers, 8 * count);
-    out_at += 8 * count;
-}
-
 static void call(uint32_t line_count)
 {
     uint32_t files, lengths[2] = { 0, 0 };
@@ -53,7 +23,7 @@ static void call(uint32_t line_count)
         checked.number, checked.place, checked.allowed, checked.line, checked.count,
         changed(lines, sizeof(dogma_rule) * line_count) | changed(first, lengths[0]) | changed(second, lengths[1]),
     };
-    give(numbers, 6);
+    give(numbers, sizeof numbers);
     free(lines);
     free(first);
     free(second);

@@ -27,42 +27,6 @@ static dogma_plain plain[ROWS];
 static dogma_source sources[ROWS];
 static dogma_source_value source_values[ROWS];
 
-static uint8_t filler(size_t i)
-{
-    return (uint8_t)(i * 37 + 11);
-}
-
-/* memory of at least so many bytes */
-static uint8_t *grown(uint8_t *old, size_t *size, size_t wanted)
-{
-    if (old && wanted <= *size)
-        return old;
-    free(old);
-    *size = wanted + wanted / 2 + 64;
-    uint8_t *fresh = malloc(*size);
-    if (!fresh)
-        stop("writes: no memory\n");
-    return fresh;
-}
-
-static void get(void *to, size_t n)
-{
-    if (take(to, n) != n)
-        stop("writes: the input ends inside a call\n");
-}
-
-static void give(const void *from, size_t n)
-{
-    for (size_t done = 0; done < n;) {
-        if (out_at == sizeof out_buffer)
-            flush();
-        const size_t part = sizeof out_buffer - out_at < n - done ? sizeof out_buffer - out_at : n - done;
-        memcpy(out_buffer + out_at, (const uint8_t *)from + done, part);
-        out_at += part;
-        done += part;
-    }
-}
-
 /* The tables lie in one piece, which is compared with a copy after; columns of floats begin at a multiple of 8. */
 static void call(uint32_t kind, uint32_t room, const uint32_t *lengths)
 {
