@@ -83,7 +83,7 @@ pub type SkillRow = [u64; SKILL_WIDTH];
 // Marks of the skills that the objects require, by their numbers modulo 1,024.
 pub const SKILL_MARKS: usize = 1024;
 
-pub type SkillMarks = [u32; SKILL_MARKS];
+pub type SkillMarks = [u8; SKILL_MARKS];
 
 // ---- the aims of an effect
 

@@ -34,7 +34,7 @@ pub fn wanted_of(skills: &[SkillRow], objects: usize) -> SkillMarks
     requires inside { ⌜ objects ≤ length (now skills) ⌝ }
     ensures marked { λ r. ⌜ AllMarked objects r (now (skills .entry)) ⌝ }
 {
-    let mut wanted = [0u32; SKILL_MARKS];
+    let mut wanted = [0u8; SKILL_MARKS];
     let mut i = 0;
     while i < objects {
         let row = skills[i];
