@@ -12,3 +12,4 @@ pub mod Taking
 pub mod Comes
 pub mod Pointed
 pub mod Bounds
+pub mod Ranges

@@ -1,12 +1,11 @@
--- What a type effect gives in the second pass over an object's effects.
+-- What an effect of an object gives in its turn.
 use mathlib.Core.Bool.{not, cond}
 use mathlib.Core.List.{List, []}
 use Rattle.rules.specs.Sheet.{Book, Fit}
 use Rattle.rules.specs.Collect.{Move, effectMoves}
 use Rattle.rules.specs.declared.Item.{Item}
-use Rattle.rules.specs.declared.TypeDogmaEffect.{TypeDogmaEffect}
-use Rattle.states.specs.Raised.{among}
+use Rattle.states.specs.Raised.{Turn}
 
--- what a type effect gives, unless it is among these
-abbrev pub newMoves : Book → Fit → Item → List TypeDogmaEffect → TypeDogmaEffect → List Move
-newMoves k f o own t = cond (not (among own t)) (effectMoves k f o t) []
+-- unless it is passed over
+abbrev pub turnMoves : Book → Fit → Item → Turn → List Move
+turnMoves k f o x = cond (not (x .over)) (effectMoves k f o (x .effect)) []

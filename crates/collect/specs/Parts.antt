@@ -1,11 +1,13 @@
 -- The parts of collection: what all objects go by, and what each pass over the objects collects.
+use Prim.Native.Nat.{ℕ, _≤_, _<_}
 use mathlib.Core.Path.{_≡_}
-use mathlib.Core.Bool.{Bool, cond, _&&_, _||_}
+use mathlib.Core.Bool.{Bool, false, cond, _&&_, _||_}
 use mathlib.Core.List.{List, [], _++_}
 use lib.Dec.{leb}
+use lib.ListN.{length}
 use Rattle.laws.specs.Lists.{keep, flat}
 use Rattle.rules.specs.Sheet.{Book, Fit}
-use Rattle.rules.specs.Item.{isItem, isCharge, isSkill, isProjected, charOf, itemOf, structureFit, passed}
+use Rattle.rules.specs.Item.{object, isItem, isCharge, isSkill, isProjected, charOf, itemOf, structureFit, passed}
 use Rattle.rules.specs.Collect.{Move, ownMoves, projectedMoves, fittedMoves, buffMoves}
 use Rattle.rules.specs.declared.Item.{Item}
 use Rattle.item.specs.Categories.{CategoriesOf}
@@ -38,6 +40,18 @@ objectMoves k f x o = cond (inPhase x o) (phaseMoves k f x o) []
 -- all of a phase
 abbrev pub allOf : Book → Fit → Phase → List Move
 allOf k f x = flat (phaseMoves k f x) (keep (inPhase x) (f .objects))
+
+-- objects from number n on are skills, and none before it is
+pub record SkillsFrom (f : Fit) (n : ℕ) : Type 0 where
+  pub inside : n ≤ length (f .objects)
+  pub skilled : (i : ℕ) → i < length (f .objects) → isSkill (object f i) ≡ leb n i
+
+-- all objects of a phase stand from number n to number m
+pub record Ranged (f : Fit) (x : Phase) (n m : ℕ) : Type 0 where
+  pub ordered : n ≤ m
+  pub inside : m ≤ length (f .objects)
+  pub before : (i : ℕ) → i < n → inPhase x (object f i) ≡ false
+  pub behind : (i : ℕ) → m ≤ i → i < length (f .objects) → inPhase x (object f i) ≡ false
 
 -- all after the projected objects
 abbrev pub restOf : Book → Fit → List Move

@@ -6,10 +6,8 @@ use columns::EffectPlaces;
 use columns::PlainRow;
 use columns::TablePairs;
 use info::look_ups::FoundEffect;
-use info::look_ups::TypeEffects;
 use info::look_ups::get_dogma_effect;
 use info::look_ups::get_dogma_effects;
-use info::records::type_effect;
 use item::CategoryFound;
 use item::codes::category_at;
 use item::kinds::mutated;
@@ -22,9 +20,10 @@ use modifier::moves::push_plain;
 use rules::DogmaEffect;
 use rules::Refusal;
 use rules::TypeDogmaEffect;
-use states::has_effect;
+use states::base_effects;
+use states::effect_at;
+use states::is_doubled;
 ghost use Prim.Native.Nat.{_+_, _≤_};
-ghost use Rattle.laws.specs.Lists.{flat};
 ghost use Rattle.rules.specs.Bytes.{countOf};
 ghost use Rattle.rules.specs.Sheet.{fitOf};
 ghost use Rattle.rules.specs.Collect.{foundMoves, effectMoves, ownMoves};
@@ -32,9 +31,7 @@ ghost use Rattle.info.specs.At.{bookAt, fitAt};
 ghost use Rattle.info.specs.Sound.{HeldBook, SoundBook, SoundFit};
 ghost use Rattle.modifier.specs.Tests.{OwnerOf};
 ghost use Rattle.modifier.specs.Ran.{AllLent, Runs};
-ghost use Rattle.collect.specs.At.{runAt};
 ghost use Rattle.collect.specs.OfFit.{OfFit};
-ghost use Rattle.collect.specs.New.{newMoves};
 
 // The category is tested for every effect found. An effect with no modifiers goes to the plain list.
 fn collect_found(
@@ -133,111 +130,6 @@ fn collect_effect(
     }
 }
 
-// An effect that is not among the type's own.
-fn collect_new(
-    collected: &mut [CollectedRow],
-    collected_values: &mut [f64],
-    plain: &mut [PlainRow],
-    book: &[u8],
-    fit: &[u8],
-    pairs: &TablePairs,
-    places: &EffectPlaces,
-    rooms: CollectedRooms,
-    used: usize,
-    used_plain: usize,
-    w: Owner,
-    t: TypeDogmaEffect,
-    own: TypeEffects,
-) -> Counted
-    requires lent { ⌜ AllLent rooms (now collected) (now «collected_values») (now plain) ⌝ }
-    requires sound_book { ⌜ SoundBook (now book) (now pairs) ⌝ }
-    requires sound_fit { ⌜ SoundFit (now fit) (now pairs) ⌝ }
-    requires of_fit { ⌜ OfFit (fitOf (now fit) (now pairs)) (w .item) ⌝ }
-    requires owner { ⌜ OwnerOf (fitOf (now fit) (now pairs)) w ⌝ }
-    requires inside { ⌜ own .first + own .count ≤ countOf (now pairs) 4 ⌝ }
-    ensures defined { λ r.
-        let moves = newMoves (bookAt book pairs) (fitAt fit pairs) (w .item) (runAt book pairs own) t in
-        ⌜ Runs rooms r used «used_plain» moves collected «collected_values» plain ⌝ }
-{
-    if has_effect(book, pairs, own.first, own.count, t) {
-        return Counted::At(used, used_plain);
-    }
-    collect_effect(
-        collected,
-        collected_values,
-        plain,
-        book,
-        fit,
-        pairs,
-        places,
-        rooms,
-        used,
-        used_plain,
-        w,
-        t,
-    )
-}
-
-// A run of type effects, but for those that are among the type's own.
-fn collect_run(
-    collected: &mut [CollectedRow],
-    collected_values: &mut [f64],
-    plain: &mut [PlainRow],
-    book: &[u8],
-    fit: &[u8],
-    pairs: &TablePairs,
-    places: &EffectPlaces,
-    rooms: CollectedRooms,
-    used: usize,
-    used_plain: usize,
-    w: Owner,
-    run: TypeEffects,
-    own: TypeEffects,
-) -> Counted
-    requires lent { ⌜ AllLent rooms (now collected) (now «collected_values») (now plain) ⌝ }
-    requires sound_book { ⌜ SoundBook (now book) (now pairs) ⌝ }
-    requires sound_fit { ⌜ SoundFit (now fit) (now pairs) ⌝ }
-    requires of_fit { ⌜ OfFit (fitOf (now fit) (now pairs)) (w .item) ⌝ }
-    requires owner { ⌜ OwnerOf (fitOf (now fit) (now pairs)) w ⌝ }
-    requires inside { ⌜ run .first + run .count ≤ countOf (now pairs) 4 ⌝ }
-    requires inside_own { ⌜ own .first + own .count ≤ countOf (now pairs) 4 ⌝ }
-    ensures defined { λ r.
-        let all = flat (newMoves (bookAt book pairs) (fitAt fit pairs) (w .item) (runAt book pairs own)) (runAt book pairs run) in
-        ⌜ Runs rooms r used «used_plain» all collected «collected_values» plain ⌝ }
-{
-    let mut a = used;
-    let mut b = used_plain;
-    let mut i = run.first;
-    let end = i + run.count;
-    while i < end {
-        let t = type_effect(book, pairs, i);
-        i += 1;
-        let got = collect_new(
-            collected,
-            collected_values,
-            plain,
-            book,
-            fit,
-            pairs,
-            places,
-            rooms,
-            a,
-            b,
-            w,
-            t,
-            own,
-        );
-        match got {
-            Counted::At(k, j) => {
-                a = k;
-                b = j;
-            }
-            Counted::Refused(x) => return Counted::Refused(x),
-        }
-    }
-    Counted::At(a, b)
-}
-
 // Own type effects first, then base effects whose id the type lacks.
 pub fn collect_effects(
     collected: &mut [CollectedRow],
@@ -261,29 +153,17 @@ pub fn collect_effects(
 {
     let o = w.item;
     let own = get_dogma_effects(book, pairs, places, o.type_id);
-    let none = TypeEffects { first: 0, count: 0 };
-    let got = collect_run(
-        collected,
-        collected_values,
-        plain,
-        book,
-        fit,
-        pairs,
-        places,
-        rooms,
-        used,
-        used_plain,
-        w,
-        own,
-        none,
-    );
-    if !mutated(o) {
-        return got;
-    }
-    match got {
-        Counted::At(a, b) => {
-            let base = get_dogma_effects(book, pairs, places, o.mutation_base);
-            collect_run(
+    let base = base_effects(book, pairs, places, mutated(o), o.mutation_base);
+    let total = own.count + base.count;
+    let mut a = used;
+    let mut b = used_plain;
+    let mut i = 0;
+    while i < total {
+        let t = effect_at(book, pairs, own, base, i);
+        let over = is_doubled(book, pairs, own, i, t);
+        i += 1;
+        if !over {
+            let got = collect_effect(
                 collected,
                 collected_values,
                 plain,
@@ -295,10 +175,16 @@ pub fn collect_effects(
                 a,
                 b,
                 w,
-                base,
-                own,
-            )
+                t,
+            );
+            match got {
+                Counted::At(k, j) => {
+                    a = k;
+                    b = j;
+                }
+                Counted::Refused(x) => return Counted::Refused(x),
+            }
         }
-        Counted::Refused(x) => Counted::Refused(x),
     }
+    Counted::At(a, b)
 }

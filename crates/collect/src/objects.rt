@@ -13,6 +13,7 @@ use columns::TABLE_OBJECTS;
 use columns::TablePairs;
 use info::header::count_of;
 use info::records::object;
+use info::standing::spans_of;
 use item::kinds::is_charge;
 use item::kinds::is_item;
 use item::kinds::is_projected;
@@ -34,7 +35,7 @@ ghost use Rattle.info.specs.Sound.{SoundBook, SoundFit};
 ghost use Rattle.modifier.specs.Ran.{AllLent, Runs};
 ghost use Rattle.collect.specs.At.{Collects};
 ghost use Rattle.collect.specs.OfFit.{OfFit};
-ghost use Rattle.collect.specs.Parts.{HullOf, inPhase, objectMoves, allOf, restOf};
+ghost use Rattle.collect.specs.Parts.{HullOf, SkillsFrom, Ranged, inPhase, objectMoves, allOf, restOf};
 
 // Whether an object is collected in a phase.
 fn in_phase(phase: Phase, o: Item) -> bool
@@ -110,7 +111,7 @@ fn collect_object(
     )
 }
 
-// All objects of a phase, in order.
+// All objects of a phase, in order: none stands outside the range.
 fn collect_objects(
     collected: &mut [CollectedRow],
     collected_values: &mut [f64],
@@ -124,17 +125,19 @@ fn collect_objects(
     used_plain: usize,
     hull: Hull,
     phase: Phase,
+    first: usize,
+    end: usize,
 ) -> Counted
     requires lent { ⌜ AllLent rooms (now collected) (now «collected_values») (now plain) ⌝ }
     requires sound_book { ⌜ SoundBook (now book) (now pairs) ⌝ }
     requires sound_fit { ⌜ SoundFit (now fit) (now pairs) ⌝ }
     requires hull_of_fit { ⌜ HullOf (bookOf (now book) (now pairs)) (fitOf (now fit) (now pairs)) hull ⌝ }
+    requires ranged { ⌜ Ranged (fitOf (now fit) (now pairs)) phase first end ⌝ }
     ensures defined { λ r. ⌜ Runs rooms r used «used_plain» (allOf (bookAt book pairs) (fitAt fit pairs) phase) collected «collected_values» plain ⌝ }
 {
     let mut a = used;
     let mut b = used_plain;
-    let mut i = 0;
-    let end = count_of(pairs, TABLE_OBJECTS);
+    let mut i = first;
     while i < end {
         let o = object(fit, pairs, i);
         i += 1;
@@ -164,7 +167,7 @@ fn collect_objects(
     Counted::At(a, b)
 }
 
-// Two phases, one after the other.
+// Two phases, one after the other: the early one before the skills, the late one in its range.
 fn collect_phases(
     collected: &mut [CollectedRow],
     collected_values: &mut [f64],
@@ -179,11 +182,15 @@ fn collect_phases(
     hull: Hull,
     early: Phase,
     late: Phase,
+    skills: usize,
+    first: usize,
+    end: usize,
 ) -> Counted
     requires lent { ⌜ AllLent rooms (now collected) (now «collected_values») (now plain) ⌝ }
     requires sound_book { ⌜ SoundBook (now book) (now pairs) ⌝ }
     requires sound_fit { ⌜ SoundFit (now fit) (now pairs) ⌝ }
     requires hull_of_fit { ⌜ HullOf (bookOf (now book) (now pairs)) (fitOf (now fit) (now pairs)) hull ⌝ }
+    requires ranged { ⌜ (Ranged (fitOf (now fit) (now pairs)) early 0 skills) × (Ranged (fitOf (now fit) (now pairs)) late first end) ⌝ }
     ensures defined { λ r.
         let both = allOf (bookAt book pairs) (fitAt fit pairs) early ++ allOf (bookAt book pairs) (fitAt fit pairs) late in
         ⌜ Runs rooms r used «used_plain» both collected «collected_values» plain ⌝ }
@@ -201,6 +208,8 @@ fn collect_phases(
         used_plain,
         hull,
         early,
+        0,
+        skills,
     );
     match got {
         Counted::At(a, b) => collect_objects(
@@ -216,6 +225,8 @@ fn collect_phases(
             b,
             hull,
             late,
+            first,
+            end,
         ),
         Counted::Refused(x) => Counted::Refused(x),
     }
@@ -234,11 +245,13 @@ fn collect_rest(
     used: usize,
     used_plain: usize,
     hull: Hull,
+    skills: usize,
 ) -> Counted
     requires lent { ⌜ AllLent rooms (now collected) (now «collected_values») (now plain) ⌝ }
     requires sound_book { ⌜ SoundBook (now book) (now pairs) ⌝ }
     requires sound_fit { ⌜ SoundFit (now fit) (now pairs) ⌝ }
     requires hull_of_fit { ⌜ HullOf (bookOf (now book) (now pairs)) (fitOf (now fit) (now pairs)) hull ⌝ }
+    requires skills_last { ⌜ SkillsFrom (fitOf (now fit) (now pairs)) skills ⌝ }
     ensures defined { λ r. ⌜ Runs rooms r used «used_plain» (restOf (bookAt book pairs) (fitAt fit pairs)) collected «collected_values» plain ⌝ }
 {
     let got = collect_buffs(
@@ -255,6 +268,7 @@ fn collect_rest(
         Counted::At(a, b) => {
             let early = Phase::Fitted;
             let late = Phase::Skills;
+            let objects = count_of(pairs, TABLE_OBJECTS);
             collect_phases(
                 collected,
                 collected_values,
@@ -269,6 +283,9 @@ fn collect_rest(
                 hull,
                 early,
                 late,
+                skills,
+                skills,
+                objects,
             )
         }
         Counted::Refused(x) => Counted::Refused(x),
@@ -300,6 +317,8 @@ pub fn collect(
         plain: room_plain,
     };
     let hull = hull_of(book, fit, pairs);
+    let spans = spans_of(fit, pairs);
+    let skills = spans.end;
     let early = Phase::Front;
     let late = Phase::Projected;
     let got = collect_phases(
@@ -316,6 +335,9 @@ pub fn collect(
         hull,
         early,
         late,
+        skills,
+        0,
+        skills,
     );
     match got {
         Counted::At(a, b) => collect_rest(
@@ -330,6 +352,7 @@ pub fn collect(
             a,
             b,
             hull,
+            skills,
         ),
         Counted::Refused(x) => Counted::Refused(x),
     }

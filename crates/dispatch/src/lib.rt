@@ -8,6 +8,7 @@ use columns::TablePairs;
 use hits::places::set_hits;
 use room::full_at;
 use rows::object_lists::all_lists;
+use rows::rows::HINTS;
 use rows::rows::Laid;
 ghost use mathlib.Core.List.{List};
 ghost use Prim.Native.Nat.{_≤_, _<_, _^_};
@@ -67,11 +68,13 @@ pub fn dispatch(
         n,
         room_entries,
     );
+    let mut hints = [0u16; HINTS];
     let laid = all_lists(
         rows,
         bases,
         entries,
         values,
+        &mut hints,
         &ends,
         &collected[..n],
         &collected_values[..n],

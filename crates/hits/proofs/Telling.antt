@@ -21,8 +21,8 @@ pub record Telling (g : Item → List ℕ) (f : Fit) (n : ℕ) (rows₀ rows : L
   pub told : (j : ℕ) → j < i → getD rows j [] ≡ g (object f j)
 
 -- none yet
-pub telling-none : {g : Item → List ℕ} {f : Fit} {n m : ℕ} {rows : List (List ℕ)} → n ≡ m → length (f .objects) ≡ m → n ≤ 1024 → length rows ≡ 1024 → Telling g f n rows rows 0
-telling-none e l h w = record { all = e ∙ sym l; room = omega arith; long = refl; within = omega arith; told = λ j h. absurd (omega arith) }
+pub telling-none : {g : Item → List ℕ} {f : Fit} {n m : ℕ} {rows : List (List ℕ)} → n ≡ m → length (f .objects) ≡ m → m ≤ length rows → Telling g f n rows rows 0
+telling-none e l w = record { all = e ∙ sym l; room = omega arith; long = refl; within = omega arith; told = λ j h. absurd (omega arith) }
 
 module _ {g : Item → List ℕ} {f : Fit} {n : ℕ} {rows₀ rows : List (List ℕ)} {i : ℕ} (T : Telling g f n rows₀ rows i) where
   pub telling-more : {row : List ℕ} → i < n → row ≡ g (object f i) → Telling g f n rows₀ (set rows i row) (i + 1)

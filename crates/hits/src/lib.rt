@@ -5,7 +5,6 @@ use columns::COLLECTED_SKILL_OR_GROUP;
 use columns::COLLECTED_SOURCE;
 use columns::COLLECTED_TARGET;
 use columns::CollectedRow;
-use columns::OBJECTS;
 use columns::TablePairs;
 use info::little_endian::index;
 use info::records::object;
@@ -51,8 +50,6 @@ pub const REACH_WIDTH: usize = 8;
 
 pub type ReachRow = [u32; REACH_WIDTH];
 
-pub type ReachTable = [ReachRow; OBJECTS];
-
 const IN_SHIP: usize = 0;
 
 const WITH_CHAR: usize = 1;
@@ -83,12 +80,10 @@ pub const SKILL_WIDTH: usize = 6;
 
 pub type SkillRow = [u64; SKILL_WIDTH];
 
-pub type SkillTable = [SkillRow; OBJECTS];
-
 // Marks of the skills that the objects require, by their numbers modulo 1,024.
 pub const SKILL_MARKS: usize = 1024;
 
-pub type SkillMarks = [u32; SKILL_MARKS];
+pub type SkillMarks = [u8; SKILL_MARKS];
 
 // ---- the aims of an effect
 
@@ -273,8 +268,8 @@ fn requires_skill(row: SkillRow, skill: u32) -> bool
 }
 
 // Whether an aim by that column and that test is at object i, which stands in its range.
-pub fn is_hit(reach: &ReachTable, skills: &SkillTable, column: usize, test: Test, i: usize) -> bool
-    requires inside { ⌜ (i < 1024) × (column < 8) ⌝ }
+pub fn is_hit(reach: &[ReachRow], skills: &[SkillRow], column: usize, test: Test, i: usize) -> bool
+    requires inside { ⌜ (i < length (now reach)) × (i < length (now skills)) × (column < 8) ⌝ }
     ensures defined { λ r. ⌜ r ≡ passesBy column test (getD (now (reach .entry)) i []) (getD (now (skills .entry)) i []) ⌝ }
 {
     let reached = reach[i][column];

@@ -1,9 +1,7 @@
 // What of the objects decides who is touched: two tables, a row for each object, read once.
 use super::ReachRow;
-use super::ReachTable;
 use super::SKILL_WIDTH;
 use super::SkillRow;
-use super::SkillTable;
 use columns::TABLE_OBJECTS;
 use columns::TablePairs;
 use info::header::count_of;
@@ -26,7 +24,7 @@ use rules::Item;
 use rules::SHIP;
 use rules::SKILL;
 ghost use mathlib.Core.Path.{_≡_};
-ghost use Prim.Native.Nat.{_<_};
+ghost use Prim.Native.Nat.{_≤_, _<_};
 ghost use lib.ListN.{length};
 ghost use Rattle.rules.specs.Bytes.{countOf};
 ghost use Rattle.rules.specs.Sheet.{Book, Fit};
@@ -136,9 +134,9 @@ pub fn required_skills(fit: &[u8], pairs: &TablePairs, i: usize) -> SkillRow
 }
 
 // The required skills of all objects, into a table that is lent.
-pub fn skill_table(rows: &mut SkillTable, fit: &[u8], pairs: &TablePairs)
+pub fn skill_table(rows: &mut [SkillRow], fit: &[u8], pairs: &TablePairs)
     requires sound_fit { ⌜ SoundFit (now fit) (now pairs) ⌝ }
-    requires even { ⌜ length (now rows) ≡ 1024 ⌝ }
+    requires roomy { ⌜ countOf (now pairs) 6 ≤ length (now rows) ⌝ }
     ensures defined { λ _. ⌜ SkillsAt fit pairs (now (rows .exit)) ⌝ }
 {
     let objects = count_of(pairs, TABLE_OBJECTS);
@@ -151,10 +149,10 @@ pub fn skill_table(rows: &mut SkillTable, fit: &[u8], pairs: &TablePairs)
 }
 
 // The columns of all objects, into a table that is lent.
-pub fn reach_table(rows: &mut ReachTable, book: &[u8], fit: &[u8], pairs: &TablePairs)
+pub fn reach_table(rows: &mut [ReachRow], book: &[u8], fit: &[u8], pairs: &TablePairs)
     requires held_book { ⌜ HeldBook (now book) (now pairs) ⌝ }
     requires sound_fit { ⌜ SoundFit (now fit) (now pairs) ⌝ }
-    requires even { ⌜ length (now rows) ≡ 1024 ⌝ }
+    requires roomy { ⌜ countOf (now pairs) 6 ≤ length (now rows) ⌝ }
     ensures defined { λ _. ⌜ ReachAt (bookAt book pairs) fit pairs (now (rows .exit)) ⌝ }
 {
     let objects = count_of(pairs, TABLE_OBJECTS);

@@ -4,7 +4,6 @@ use super::SKILL_MARKS;
 use super::SKILL_WIDTH;
 use super::SkillMarks;
 use super::SkillRow;
-use super::SkillTable;
 use super::Test;
 use super::none;
 ghost use Prim.Native.Nat.{_≤_};
@@ -31,11 +30,11 @@ fn mark(wanted: &mut SkillMarks, row: SkillRow)
 }
 
 // Marks of the skills that the objects require, by their numbers modulo 1,024.
-pub fn wanted_of(skills: &SkillTable, objects: usize) -> SkillMarks
-    requires inside { ⌜ objects ≤ 1024 ⌝ }
+pub fn wanted_of(skills: &[SkillRow], objects: usize) -> SkillMarks
+    requires inside { ⌜ objects ≤ length (now skills) ⌝ }
     ensures marked { λ r. ⌜ AllMarked objects r (now (skills .entry)) ⌝ }
 {
-    let mut wanted = [0u32; SKILL_MARKS];
+    let mut wanted = [0u8; SKILL_MARKS];
     let mut i = 0;
     while i < objects {
         let row = skills[i];

@@ -17,3 +17,4 @@ pub mod RowOf
 pub mod Filling
 pub mod Owned
 pub mod Together
+pub mod Told

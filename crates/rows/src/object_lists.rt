@@ -1,5 +1,6 @@
 // Dispatch (pass_2.rs, second half): the rows and entries of objects, each in its own stretch of list 2 and its own segment of list 3.
 use super::entries::write_entries;
+use super::rows::Hints;
 use super::rows::Laid;
 use super::rows::object_rows;
 use super::spread::set_firsts;
@@ -35,6 +36,7 @@ fn object_entries(
     rows: &mut [AttributeRow],
     segment: &mut [EntryRow],
     values: &mut [f64],
+    hints: &mut Hints,
     collected: &[CollectedRow],
     collected_values: &[f64],
     book: &[u8],
@@ -57,8 +59,8 @@ fn object_entries(
         → (now (rows .exit) ≡ rowsNumbers from 0 (rowsOf book fit pairs i segment es) [])
         × EntriesLaid (rowsOf book fit pairs i segment es) (now (segment .exit)) (now (values .exit))) ⌝ }
 {
-    set_firsts(rows, from);
-    spread(rows, segment, collected, i, from);
+    set_firsts(rows, hints, from);
+    spread(rows, segment, collected, hints, i, from);
     write_entries(
         segment,
         values,
@@ -78,6 +80,7 @@ pub fn object_lists(
     bases: &mut [f64],
     segment: &mut [EntryRow],
     values: &mut [f64],
+    hints: &mut Hints,
     collected: &[CollectedRow],
     collected_values: &[f64],
     book: &[u8],
@@ -97,7 +100,18 @@ pub fn object_lists(
         ⌜ ((es : List Pass2Effect) → Holding es collected «collected_values» pairs
         → ObjectLaidAt r from (rowsOf book fit pairs i segment es) rows bases segment values) ⌝ }
 {
-    let laid = object_rows(rows, bases, segment, collected, book, fit, pairs, places, i);
+    let laid = object_rows(
+        rows,
+        bases,
+        segment,
+        collected,
+        book,
+        fit,
+        pairs,
+        places,
+        hints,
+        i,
+    );
     let Laid::Rows(k) = laid else {
         return Laid::Full;
     };
@@ -105,6 +119,7 @@ pub fn object_lists(
         &mut rows[..k],
         segment,
         values,
+        hints,
         collected,
         collected_values,
         book,
@@ -123,6 +138,7 @@ pub fn all_lists(
     bases: &mut [f64],
     entries: &mut [EntryRow],
     values: &mut [f64],
+    hints: &mut Hints,
     ends: &Places,
     collected: &[CollectedRow],
     collected_values: &[f64],
@@ -153,6 +169,7 @@ pub fn all_lists(
             &mut bases[n..room],
             &mut entries[from..end],
             &mut values[from..end],
+            hints,
             collected,
             collected_values,
             book,

@@ -3,3 +3,4 @@ pub mod BookScans
 pub mod FitScans
 pub mod Headers
 pub mod Shapes
+pub mod FiniteBits

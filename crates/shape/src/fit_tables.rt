@@ -2,7 +2,9 @@
 use super::book_tables::inside;
 use columns::TablePairs;
 use info::header::count_of;
+use info::header::offset_of;
 use info::little_endian::index;
+use info::little_endian::u32_at;
 use info::records::ask;
 use info::records::base_attribute;
 use info::records::object;
@@ -21,18 +23,19 @@ use rules::SKILL;
 ghost use mathlib.Core.Path.{_≡_};
 ghost use mathlib.Core.Bool.{true, _&&_, _||_};
 ghost use mathlib.Core.List.{map};
-ghost use Prim.Native.Nat.{_+_, _≤_};
+ghost use Prim.Native.Nat.{_+_, _≤_, _<_};
 ghost use lib.Dec.{eqb, ltb};
 ghost use lib.Signed.{ltZ};
 ghost use lib.ListN.{length};
 ghost use Rattle.laws.specs.Floats.{finite};
 ghost use Rattle.laws.specs.Lists.{every?, ascends, span};
-ghost use Rattle.rules.specs.Bytes.{countOf};
+ghost use Rattle.rules.specs.Bytes.{countOf, f64At};
 ghost use Rattle.rules.specs.Sheet.{Fit, fitOf};
 ghost use Rattle.rules.specs.Shape.{objectGood, objectsGood, basesGood, buffsGood, asksGood};
 ghost use Rattle.rules.specs.Shape as rule;
 ghost use Rattle.info.specs.At.{fitAt};
-ghost use Rattle.info.specs.Sound.{HeldFit};
+ghost use Rattle.info.specs.Sound.{HeldFit, Nth};
+ghost use Rattle.rules.specs.declared.BaseAttribute.{BaseAttribute};
 ghost use Rattle.shape.specs.Ranges.{rangeAscends};
 
 // Whether an object of kind k may stand right after one of kind a.
@@ -107,6 +110,29 @@ pub fn objects_good(fit: &[u8], pairs: &TablePairs) -> bool
     CHAR <= last
 }
 
+// Whether the float in the eight bytes from a place on is finite: its exponent's bits are not all ones.
+fn finite_at(b: &[u8], at: usize) -> bool
+    requires inside { ⌜ at + 8 ≤ length (now b) ⌝ }
+    ensures defined { λ r. ⌜ r ≡ finite (f64At (now (b .entry)) at) ⌝ }
+{
+    let low = u32_at(b, at) as u64;
+    let high = u32_at(b, at + 4) as u64;
+    let n = low + 0x1_0000_0000 * high;
+    n % 0x8000_0000_0000_0000 < 0x7ff0_0000_0000_0000
+}
+
+// Whether the value of base attribute i is finite.
+fn base_finite(fit: &[u8], pairs: &TablePairs, i: usize) -> bool
+    requires held_fit { ⌜ HeldFit (now fit) (now pairs) ⌝ }
+    requires inside { ⌜ i < countOf (now pairs) 7 ⌝ }
+    ensures defined { λ r. ⌜ ((x : BaseAttribute) → Nth (fitAt fit pairs .bases) i x → r ≡ finite (x .value)) ⌝ }
+{
+    let start = offset_of(pairs, 7) + 12 * i;
+    let end = start + 12;
+    finite_at(&fit[start..end], 4)
+}
+
+// Whether all values of table 7 are finite.
 fn bases_finite(fit: &[u8], pairs: &TablePairs) -> bool
     requires held_fit { ⌜ HeldFit (now fit) (now pairs) ⌝ }
     ensures defined { λ r. ⌜ r ≡ every? (λ x. finite (x .value)) (fitAt fit pairs .bases) ⌝ }
@@ -114,8 +140,7 @@ fn bases_finite(fit: &[u8], pairs: &TablePairs) -> bool
     let n = count_of(pairs, 7);
     let mut i = 0;
     while i < n {
-        let r = base_attribute(fit, pairs, i);
-        let good = is_finite(r.value);
+        let good = base_finite(fit, pairs, i);
         i += 1;
         if !good {
             return false;

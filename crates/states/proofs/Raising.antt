@@ -1,14 +1,15 @@
 -- Laws of the highest state, and of the loops over a type's effects.
 use Prim.Native.Nat.{ℕ, _+_, _-_, _<_, _≤_, max}
 use native.Mathlib.Omega.{arith}
-use mathlib.Core.Path.{_≡_, refl, sym, ap, _∙_}
-use mathlib.Core.Bool.{Bool, true, false, _||_}
-use mathlib.Core.List.{List, [], _∷_, _++_, map}
-use lib.ListN.{length, getD}
-use Rattle.laws.specs.Lists.{put, keep, every?, some?, span}
-use Rattle.laws.proofs.Keep.{keep-all}
-use Rattle.laws.proofs.Maps.{map-append}
-use Rattle.laws.proofs.Spans.{span-left, span-end}
+use mathlib.Core.Path.{_≡_, refl, sym, ap, ap₂, _∙_}
+use mathlib.Core.Bool.{Bool, true, false, not, _||_, cond}
+use mathlib.Core.List.{List, [], _∷_, _++_, map, append-nil}
+use lib.ListN.{length, getD, length-append, length-map, List·getD-append}
+use lib.Seq.{getD-append-add}
+use Rattle.laws.specs.Lists.{put, keep, some?, span}
+use Rattle.laws.proofs.Keep.{keep-append}
+use Rattle.laws.proofs.Maps.{same-default, map-append, map-at, map-map}
+use Rattle.laws.proofs.Spans.{span-left, span-end, span-all, span-at, span-length}
 use Rattle.rules.specs.States.{highest, raisedBy, raisedTo}
 use Rattle.rules.specs.Bytes.{countOf}
 use Rattle.rules.specs.Sheet.{Book, bookOf}
@@ -26,7 +27,7 @@ use mir.Val.{SFits, toZ, ofZ}
 use mir.ValLaws.{toZ-ofZ}
 use Rattle.rules.specs.Codes.{categoryAt}
 use Rattle.info.proofs.Elements.{type-effects-length}
-use Rattle.states.specs.Raised.{among, reachOn, raisedIn, raisedOver, reachedOf}
+use Rattle.states.specs.Raised.{among, reachOn, Turn, turn, turnsOf, reachedOf}
 
 -- count places from first on, as those up to the end
 span-ended : {A : Type 0} (first count : ℕ) (l : List A) → span first count l ≡ span first (first + count - first) l
@@ -37,9 +38,6 @@ span-ended first count l = ap (λ (n : ℕ). span first n l) same
 
 pub among-start : (t : TypeDogmaEffect) (first count : ℕ) (l : List TypeDogmaEffect) → among (span first count l) t ≡ among (span first (first + count - first) l) t
 among-start t first count l = ap (λ (q : List TypeDogmaEffect). among q t) (span-ended first count l)
-
-pub raised-start : (k : Book) (o : Item) (own : List TypeDogmaEffect) (top first count : ℕ) (l : List TypeDogmaEffect) → raisedOver k o own top (span first count l) ≡ raisedOver k o own top (span first (first + count - first) l)
-raised-start k o own top first count l = ap (raisedOver k o own top) (span-ended first count l)
 
 pub inside-types : (b : List ℕ) (pairs : List (List ℕ)) (i e : ℕ) → i < e → e ≤ countOf pairs 4 → i < length (bookOf b pairs .typeEffects)
 inside-types b pairs i e l h = omega (arith, type-effects-length b pairs)
@@ -80,30 +78,96 @@ module _ {A : Type 0} (ts : List A) (i e : ℕ) (h : e ≤ i) where
 
 -- ---- all effects of an object
 
-highest-append : (m : ℕ) (xs ys : List ℕ) → highest m (xs ++ ys) ≡ highest (highest m xs) ys
-highest-append m [] ys = refl
-highest-append m (x ∷ xs) ys = highest-append (max m x) xs ys
+abbrev pub isMeant : Turn → Bool
+isMeant x = not (x .over)
 
-every-true : {A : Type 0} (l : List A) → every? (λ x. true) l ≡ true
-every-true [] = refl
-every-true (x ∷ l) = every-true l
+abbrev pub effectOf : Turn → TypeDogmaEffect
+effectOf x = x .effect
 
-module _ (k : Book) (o : Item) where
-  -- none is among none
-  own-raised : (m : ℕ) (l : List TypeDogmaEffect) → raisedOver k o [] m l ≡ highest m (map (reachOn k o) l)
-  own-raised m l = ap (λ (q : List TypeDogmaEffect). highest m (map (reachOn k o) q)) (keep-all (λ t. true) l (every-true l))
+put-effect : (b c : Bool) (t : TypeDogmaEffect) (l : List Turn) → map effectOf (put b (turn t c) l) ≡ put b t (map effectOf l)
+put-effect true c t l = refl
+put-effect false c t l = refl
 
-  module _ (first count : ℕ) {top : ℕ} (own : getDogmaEffects k (o .«type_id») ≡ span first count (k .typeEffects)) (t : top ≡ raisedIn k o first count 0 0 (o .«max_state»)) where
-    own-top : top ≡ highest (o .«max_state») (map (reachOn k o) (getDogmaEffects k (o .«type_id»)))
-    own-top = t ∙ own-raised (o .«max_state») (span first count (k .typeEffects)) ∙ rw own refl
+own-meant : (l : List TypeDogmaEffect) → map effectOf (keep isMeant (map (λ t. turn t false) l)) ≡ l
+own-meant [] = refl
+own-meant (t ∷ l) = ap (λ (r : List TypeDogmaEffect). t ∷ r) (own-meant l)
 
-    pub reached-own : mutated o ≡ false → top ≡ reachedOf k o
-    unfolding reachedOf effectsOf
-    reached-own h = rw h own-top
+base-meant : (own l : List TypeDogmaEffect) → map effectOf (keep isMeant (map (λ t. turn t (among own t)) l)) ≡ keep (λ t. not (among own t)) l
+base-meant own [] = refl
+base-meant own (t ∷ l) =
+    put-effect (not (among own t)) (among own t) t (keep isMeant (map (λ t. turn t (among own t)) l))
+    ∙ ap (put (not (among own t)) t) (base-meant own l)
 
-    pub reached-base : (start many : ℕ) {r : ℕ} → mutated o ≡ true → getDogmaEffects k (o .«mutation_base») ≡ span start many (k .typeEffects) → r ≡ raisedIn k o start many first count top → r ≡ reachedOf k o
-    unfolding reachedOf effectsOf
-    reached-base start many h base e = rw h (e ∙ rw (← own, ← base, own-top, map-append, highest-append) refl)
+-- those that are not passed over
+turns-meant : (own base : List TypeDogmaEffect) → map effectOf (keep isMeant (turnsOf own base)) ≡ own ++ keep (λ t. not (among own t)) base
+turns-meant own base =
+    ap (map effectOf) (keep-append isMeant (map (λ t. turn t false) own) (map (λ t. turn t (among own t)) base))
+    ∙ map-append effectOf (keep isMeant (map (λ t. turn t false) own)) (keep isMeant (map (λ t. turn t (among own t)) base))
+    ∙ ap₂ (λ (a b : List TypeDogmaEffect). a ++ b) (own-meant own) (base-meant own base)
+
+module _ (k : Book) (o : Item) {own base : List TypeDogmaEffect} (p : getDogmaEffects k (o .«type_id») ≡ own) (q : cond (mutated o) (getDogmaEffects k (o .«mutation_base»)) [] ≡ base) where
+  by-mutation : (b : Bool) → mutated o ≡ b → cond b (getDogmaEffects k (o .«mutation_base»)) [] ≡ base → own ++ keep (λ t. not (among own t)) base ≡ effectsOf k o
+  unfolding effectsOf
+  by-mutation true h g = rw (h, ← g, ← p) refl
+  by-mutation false h g = rw (h, ← g, ← p) (append-nil _)
+
+  -- they are the object's effects
+  pub turns-are : map effectOf (keep isMeant (turnsOf own base)) ≡ effectsOf k o
+  turns-are = turns-meant own base ∙ by-mutation (mutated o) refl q
+
+  pub reached-start : (total : ℕ) → total ≡ length (turnsOf own base) → reachedOf k o ≡ highest (o .«max_state») (map (λ x. reachOn k o (x .effect)) (keep isMeant (span 0 (total - 0) (turnsOf own base))))
+  unfolding reachedOf
+  reached-start total n =
+      let whole : total - 0 ≡ length (turnsOf own base) = omega arith in
+      ap (λ (l : List TypeDogmaEffect). highest (o .«max_state») (map (reachOn k o) l)) (sym turns-are)
+      ∙ ap (highest (o .«max_state»)) (map-map (reachOn k o) effectOf (keep isMeant (turnsOf own base)))
+      ∙ ap (λ (l : List Turn). highest (o .«max_state») (map (λ x. reachOn k o (x .effect)) (keep isMeant l))) (sym (ap (λ (m : ℕ). span 0 m (turnsOf own base)) whole ∙ span-all (turnsOf own base)))
+
+-- effect i of them, where m stand from a on and n from b on
+module _ (ts : List TypeDogmaEffect) (a m b n : ℕ) (h : a + m ≤ length ts) (g : b + n ≤ length ts) where
+  abbrev owned : List TypeDogmaEffect
+  owned = span a m ts
+
+  abbrev based : List TypeDogmaEffect
+  based = span b n ts
+
+  pub turns-length : length (turnsOf owned based) ≡ m + n
+  turns-length =
+      length-append (map (λ t. turn t false) owned) (map (λ t. turn t (among owned t)) based)
+      ∙ ap₂ (λ (x y : ℕ). x + y) (length-map owned (λ t. turn t false) ∙ span-length a m ts h) (length-map based (λ t. turn t (among owned t)) ∙ span-length b n ts g)
+
+  module _ (i : ℕ) (d : Turn) (x : TypeDogmaEffect) where
+    pub turn-own : i < m → ((e : TypeDogmaEffect) → x ≡ getD ts (a + i) e) → turn x false ≡ getD (turnsOf owned based) i d
+    turn-own l e =
+        ap (λ (t : TypeDogmaEffect). turn t false) (e x ∙ sym (span-at a m ts i x l))
+        ∙ sym (map-at (λ t. turn t false) owned i x d (omega (arith, span-length a m ts h)))
+        ∙ sym (List·getD-append (map (λ t. turn t false) owned) (map (λ t. turn t (among owned t)) based) d i (omega (arith, length-map owned (λ t. turn t false), span-length a m ts h)))
+
+    pub turn-base : m ≤ i → i < m + n → ((e : TypeDogmaEffect) → x ≡ getD ts (b + (i - m)) e) → turn x (among owned x) ≡ getD (turnsOf owned based) i d
+    turn-base l r e =
+        let there : length (map (λ t. turn t false) owned) + (i - m) ≡ i = omega (arith, length-map owned (λ t. turn t false), span-length a m ts h) in
+        ap (λ (t : TypeDogmaEffect). turn t (among owned t)) (e x ∙ sym (span-at b n ts (i - m) x (omega arith)))
+        ∙ sym (map-at (λ t. turn t (among owned t)) based (i - m) x d (omega (arith, span-length b n ts g)))
+        ∙ sym (getD-append-add (map (λ t. turn t false) owned) (map (λ t. turn t (among owned t)) based) (i - m) d)
+        ∙ ap (λ (j : ℕ). getD (turnsOf owned based) j d) there
+
+  -- whether it is passed over
+  module _ (i : ℕ) (d : Turn) where
+    pub over-own : i < m → false ≡ getD (turnsOf owned based) i d .over
+    over-own l = ap (λ (x : Turn). x .over) (turn-own i d (getD ts (a + i) (d .effect)) l (λ e. same-default ts (a + i) (d .effect) e (omega arith)))
+
+    pub over-base : (t : TypeDogmaEffect) → m ≤ i → i < m + n → t ≡ getD (turnsOf owned based) i d .effect → among owned t ≡ getD (turnsOf owned based) i d .over
+    over-base t l r e =
+        let it = turn-base i d (getD ts (b + (i - m)) (d .effect)) l r (λ e. same-default ts (b + (i - m)) (d .effect) e (omega arith)) in
+        ap (among owned) (e ∙ sym (ap effectOf it)) ∙ ap (λ (x : Turn). x .over) it
+
+-- both of a turn's parts
+pub turn-is : {t : TypeDogmaEffect} {b : Bool} (xs : List Turn) (i : ℕ) → ((d : Turn) → t ≡ getD xs i d .effect) → ((d : Turn) → b ≡ getD xs i d .over) → (d : Turn) → turn t b ≡ getD xs i d
+turn-is xs i p q d = λ j. record { effect = p d j; over = q d j }
+
+-- a base's effects, as they were looked up
+pub base-of : (k : Book) (m : Bool) (a : ℤ) {first count : ℕ} → SFits w32 a → Stretch (cond m (getDogmaEffects k (toZ w32 (ofZ w32 a))) []) (k .typeEffects) first count → cond m (getDogmaEffects k a) [] ≡ span first count (k .typeEffects)
+base-of k m a s r = ap (λ (x : ℤ). cond m (getDogmaEffects k x) []) (sym (toZ-ofZ w32 a s)) ∙ r .is
 
 -- a type's effects, as they were looked up
 pub run-of : (k : Book) (a : ℤ) {first count : ℕ} → SFits w32 a → Stretch (getDogmaEffects k (toZ w32 (ofZ w32 a))) (k .typeEffects) first count → getDogmaEffects k a ≡ span first count (k .typeEffects)

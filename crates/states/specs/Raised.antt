@@ -1,9 +1,9 @@
 -- The parts of an object's states after collection, as the code works them out.
 use Prim.Native.Nat.{ℕ, _<_, max}
-use mathlib.Core.Bool.{Bool, not, cond}
-use mathlib.Core.List.{List, [], _∷_, map}
+use mathlib.Core.Bool.{Bool, false, cond}
+use mathlib.Core.List.{List, [], _∷_, _++_, map}
 use lib.ListN.{length, replicate}
-use Rattle.laws.specs.Lists.{eqZ, some?, keep, span}
+use Rattle.laws.specs.Lists.{eqZ, some?, span}
 use Rattle.laws.specs.Columns.{column}
 use Rattle.rules.specs.Constants.{capacitorNeed}
 use Rattle.rules.specs.Codes.{stateCode}
@@ -15,6 +15,8 @@ use Rattle.rules.specs.declared.Item.{Item}
 use Rattle.rules.specs.declared.TypeDogmaEffect.{TypeDogmaEffect}
 use Rattle.rules.specs.declared.ItemState.the-variants.{Active}
 use Rattle.info.specs.Sound.{Nth}
+use Rattle.info.specs.At.{Numbers, Rows, bookAt}
+use Rattle.info.specs.declared.look_ups.TypeEffects.{TypeEffects}
 
 -- o is an object of the fit, at its number
 pub record ObjectOf (f : Fit) (o : Item) : Type 0 where
@@ -32,13 +34,22 @@ among own t = some? (λ e. eqZ (e .«effect_id») (t .«effect_id»)) own
 abbrev pub reachOn : Book → Item → TypeDogmaEffect → ℕ
 reachOn k o t = raisedBy o (getDogmaEffect k (t .«effect_id»))
 
--- the max state, by the type effects that own lacks
-abbrev pub raisedOver : Book → Item → List TypeDogmaEffect → ℕ → List TypeDogmaEffect → ℕ
-raisedOver k o own m l = highest m (map (reachOn k o) (keep (λ t. not (among own t)) l))
+-- an effect of an object, and whether it is passed over
+pub record Turn : Type 0 where
+  pub effect : TypeDogmaEffect
+  pub over : Bool
+
+abbrev pub turn : TypeDogmaEffect → Bool → Turn
+turn t b = record { effect = t; over = b }
+
+-- its own type's, then its base's: of these the ones that the type has are passed over
+abbrev pub turnsOf : List TypeDogmaEffect → List TypeDogmaEffect → List Turn
+turnsOf own base = map (λ t. turn t false) own ++ map (λ t. turn t (among own t)) base
 
 -- the same by places in the table
-abbrev pub raisedIn : Book → Item → ℕ → ℕ → ℕ → ℕ → ℕ → ℕ
-raisedIn k o first count own owned m = raisedOver k o (span own owned (k .typeEffects)) m (span first count (k .typeEffects))
+abbrev pub turnsAt : Numbers → Rows → TypeEffects → TypeEffects → List Turn
+turnsAt b p own base =
+    turnsOf (span (own .first) (own .count) (bookAt b p .typeEffects)) (span (base .first) (base .count) (bookAt b p .typeEffects))
 
 -- by all its effects
 unfoldable pub reachedOf : Book → Item → ℕ

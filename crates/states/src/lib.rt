@@ -9,6 +9,7 @@ use info::header::count_of;
 use info::little_endian::index;
 use info::look_ups::FoundBase;
 use info::look_ups::FoundEffect;
+use info::look_ups::TypeEffects;
 use info::look_ups::get_base;
 use info::look_ups::get_dogma_effect;
 use info::look_ups::get_dogma_effects;
@@ -29,17 +30,22 @@ use rules::CATEGORY_STRUCTURE;
 use rules::Item;
 use rules::TypeDogmaEffect;
 ghost use mathlib.Core.Path.{_≡_};
-ghost use mathlib.Core.Bool.{_&&_, _||_};
+ghost use mathlib.Core.Bool.{_&&_, _||_, cond};
+ghost use mathlib.Core.List.{[]};
+ghost use lib.ListN.{getD};
 ghost use Prim.Native.Nat.{_+_, _-_, _≤_, _<_, max, min};
 ghost use Rattle.laws.specs.Lists.{span};
 ghost use Rattle.rules.specs.Bytes.{countOf};
 ghost use Rattle.rules.specs.Sheet.{Book, Fit, bookOf, fitOf};
+ghost use Rattle.rules.specs.Info.{getDogmaEffects};
 ghost use Rattle.rules.specs.Item.{isItem, isCharge, itemOf, passed, structureFit};
 ghost use Rattle.rules.specs.States.{collectedStates, statesOf};
 ghost use Rattle.info.specs.At.{bookAt, fitAt};
+ghost use Rattle.info.specs.LookUps.{Stretch};
+ghost use Rattle.info.specs.declared.look_ups.TypeEffects.{TypeEffects};
 ghost use Rattle.info.specs.Sound.{HeldBook, HeldFit, SoundBook, SoundFit};
 ghost use Rattle.item.specs.Categories.{CategoriesOf};
-ghost use Rattle.states.specs.Raised.{among, both, reachOn, raisedIn, reachedOf, ableOf, ObjectOf, rowsOf};
+ghost use Rattle.states.specs.Raised.{among, both, reachOn, Turn, turnsAt, reachedOf, ableOf, ObjectOf, rowsOf};
 
 // The higher of two states.
 pub fn higher(a: u32, b: u32) -> u32
@@ -160,35 +166,61 @@ fn reach_by(
     }
 }
 
-// The max state that type effects raise an object to, but for those that are among its own.
-fn raised(
+// The effects of the type that an object was mutated from: none where it was not.
+pub fn base_effects(
     book: &[u8],
     pairs: &TablePairs,
     places: &EffectPlaces,
-    o: Item,
-    first: usize,
-    count: usize,
-    own: usize,
-    owned: usize,
-    start: u32,
-) -> u32
+    mutated: bool,
+    id: i32,
+) -> TypeEffects
     requires sound_book { ⌜ SoundBook (now book) (now pairs) ⌝ }
-    requires inside { ⌜ first + count ≤ countOf (now pairs) 4 ⌝ }
-    requires own_inside { ⌜ own + owned ≤ countOf (now pairs) 4 ⌝ }
-    ensures defined { λ r. ⌜ r ≡ raisedIn (bookAt book pairs) o first count own owned start ⌝ }
+    ensures together { λ r. let k = bookAt book pairs in
+        ⌜ Stretch (cond mutated (getDogmaEffects k id) []) (k .typeEffects) (r .first) (r .count) ⌝ }
 {
-    let end = first + count;
-    let mut top = start;
-    let mut i = first;
-    while i < end {
-        let t = type_effect(book, pairs, i);
-        i += 1;
-        if !has_effect(book, pairs, own, owned, t) {
-            let reach = reach_by(book, pairs, places, o, t);
-            top = higher(top, reach);
-        }
+    if mutated {
+        return get_dogma_effects(book, pairs, places, id);
     }
-    top
+    TypeEffects { first: 0, count: 0 }
+}
+
+// Effect k of an object: of its own type's, then of its base's. One loop over both is put into its caller, two are not.
+pub fn effect_at(
+    book: &[u8],
+    pairs: &TablePairs,
+    own: TypeEffects,
+    base: TypeEffects,
+    k: usize,
+) -> TypeDogmaEffect
+    requires held_book { ⌜ HeldBook (now book) (now pairs) ⌝ }
+    requires inside { ⌜ (own .first + own .count ≤ countOf (now pairs) 4) × (base .first + base .count ≤ countOf (now pairs) 4) ⌝ }
+    requires one_of_them { ⌜ k < own .count + base .count ⌝ }
+    ensures defined { λ r. ⌜ ((d : Turn) → r ≡ getD (turnsAt book pairs own base) k d .effect) ⌝ }
+{
+    if k < own.count {
+        return type_effect(book, pairs, own.first + k);
+    }
+    type_effect(book, pairs, base.first + (k - own.count))
+}
+
+// Whether effect k is of the base's, and the type has it too.
+pub fn is_doubled(
+    book: &[u8],
+    pairs: &TablePairs,
+    own: TypeEffects,
+    k: usize,
+    t: TypeDogmaEffect,
+) -> bool
+    requires held_book { ⌜ HeldBook (now book) (now pairs) ⌝ }
+    requires inside { ⌜ own .first + own .count ≤ countOf (now pairs) 4 ⌝ }
+    ensures defined { λ r.
+        ⌜ ((base : TypeEffects) (d : Turn) → k < own .count + base .count → base .first + base .count ≤ countOf (now (pairs .entry)) 4
+        → t ≡ getD (turnsAt book pairs own base) k d .effect → r ≡ getD (turnsAt book pairs own base) k d .over) ⌝ }
+{
+    if k < own.count {
+        return false;
+    }
+    has_effect(book, pairs, own.first, own.count, t)
 }
 
 // The max state that all its effects raise an object to: its own type's, then its base's that the type lacks.
@@ -197,30 +229,18 @@ fn reached(book: &[u8], pairs: &TablePairs, places: &EffectPlaces, o: Item) -> u
     ensures defined { λ r. ⌜ r ≡ reachedOf (bookAt book pairs) o ⌝ }
 {
     let own = get_dogma_effects(book, pairs, places, o.type_id);
-    let top = raised(
-        book,
-        pairs,
-        places,
-        o,
-        own.first,
-        own.count,
-        0,
-        0,
-        o.max_state,
-    );
-    if mutated(o) {
-        let base = get_dogma_effects(book, pairs, places, o.mutation_base);
-        return raised(
-            book,
-            pairs,
-            places,
-            o,
-            base.first,
-            base.count,
-            own.first,
-            own.count,
-            top,
-        );
+    let base = base_effects(book, pairs, places, mutated(o), o.mutation_base);
+    let total = own.count + base.count;
+    let mut top = o.max_state;
+    let mut k = 0;
+    while k < total {
+        let t = effect_at(book, pairs, own, base, k);
+        let over = is_doubled(book, pairs, own, k, t);
+        k += 1;
+        if !over {
+            let reach = reach_by(book, pairs, places, o, t);
+            top = higher(top, reach);
+        }
     }
     top
 }

@@ -47,8 +47,8 @@ enum-known-test-2 c = search needs
 mul-row : tie.Need-mul-row
 mul-row c = search needs
 
-element-copy-out-row : tie.Need-element-copy-out-row
-element-copy-out-row c = search needs
+shared-slice-copy-out-row : tie.Need-shared-slice-copy-out-row
+shared-slice-copy-out-row c = search needs
 
 requires-skill-requires : tie.Need-requires-skill-requires
 requires-skill-requires c κs = search needs
@@ -78,7 +78,7 @@ is-hit-spec =
     index-2-result
     enum-known-test-2
     mul-row
-    element-copy-out-row
+    shared-slice-copy-out-row
     requires-skill-requires
     returns-2
     returns-3

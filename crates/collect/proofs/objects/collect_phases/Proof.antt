@@ -11,13 +11,13 @@ use Rattle.modifier.proofs.Runs.{answered, was-refused}
 use Rattle.collect.proofs.Turns.{in-turn, stopped-first, all-lent-kept}
 
 collect-objects-requires : tie.Need-collect-objects-requires
-collect-objects-requires c κs = c .before .before .before .before .before .before .pre
+collect-objects-requires c κs = (c .before .before .before .before .before .before .pre .0, (c .before .before .before .before .before .before .pre .1 .0, (c .before .before .before .before .before .before .pre .1 .1 .0, (c .before .before .before .before .before .before .pre .1 .1 .1 .0, c .before .before .before .before .before .before .pre .1 .1 .1 .1 .0))))
 
 enum-known-got : tie.Need-enum-known-got
 enum-known-got c = search needs
 
 collect-objects-requires-2 : tie.Need-collect-objects-requires-2
-collect-objects-requires-2 c κs = (all-lent-kept (c .before .before .before .before .before .before .before .before .before .before .before .before .before .before .before .before .before .pre .0) (c .before .before .before .before .before .before .before .before .before .before .collect-objects .kept .0) (c .before .before .before .before .before .before .before .before .before .before .collect-objects .kept .1 .0) (c .before .before .before .before .before .before .before .before .before .before .collect-objects .kept .1 .1 .0), c .before .before .before .before .before .before .before .before .before .before .before .before .before .before .before .before .before .pre .1)
+collect-objects-requires-2 c κs = (all-lent-kept (c .before .before .before .before .before .before .before .before .before .before .before .before .before .before .before .before .before .pre .0) (c .before .before .before .before .before .before .before .before .before .before .collect-objects .kept .0) (c .before .before .before .before .before .before .before .before .before .before .collect-objects .kept .1 .0) (c .before .before .before .before .before .before .before .before .before .before .collect-objects .kept .1 .1 .0), (c .before .before .before .before .before .before .before .before .before .before .before .before .before .before .before .before .before .pre .1 .0, (c .before .before .before .before .before .before .before .before .before .before .before .before .before .before .before .before .before .pre .1 .1 .0, (c .before .before .before .before .before .before .before .before .before .before .before .before .before .before .before .before .before .pre .1 .1 .1 .0, c .before .before .before .before .before .before .before .before .before .before .before .before .before .before .before .before .before .pre .1 .1 .1 .1 .1))))
 
 enum-known-got-2 : tie.Need-enum-known-got-2
 enum-known-got-2 c = search needs

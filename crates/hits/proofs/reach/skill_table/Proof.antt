@@ -1,8 +1,12 @@
 -- Made by `answers` from Proof.answers: edit that file.
 -- `reach::skill_table` meets its contract. The measure is how many objects are left.
+use borrow.Author.Needs.{needs}
 use Rattle.hits.proofs.reach.skill_table.Statement.{statement}
 use Rattle.hits.proofs.reach.skill_table.Tie as tie
-use borrow.Author.Needs.{needs}
+use Rattle.hits.proofs.reach.skill_table.Reads as reads
+use Rattle.hits.proofs.reach.skill_table.Lts as lts
+use Rattle.hits.proofs.reach.required_skills.Reads as required-skills-reads
+use Rattle.info.proofs.header.count_of.Reads as count-of-reads
 use Prim.Native.Nat.{_-_}
 use mathlib.Core.Path.{_≡_}
 use native.Mathlib.Omega.{arith}
@@ -17,18 +21,49 @@ Inv-loop rows₀ fit pairs objects i₀ rows i = Telling (requiredBits (fitOf fi
 abbrev μ-loop : tie.MeasureT-loop
 μ-loop rows₀ fit pairs objects i₀ rows i = objects - i
 
+count-of-requires : tie.Need-count-of-requires Inv-loop μ-loop
+count-of-requires c κs = search needs
+
+loop-holds : tie.Need-loop-holds Inv-loop μ-loop
+loop-holds c = telling-none (c .count-of .ensures) (objects-length (c .before .before .args .fit .now) (c .before .before .args .pairs .now)) (c .before .before .pre .1)
+
+required-skills-requires : tie.Need-required-skills-requires Inv-loop μ-loop
+required-skills-requires c κs = (c .before .before .before .before .pre .0, omega (arith, c .loop-test .taken, c .before .before .count-of .ensures))
+
+mul-row : tie.Need-mul-row Inv-loop μ-loop
+mul-row c = search needs
+
+slice-set-from-row : tie.Need-slice-set-from-row Inv-loop μ-loop
+slice-set-from-row c = search needs
+
+add-i : tie.Need-add-i Inv-loop μ-loop
+add-i c = search needs
+
+loop-less : tie.Need-loop-less Inv-loop μ-loop
+loop-less c = search needs
+
+loop-again : tie.Need-loop-again Inv-loop μ-loop
+loop-again c = telling-more (c .before .before .loop .inv) (c .before .loop-test .taken) (c .required-skills .ensures)
+
+same-length : tie.Need-same-length Inv-loop μ-loop
+same-length c = search needs
+
+returns : tie.Need-returns Inv-loop μ-loop
+returns c = telling-all (c .before .loop .inv) (c .loop-test .left)
+
 pub skill-table-spec : {M : Type 1} → statement M
 skill-table-spec =
     tie.close
     (tie.spec
     Inv-loop
     μ-loop
-    (λ c κs. search needs)
-    (λ c. telling-none (c .count-of .ensures) (objects-length (c .before .before .args .fit .now) (c .before .before .args .pairs .now)) (omega (arith, c .count-of .ensures, c .before .before .pre .0 .held .objects .few)) (c .before .before .pre .1))
-    (λ c κs. (c .before .before .before .before .pre .0, omega (arith, c .loop-test .taken, c .before .before .count-of .ensures)))
-    (λ c. search needs)
-    (λ c. search needs)
-    (λ c. search needs)
-    (λ c. search needs)
-    (λ c. telling-more (c .before .before .loop .inv) (c .before .loop-test .taken) (c .required-skills .ensures))
-    (λ c. telling-all (c .before .loop .inv) (c .loop-test .left)))
+    count-of-requires
+    loop-holds
+    required-skills-requires
+    mul-row
+    slice-set-from-row
+    add-i
+    loop-less
+    loop-again
+    same-length
+    returns)

@@ -1,10 +1,10 @@
 -- Made by `answers` from Proof.answers: edit that file.
 -- `wanted::mark` meets its contract. The measure is how many skills are left.
+use borrow.Author.Needs.{needs}
 use Rattle.hits.proofs.wanted.mark.Statement.{statement}
 use Rattle.hits.proofs.wanted.mark.Tie as tie
 use Rattle.hits.proofs.wanted.mark.Reads as reads
 use Rattle.hits.proofs.wanted.mark.Lts as lts
-use borrow.Author.Needs.{needs}
 use Prim.Native.Nat.{_-_}
 use native.Mathlib.Omega.{arith}
 use mathlib.Core.Path.{refl}
@@ -25,9 +25,6 @@ mul-required c = search needs
 
 array-read-required : tie.Need-array-read-required Inv-loop μ-loop
 array-read-required c = search needs
-
-mul-wanted : tie.Need-mul-wanted Inv-loop μ-loop
-mul-wanted c = search needs
 
 element-write-wanted : tie.Need-element-write-wanted Inv-loop μ-loop
 element-write-wanted c = search needs
@@ -53,7 +50,6 @@ mark-spec =
     loop-holds
     mul-required
     array-read-required
-    mul-wanted
     element-write-wanted
     add-k
     loop-less

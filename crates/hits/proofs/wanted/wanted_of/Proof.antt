@@ -1,11 +1,11 @@
 -- Made by `answers` from Proof.answers: edit that file.
 -- `wanted::wanted_of` meets its contract. The measure is how many objects are left.
+use borrow.Author.Needs.{needs}
 use Rattle.hits.proofs.wanted.wanted_of.Statement.{statement}
 use Rattle.hits.proofs.wanted.wanted_of.Tie as tie
 use Rattle.hits.proofs.wanted.wanted_of.Reads as reads
 use Rattle.hits.proofs.wanted.wanted_of.Lts as lts
 use Rattle.hits.proofs.wanted.mark.Reads as mark-reads
-use borrow.Author.Needs.{needs}
 use Prim.Native.Nat.{_-_}
 use native.Mathlib.Omega.{arith}
 use mathlib.Core.Path.{refl}
@@ -24,8 +24,8 @@ loop-holds c = all-none refl
 mul-row : tie.Need-mul-row Inv-loop μ-loop
 mul-row c = search needs
 
-element-copy-out-row : tie.Need-element-copy-out-row Inv-loop μ-loop
-element-copy-out-row c = search needs
+shared-slice-copy-out-row : tie.Need-shared-slice-copy-out-row Inv-loop μ-loop
+shared-slice-copy-out-row c = search needs
 
 mark-requires : tie.Need-mark-requires Inv-loop μ-loop
 mark-requires c κs = c .before .before .before .loop .inv .long
@@ -50,7 +50,7 @@ wanted-of-spec =
     μ-loop
     loop-holds
     mul-row
-    element-copy-out-row
+    shared-slice-copy-out-row
     mark-requires
     add-i
     loop-less

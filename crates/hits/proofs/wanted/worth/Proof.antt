@@ -17,9 +17,6 @@ returns c = search needs
 cast-at : tie.Need-cast-at
 cast-at c = search needs
 
-mul-marked : tie.Need-mul-marked
-mul-marked c = search needs
-
 element-copy-out-marked : tie.Need-element-copy-out-marked
 element-copy-out-marked c = search needs
 
@@ -39,7 +36,6 @@ worth-spec =
     enum-known-test
     returns
     cast-at
-    mul-marked
     element-copy-out-marked
     none-requires
     returns-2
