@@ -1,5 +1,5 @@
 -- A block of lines: how its ids are laid, the place of an id among them, and its sums, an object at a time.
-use Prim.Native.Nat.{ℕ, zero, suc, _+_, _*_, _-_, _≤_, _<_}
+use Prim.Native.Nat.{ℕ, _+_, _*_, _-_, _≤_, _<_}
 use native.Mathlib.Nat.{add-zero, eq-or-lt-of-le, lt-irrefl}
 use native.Mathlib.Omega.{arith}
 use mathlib.Core.Path.{_≡_, refl, sym, ap, subst, _∙_}
@@ -16,11 +16,11 @@ use mir.Val.{SFits, toZ, ofZ}
 use mir.Facts.{toZ-ofZ}
 use borrow.Author.Tests.{eqb-true, eqb-false, eq-eqb, ne-eqb, ltb-true, ltb-false}
 use Rattle.laws.specs.Lists.{eqZ, keep}
-use Rattle.laws.proofs.Bools.{and-left, and-right, and-false-right, both-ways, not-passed, true-or-false}
+use Rattle.laws.proofs.Bools.{and-right, both-ways, not-passed, true-or-false}
 use Rattle.laws.proofs.Keep.{keep-keep}
 use Rattle.laws.proofs.Maps.{map-at}
-use Rattle.laws.proofs.Order.{ltZ-apart, ltZ-false, ltZ-trans, ltZ-irrefl, leZ-ltZ-trans, eqZ-sym}
-use Rattle.laws.proofs.Search.{Between, Falls, between-start}
+use Rattle.laws.proofs.Order.{ltZ-apart, ltZ-false, ltZ-trans, leZ-ltZ-trans, eqZ-sym}
+use Rattle.laws.proofs.Search.{between-start}
 use Rattle.laws.proofs.Signs.{eqZ-bits}
 use Rattle.laws.proofs.Windows.{Counted, counted-more, narrowed}
 use Rattle.rules.specs.Bytes.{signed}
@@ -29,7 +29,7 @@ use Rattle.rules.specs.Item.{noItem, object}
 use Rattle.rules.specs.declared.Item.{Item}
 use Rattle.tallies.specs.Tallies.{Line, lineOf, rises, counts, counted, total}
 use Rattle.tallies.specs.Blocks.{Ordered, Laid, Keyed, idBelow, Findable, Bounds, Added, keyOf, piecesBy, Summed, Told}
-use Rattle.tallies.proofs.Sums.{upTo, up-none, up-next, up-all}
+use Rattle.tallies.proofs.Sums.{total-next}
 
 -- ---- what rises
 
@@ -256,8 +256,9 @@ module _ (k : Book) (f : Fit) (kind : ℕ) (ids : List ℕ) where
 
   module _ {i : ℕ} {sums : List ℕ} (S : Summed k f kind ids i sums) (h : i < length (f .objects)) {o : Item} (e : o ≡ object f i) {w : ℕ} (v : w ≡ cond (counts k o) (o .quantity) 0) (few : w ≤ 4294967295) where
     next : (p : Item → Bool) → total (λ o. o .quantity) (keep p (take (i + 1) (f .objects))) ≡ total (λ o. o .quantity) (keep p (take i (f .objects))) + cond (p o) (o .quantity) 0
-    unfolding upTo
-    next p = up-next (λ o. o .quantity) p (f .objects) i noItem h ∙ ap (λ (x : Item). upTo (λ o. o .quantity) p (f .objects) i + cond (p x) (x .quantity) 0) (sym e)
+    next p =
+        total-next (λ o. o .quantity) p (f .objects) i noItem h
+        ∙ ap (λ (x : Item). total (λ o. o .quantity) (keep p (take i (f .objects))) + cond (p x) (x .quantity) 0) (sym e)
 
     all-few : total (λ o. o .quantity) (keep (counts k) (take (i + 1) (f .objects))) ≤ 4294967295 * (i + 1)
     all-few = omega (arith, next (counts k), v, few, S .all)

@@ -1,6 +1,6 @@
 -- The points of all, a line at a time: what its pieces cost is added at each price.
 use Prim.Native.Nat.{ℕ, zero, suc, _+_, _*_, _-_, _≤_, _<_}
-use native.Mathlib.Nat.{add-zero, add-mul, mul-add, mul-zero, mul-comm, mul-le-mul-left, eq-or-lt-of-le}
+use native.Mathlib.Nat.{add-zero, add-mul, mul-add, mul-zero, mul-le-mul-left, eq-or-lt-of-le}
 use native.Mathlib.Omega.{arith}
 use mathlib.Core.Path.{_≡_, refl, sym, ap, subst, _∙_}
 use mathlib.Core.Bool.{Bool, true, false, _&&_, _||_, cond}
@@ -12,7 +12,7 @@ use lib.ListN.{length, getD, take}
 use lib.Seq.{getD-take, length-take-le, take-all}
 use lib.Signed.{ltZ}
 use borrow.Author.Tests.{eqb-true, ltb-true, ne-eqb}
-use Rattle.laws.specs.Lists.{eqZ, keep, first, orElse}
+use Rattle.laws.specs.Lists.{eqZ, first}
 use Rattle.laws.proofs.Bools.{and-left, and-right, both-ways, not-passed}
 use Rattle.laws.proofs.Maps.{take-next}
 use Rattle.laws.proofs.Order.{eqZ-true, eqZ-sym, ltZ-irrefl}

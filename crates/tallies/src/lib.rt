@@ -81,7 +81,11 @@ fn pieces(c: Categories, o: Item) -> u64
 fn key_of(kind: u32, o: Item) -> i32
     ensures defined { λ r. ⌜ r ≡ keyOf kind o ⌝ }
 {
-    if kind == RULE_POINTS { o.type_id } else { o.group_id }
+    if kind == RULE_POINTS {
+        o.type_id
+    } else {
+        o.group_id
+    }
 }
 
 // The ids of the lines that go on from the first of them: of its kind, at most 1,023. How many they are.
@@ -182,7 +186,14 @@ fn count(sums: &mut Sums, ids: &Ids, kind: u32, book: &[u8], fit: &[u8], pairs: 
 }
 
 // The sums of the block of lines that starts here, into a table that is lent; a total has none. How many lines it has.
-pub fn tallied(sums: &mut Sums, lines: &[RuleLine], first: usize, book: &[u8], fit: &[u8], pairs: &TablePairs) -> usize
+pub fn tallied(
+    sums: &mut Sums,
+    lines: &[RuleLine],
+    first: usize,
+    book: &[u8],
+    fit: &[u8],
+    pairs: &TablePairs,
+) -> usize
     requires ordered { ⌜ Ordered (map lineOf (now lines)) ⌝ }
     requires inside { ⌜ first < length (now lines) ⌝ }
     requires held_book { ⌜ HeldBook (now book) (now pairs) ⌝ }

@@ -128,7 +128,11 @@ fn most(line: RuleLine) -> u64
 fn tally(line: RuleLine, points: u64, sum: u64) -> u64
     ensures defined { λ r. ⌜ r ≡ cond (eqb (lineOf line .kind) 3) points sum ⌝ }
 {
-    if line[RULE_KIND] == RULE_TOTAL { points } else { sum }
+    if line[RULE_KIND] == RULE_TOTAL {
+        points
+    } else {
+        sum
+    }
 }
 
 // What the pieces of a line's sum cost, where it gives points.
@@ -153,7 +157,16 @@ fn is_broken(line: RuleLine, count: u64) -> bool
 }
 
 // The first broken line of a block, by its sums and the points of the lines before it.
-fn walk(lines: &[RuleLine], first: usize, n: usize, sums: &Sums, before: u64, book: &[u8], fit: &[u8], pairs: &TablePairs) -> Walked
+fn walk(
+    lines: &[RuleLine],
+    first: usize,
+    n: usize,
+    sums: &Sums,
+    before: u64,
+    book: &[u8],
+    fit: &[u8],
+    pairs: &TablePairs,
+) -> Walked
     requires ordered { ⌜ Ordered (map lineOf (now lines)) ⌝ }
     requires told { let os = counted (bookOf (now book) (now pairs)) (fitOf (now fit) (now pairs)) in
         ⌜ Told (map lineOf (now lines)) os first n (now sums) ⌝ }
@@ -178,7 +191,14 @@ fn walk(lines: &[RuleLine], first: usize, n: usize, sums: &Sums, before: u64, bo
 }
 
 // The block of lines that starts here.
-fn in_block(lines: &[RuleLine], first: usize, before: u64, book: &[u8], fit: &[u8], pairs: &TablePairs) -> Walked
+fn in_block(
+    lines: &[RuleLine],
+    first: usize,
+    before: u64,
+    book: &[u8],
+    fit: &[u8],
+    pairs: &TablePairs,
+) -> Walked
     requires ordered { ⌜ Ordered (map lineOf (now lines)) ⌝ }
     requires inside { ⌜ first < length (now lines) ⌝ }
     requires held_book { ⌜ HeldBook (now book) (now pairs) ⌝ }
