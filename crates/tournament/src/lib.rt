@@ -156,7 +156,7 @@ fn is_broken(line: RuleLine, count: u64) -> bool
     (RULE_POINTS < line[RULE_KIND]) & (allows < count)
 }
 
-// The first broken line of a block, by its sums and the points of the lines before it.
+// The first broken line of a block, by its sums and the points of the lines before it. Book, fit and pairs say whose they are; none is read.
 fn walk(
     lines: &[RuleLine],
     first: usize,
