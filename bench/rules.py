@@ -60,7 +60,9 @@ def kinds():
     yield "all kinds", "the same; 333 prices, 333 caps, 333 forbidden groups", items(distinct), table(range(1, 334), range(1, 334), range(5000, 5333), 1)
     yield "one group", "1,022 modules of one type and group; caps on 999 others", items([(9, 1)] * 1022), table([], range(2, 1001), [], 0)
     yield "random ids", "types and groups of 31 random bits; a cap of 1 on 999 groups", items(wide), table([], [g for _, g in wide][:999], [], 1)
-    yield "one bucket", "all groups alike modulo 1,021, made to be slow; a cap of 1 on 999", items(alike), table([], [g for _, g in alike][:999], [], 1)
+    yield "alike", "all groups alike modulo 1,021; a cap of 1 on 999", items(alike), table([], [g for _, g in alike][:999], [], 1)
+    types, found, others = [t for t, _ in wide[:333]], [g for _, g in wide[:333]], [some.randrange(1, 2 ** 31) for _ in range(333)]
+    yield "random kinds", "types and groups of 31 random bits; 333 prices, 333 caps, 333 forbidden groups", items(wide), table(types, found, others, 1)
 
 
 def packed(lines):

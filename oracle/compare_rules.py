@@ -4,7 +4,8 @@
 Usage: compare_rules.py [--seed SEED] [--workers N] [--emulated] [--from N] [TABLES]: so many tables of lines (default 100,000), each on a
 fit of its own, as a sheet and cut into book and fit. Lines name types and groups that the fit has and has not, of items that count and of
 objects that do not; caps and totals are just enough, one short, none or wide; quantities go up to 2^32 - 1. Tables are damaged (order,
-pairs that stand twice, kinds, points, totals), and so are sheets, books and fits. Calls that differ go to target/compare. The library is
+pairs that stand twice, kinds, points, totals), and so are sheets, books and fits. One table in five hundred has some thousands of lines, on a
+fit of up to 1,022 items. Calls that differ go to target/compare. The library is
 the one of library/build; --emulated as in compare_engine.py. A table is made of the seed and its number alone.
 """
 import argparse
@@ -27,6 +28,7 @@ from rules import FORBIDDEN, MOST, POINTS, TOTAL
 
 TABLES_A_BATCH = 250
 HIGHEST = 2 ** 32 - 1
+LOW = 3
 ENDS = [0, 1, -1, 2 ** 31 - 1, -2 ** 31, 7, 65536, 1021, 1024]
 
 
@@ -52,7 +54,26 @@ def groups(data, r):
     return data
 
 
+def is_crowded(number):
+    """Whether a table is one of many lines on a fit of many objects."""
+    return number % 500 == 13
+
+
+def crowded(r):
+    """Many items, whose ids are near one another, far apart, or alike modulo 1,021 or 1,024."""
+    sheet = make_sheets.Sheet()
+    apart, count = r.choice([1, 1021, 1024, 2 ** 20]), r.choice([60, 200, 400, 1022])
+    ids = [min(r.randrange(-1022, 1022) * apart, 2 ** 31 - 1) for _ in range(count)] + [2 ** 31 - 1, -2 ** 31]
+    records = [make_sheets.object_record(make_sheets.SHIP, 8, category=6), make_sheets.object_record(make_sheets.CHAR, 1)]
+    records += [make_sheets.object_record(make_sheets.ITEM, r.choice(ids), r.choice(ids), r.choice([7, 7, 7, 3]), LOW, HIGHEST if r.random() < 0.002 else r.choice([1, 1, 2, 5]), 1, 1)
+                for _ in range(count)]
+    sheet.tables[5] = records
+    return sheet.bytes()
+
+
 def fit(r, number):
+    if is_crowded(number):
+        return crowded(r)
     kind = "small-real" if number % 100 == 7 else r.choice(["tiny", "tiny", "dense"])
     data = make_sheets.KINDS[kind](r)
     return groups(quantities(data, r), r) if r.random() < 0.8 else data
@@ -63,8 +84,8 @@ def fit(r, number):
 class Lines:
     """A table for a sound sheet."""
 
-    def __init__(self, r, data):
-        self.r = r
+    def __init__(self, r, data, many=False):
+        self.r, self.many = r, many
         run = reference.Run(data, reference.AMPLE)
         run.read()
         self.items = rules.counted(run)
@@ -77,16 +98,19 @@ class Lines:
 
     def limit(self, exact):
         r = self.r
+        if self.many:
+            return min(max(exact - (r.random() < 0.0005), 0), HIGHEST)
         wanted = r.choice([exact, exact, exact, exact - 1, exact + 1, 0, HIGHEST, r.randrange(2 ** 32)])
         return min(max(wanted, 0), HIGHEST)
 
     def make(self):
         r = self.r
-        some = lambda known: sorted({min(max(self.id_of(known), -2 ** 31), 2 ** 31 - 1) for _ in range(r.choice([0, 1, 2, 3, 5, 12]))})
+        lengths = [0, 300, 1000, 1500, 3000, 6000] if self.many else [0, 1, 2, 3, 5, 12]
+        some = lambda known: sorted({min(max(self.id_of(known), -2 ** 31), 2 ** 31 - 1) for _ in range(r.choice(lengths))})
         prices = {i: r.choice([0, 1, 2, 3, 10, 65535, r.randrange(65536)]) for i in some(self.types)}
         lines = [(POINTS, i, number) for i, number in sorted(prices.items())]
         lines += [(MOST, i, self.limit(rules.tally(self.items, prices, MOST, i))) for i in some(self.groups)]
-        absent = [i for i in some(self.groups) if r.random() < 0.2 or rules.tally(self.items, prices, FORBIDDEN, i) == 0]
+        absent = [i for i in some(self.groups) if r.random() < (0 if self.many else 0.2) or rules.tally(self.items, prices, FORBIDDEN, i) == 0]
         lines += [(FORBIDDEN, i, r.choice([0, 0, 1, 9, HIGHEST])) for i in absent]
         if r.random() < 0.6:
             lines.append((TOTAL, 0, self.limit(rules.tally(self.items, prices, TOTAL, 0))))
@@ -131,7 +155,7 @@ def calls_of(seed, number):
     """The lines, and the files of each of two calls: a sheet, and a book and a fit."""
     r = random.Random(f"rules {seed} {number}")
     data = fit(r, number)
-    lines = Lines(r, data).make()
+    lines = Lines(r, data, is_crowded(number)).make()
     if r.random() < 0.2:
         lines = damaged(lines, r)
     book, part = compare_pool.split().cut(data)
@@ -156,9 +180,9 @@ def ways(lines, files, answer):
     if number == rules.RULES:
         return ["RULES"]
     if allowed:
-        return ["allowed"] + ["allowed, no line"] * (not lines) + ["allowed, with limits"] * any(kind != POINTS for kind, _, _ in lines)
+        return ["allowed"] + ["allowed, no line"] * (not lines) + ["allowed, above 1,023 lines"] * (len(lines) > 1023) + ["allowed, with limits"] * any(kind != POINTS for kind, _, _ in lines)
     kind = ["", "a cap", "a forbidden group", "the total"][lines[line][0]]
-    return [f"broken: {kind}"] + ["a count of 2^32 or more"] * (count >= 2 ** 32) + ["the first line"] * (line == 0)
+    return [f"broken: {kind}"] + ["broken behind line 1,023"] * (line > 1023) + ["a count of 2^32 or more"] * (count >= 2 ** 32) + ["the first line"] * (line == 0)
 
 
 def batch(job):

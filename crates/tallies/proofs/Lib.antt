@@ -1,3 +1,3 @@
 pub mod Sums
-pub mod Linking
-pub mod Prices
+pub mod Blocks
+pub mod Points

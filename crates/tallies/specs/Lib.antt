@@ -1,2 +1,2 @@
 pub mod Tallies
-pub mod Chains
+pub mod Blocks

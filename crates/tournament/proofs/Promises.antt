@@ -21,7 +21,7 @@ use Rattle.rules.specs.Files.{pairsIn, badFiles}
 use Rattle.rules.specs.Item.{isCharge, isSkill, isCalculated}
 use Rattle.rules.specs.declared.Item.{Item}
 use Rattle.tallies.specs.Tallies.{Line, lineOf, counts, counted, total, pieces, isPriceOf, numberOr0, pointsOf, points}
-use Rattle.tallies.specs.Chains.{Ordered}
+use Rattle.tallies.specs.Blocks.{Ordered}
 use Rattle.tournament.specs.Tournament.{badFrom, tally, broken, Verdict, allowed, breaks, shape, rules, verdictFrom, judged, checked, checkedFiles, brokenLine, countOf}
 use Rattle.tournament.proofs.Verdicts.{holds, First, Told, none-broken, first-broken as broken-first, told, all-hold}
 use Rattle.tournament.proofs.Judging.{judged-by, checked-by, files-by}

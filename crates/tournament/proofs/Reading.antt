@@ -1,5 +1,6 @@
 -- A line as the code reads it, and what it counts: the machine's tests are the definition's.
-use Prim.Native.Nat.{ℕ}
+use Prim.Native.Nat.{ℕ, _*_, _≤_}
+use native.Mathlib.Nat.{mul-le-mul}
 use mathlib.Core.Path.{_≡_, refl, sym, ap, _∙_}
 use mathlib.Core.Bool.{Bool, true, false, _&&_, _||_, not, cond}
 use mathlib.Core.List.{List}
@@ -13,9 +14,8 @@ use mir.Facts.{sfits-lit}
 use borrow.Author.Tests.{eq-eqb, ne-eqb}
 use Rattle.laws.specs.Lists.{eqZ}
 use Rattle.laws.proofs.Signs.{eqZ-bits}
-use Rattle.rules.specs.declared.Item.{Item}
-use Rattle.tallies.specs.Tallies.{Line, lineOf, rises, pieces, points}
-use Rattle.tournament.specs.Tournament.{lineGood, tally, most, isOver}
+use Rattle.tallies.specs.Tallies.{Line, lineOf, rises}
+use Rattle.tournament.specs.Tournament.{lineGood, most, isOver}
 
 -- ids that were read, one against another
 pub rises-told : (a b : List ℕ) (x y : ℤ) → ofZ w32 x ≡ getD a 1 0 → ofZ w32 y ≡ getD b 1 0
@@ -42,13 +42,22 @@ most-none r e = sym (ap (λ (b : Bool). cond b 0 (getD r 2 0)) (eq-eqb (getD r 0
 pub most-number : (r : List ℕ) → (getD r 0 0 ≡ 2 → ⊥) → getD r 2 0 ≡ most (lineOf r)
 most-number r e = sym (ap (λ (b : Bool). cond b 0 (getD r 2 0)) (ne-eqb (getD r 0 0) 2 e))
 
--- what it counts
-pub tally-total : (ls : List Line) (os : List Item) (r : List ℕ) {n : ℕ} → getD r 0 0 ≡ 3 → n ≡ points ls os → n ≡ tally ls os (lineOf r)
-tally-total ls os r e h = h ∙ sym (ap (λ (b : Bool). cond b (points ls os) (pieces os (lineOf r .id))) (eq-eqb (getD r 0 0) 3 e))
+-- what it counts, by what came before it and its own sum
+pub tally-total : (r : List ℕ) (p s : ℕ) → getD r 0 0 ≡ 3 → p ≡ cond (eqb (lineOf r .kind) 3) p s
+tally-total r p s e = sym (ap (λ (b : Bool). cond b p s) (eq-eqb (getD r 0 0) 3 e))
 
-pub tally-group : (ls : List Line) (os : List Item) (r : List ℕ) (x : ℤ) {n : ℕ} → (getD r 0 0 ≡ 3 → ⊥) → ofZ w32 x ≡ getD r 1 0 → n ≡ pieces os (toZ w32 (ofZ w32 x)) → n ≡ tally ls os (lineOf r)
-tally-group ls os r x e f h =
-    h ∙ ap (λ (m : ℕ). pieces os (toZ w32 m)) f ∙ sym (ap (λ (b : Bool). cond b (points ls os) (pieces os (lineOf r .id))) (ne-eqb (getD r 0 0) 3 e))
+pub tally-sum : (r : List ℕ) (p s : ℕ) → (getD r 0 0 ≡ 3 → ⊥) → s ≡ cond (eqb (lineOf r .kind) 3) p s
+tally-sum r p s e = sym (ap (λ (b : Bool). cond b p s) (ne-eqb (getD r 0 0) 3 e))
+
+-- what its pieces cost
+pub worth-price : (r : List ℕ) (s : ℕ) → getD r 0 0 ≡ 0 → s * getD r 2 0 ≡ cond (eqb (lineOf r .kind) 0) (s * lineOf r .number) 0
+worth-price r s e = sym (ap (λ (b : Bool). cond b (s * getD r 2 0) 0) (eq-eqb (getD r 0 0) 0 e))
+
+pub worth-none : (r : List ℕ) (s : ℕ) → (getD r 0 0 ≡ 0 → ⊥) → 0 ≡ cond (eqb (lineOf r .kind) 0) (s * lineOf r .number) 0
+worth-none r s e = sym (ap (λ (b : Bool). cond b (s * getD r 2 0) 0) (ne-eqb (getD r 0 0) 0 e))
+
+pub worth-most : {s each : ℕ} → s ≤ 4398046510080 → each ≤ 65535 → s * each ≤ 288225978038092800
+worth-most a b = mul-le-mul {n₂ = 4398046510080} {m₂ = 65535} a b
 
 -- whether a count is over what was read
 pub over-told : (r : List ℕ) (c : ℕ) {m : ℕ} → m ≡ most (lineOf r) → ltb 0 (getD r 0 0) && ltb m c ≡ isOver (lineOf r) c

@@ -15,7 +15,7 @@ use Rattle.laws.specs.Lists.{eqZ}
 use Rattle.laws.proofs.Bools.{and-left, and-right, and-both, or-true-right}
 use Rattle.laws.proofs.Order.{ltZ-trans}
 use Rattle.tallies.specs.Tallies.{Line, lineOf, rises}
-use Rattle.tallies.specs.Chains.{Ordered}
+use Rattle.tallies.specs.Blocks.{Ordered}
 use Rattle.tournament.specs.Tournament.{standsAfter, lineGood, badFrom}
 
 -- ---- lines rise at a distance too

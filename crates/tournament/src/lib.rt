@@ -1,5 +1,4 @@
 // A fit checked against an organiser's lines: allowed, or the first broken line and the count that broke it.
-use columns::OBJECTS;
 use columns::TablePairs;
 use files::files_shape;
 use files::pairs_in;
@@ -7,34 +6,33 @@ use info::header::pairs_of;
 use numbers::integers::signed;
 use shape::Shaped;
 use shape::shape;
-use tallies::Links;
+use tallies::PLACES;
 use tallies::RULE_ID;
 use tallies::RULE_KIND;
 use tallies::RULE_NUMBER;
 use tallies::RULE_POINTS;
+use tallies::RULE_TOTAL;
 use tallies::RuleLine;
-use tallies::link;
-use tallies::pieces;
-use tallies::points;
+use tallies::Sums;
+use tallies::tallied;
 ghost use mathlib.Core.Path.{_≡_};
+ghost use mathlib.Core.Bool.{cond};
 ghost use mathlib.Core.List.{[], map};
 ghost use mathlib.Core.Option.{none};
-ghost use Prim.Native.Nat.{_<_, _^_};
+ghost use Prim.Native.Nat.{_*_, _≤_, _<_, _^_};
+ghost use lib.Dec.{eqb};
 ghost use lib.ListN.{length, getD};
-ghost use Rattle.rules.specs.Bytes.{countOf};
-ghost use Rattle.rules.specs.Sheet.{fitOf};
+ghost use Rattle.rules.specs.Sheet.{bookOf, fitOf};
 ghost use Rattle.info.specs.At.{bookAt, fitAt};
 ghost use Rattle.info.specs.Sound.{HeldBook, HeldFit};
 ghost use Rattle.tallies.specs.Tallies.{lineOf, counted};
 ghost use Rattle.tallies.specs.Tallies as tallied;
-ghost use Rattle.tallies.specs.Chains.{Linked, Ordered};
+ghost use Rattle.tallies.specs.Blocks.{Ordered, Told};
 ghost use Rattle.tournament.specs.Tournament as rule;
-ghost use Rattle.tournament.specs.Answered.{badLine, verdictOf, answerOf, lineBefore};
+ghost use Rattle.tournament.specs.Answered.{badLine, verdictOf, answerOf, lineBefore, Reached, Passed};
 
-// The kind of a line that forbids a group, and of the total.
+// The kind of a line that forbids a group.
 const RULE_FORBIDDEN: u32 = 2;
-
-const RULE_TOTAL: u32 = 3;
 
 // The most points of one piece.
 const MOST_POINTS: u32 = 65535;
@@ -43,6 +41,12 @@ const MOST_POINTS: u32 = 65535;
 enum Table {
     Good,
     Bad(usize),
+}
+
+// The first broken line of a block with its count; or the points up to its end, and where that is.
+enum Walked {
+    Breaks(usize, u64),
+    Holds(u64, usize),
 }
 
 // The first broken line with its count; or the bad table of the records, or the bad line.
@@ -120,29 +124,28 @@ fn most(line: RuleLine) -> u64
     line[RULE_NUMBER] as u64
 }
 
-// What a line counts: the points of all, or the pieces in its group.
-fn tally(
-    lines: &[RuleLine],
-    heads: &Links,
-    nexts: &Links,
-    book: &[u8],
-    fit: &[u8],
-    pairs: &TablePairs,
-    line: RuleLine,
-) -> u64
-    requires ordered { ⌜ Ordered (map lineOf (now lines)) ⌝ }
-    requires held_book { ⌜ HeldBook (now book) (now pairs) ⌝ }
-    requires held_fit { ⌜ HeldFit (now fit) (now pairs) ⌝ }
-    requires linked { ⌜ Linked (fitOf (now fit) (now pairs)) (countOf (now pairs) 6) (now heads) (now nexts) ⌝ }
-    ensures defined { λ r. let ls = map lineOf (now (lines .entry)) in
-        ⌜ r ≡ rule.tally ls (counted (bookAt book pairs) (fitAt fit pairs)) (lineOf line) ⌝ }
-    ensures no_wrap { λ r. ⌜ r < 2 ^ 58 ⌝ }
+// What a line counts: a total the points of the lines before it, any other its own sum.
+fn tally(line: RuleLine, points: u64, sum: u64) -> u64
+    ensures defined { λ r. ⌜ r ≡ cond (eqb (lineOf line .kind) 3) points sum ⌝ }
 {
     if line[RULE_KIND] == RULE_TOTAL {
-        return points(lines, book, fit, pairs);
+        points
+    } else {
+        sum
     }
-    let group = signed(line[RULE_ID]);
-    pieces(heads, nexts, book, fit, pairs, group)
+}
+
+// What the pieces of a line's sum cost, where it gives points.
+fn worth(line: RuleLine, sum: u64) -> u64
+    requires cheap { ⌜ (lineOf line .kind ≡ 0 → lineOf line .number ≤ 65535) ⌝ }
+    requires few { ⌜ sum ≤ 4398046510080 ⌝ }
+    ensures defined { λ r. ⌜ r ≡ cond (eqb (lineOf line .kind) 0) (sum * lineOf line .number) 0 ⌝ }
+{
+    if line[RULE_KIND] == RULE_POINTS {
+        let each = line[RULE_NUMBER];
+        return sum * (each as u64);
+    }
+    0
 }
 
 // Whether a line is broken by what it counts.
@@ -153,31 +156,84 @@ fn is_broken(line: RuleLine, count: u64) -> bool
     (RULE_POINTS < line[RULE_KIND]) & (allows < count)
 }
 
-// The first broken line.
-fn first_broken(
+// The first broken line of a block, by its sums and the points of the lines before it. Book, fit and pairs say whose they are; none is read.
+fn walk(
     lines: &[RuleLine],
-    heads: &Links,
-    nexts: &Links,
+    first: usize,
+    n: usize,
+    sums: &Sums,
+    before: u64,
     book: &[u8],
     fit: &[u8],
     pairs: &TablePairs,
-) -> Verdict
+) -> Walked
+    requires ordered { ⌜ Ordered (map lineOf (now lines)) ⌝ }
+    requires told { let os = counted (bookOf (now book) (now pairs)) (fitOf (now fit) (now pairs)) in
+        ⌜ Told (map lineOf (now lines)) os first n (now sums) ⌝ }
+    requires reached { let os = counted (bookOf (now book) (now pairs)) (fitOf (now fit) (now pairs)) in
+        ⌜ Reached (map lineOf (now lines)) os first before ⌝ }
+    ensures passed { λ r. ⌜ Passed (map lineOf (now (lines .entry))) (counted (bookAt book pairs) (fitAt fit pairs)) first r ⌝ }
+{
+    let end = first + n;
+    let mut points = before;
+    let mut i = first;
+    while i < end {
+        let line = lines[i];
+        let sum = sums[i - first];
+        let count = tally(line, points, sum);
+        if is_broken(line, count) {
+            return Walked::Breaks(i, count);
+        }
+        points = points + worth(line, sum);
+        i += 1;
+    }
+    Walked::Holds(points, i)
+}
+
+// The block of lines that starts here.
+fn in_block(
+    lines: &[RuleLine],
+    first: usize,
+    before: u64,
+    book: &[u8],
+    fit: &[u8],
+    pairs: &TablePairs,
+) -> Walked
+    requires ordered { ⌜ Ordered (map lineOf (now lines)) ⌝ }
+    requires inside { ⌜ first < length (now lines) ⌝ }
+    requires held_book { ⌜ HeldBook (now book) (now pairs) ⌝ }
+    requires held_fit { ⌜ HeldFit (now fit) (now pairs) ⌝ }
+    requires reached { let os = counted (bookOf (now book) (now pairs)) (fitOf (now fit) (now pairs)) in
+        ⌜ Reached (map lineOf (now lines)) os first before ⌝ }
+    ensures passed { λ r. ⌜ Passed (map lineOf (now (lines .entry))) (counted (bookAt book pairs) (fitAt fit pairs)) first r ⌝ }
+{
+    let mut sums = [0u64; PLACES];
+    let n = tallied(&mut sums, lines, first, book, fit, pairs);
+    walk(lines, first, n, &sums, before, book, fit, pairs)
+}
+
+// The first broken line, a block at a time.
+fn first_broken(lines: &[RuleLine], book: &[u8], fit: &[u8], pairs: &TablePairs) -> Verdict
     requires ordered { ⌜ Ordered (map lineOf (now lines)) ⌝ }
     requires held_book { ⌜ HeldBook (now book) (now pairs) ⌝ }
     requires held_fit { ⌜ HeldFit (now fit) (now pairs) ⌝ }
-    requires linked { ⌜ Linked (fitOf (now fit) (now pairs)) (countOf (now pairs) 6) (now heads) (now nexts) ⌝ }
     ensures defined { λ r. let ls = map lineOf (now (lines .entry)) in
         ⌜ verdictOf r ≡ rule.verdictFrom ls (counted (bookAt book pairs) (fitAt fit pairs)) 0 ls ⌝ }
     ensures no_wrap { λ r. ⌜ rule.countOf (verdictOf r) < 2 ^ 58 ⌝ }
 {
+    let mut points = 0;
     let mut i = 0;
     while i < lines.len() {
-        let line = lines[i];
-        let count = tally(lines, heads, nexts, book, fit, pairs, line);
-        if is_broken(line, count) {
-            return Verdict::Breaks(i, count);
+        let walked = in_block(lines, i, points, book, fit, pairs);
+        match walked {
+            Walked::Breaks(at, count) => {
+                return Verdict::Breaks(at, count);
+            }
+            Walked::Holds(sum, next) => {
+                points = sum;
+                i = next;
+            }
         }
-        i += 1;
     }
     Verdict::Allowed
 }
@@ -192,12 +248,7 @@ fn judged(lines: &[RuleLine], book: &[u8], fit: &[u8], pairs: &TablePairs) -> Ve
     let table = bad_line(lines);
     match table {
         Table::Bad(i) => Verdict::Rules(i),
-        Table::Good => {
-            let mut heads = [0u32; OBJECTS];
-            let mut nexts = [0u32; OBJECTS];
-            link(&mut heads, &mut nexts, fit, pairs);
-            first_broken(lines, &heads, &nexts, book, fit, pairs)
-        }
+        Table::Good => first_broken(lines, book, fit, pairs),
     }
 }
 

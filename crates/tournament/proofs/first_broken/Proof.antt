@@ -5,16 +5,19 @@ use Rattle.tournament.proofs.first_broken.Tie as tie
 use borrow.Author.Needs.{needs}
 use Prim.Native.Nat.{_-_}
 use native.Mathlib.Omega.{arith}
+use mathlib.Core.List.{map}
 use lib.ListN.{length}
 use Rattle.rules.specs.Sheet.{bookOf, fitOf}
-use Rattle.tallies.specs.Tallies.{counted}
-use Rattle.tournament.proofs.Judging.{Sought, sought-none, sought-more, sought-broken, sought-all}
+use Rattle.tallies.specs.Tallies.{lineOf, counted}
+use Rattle.tournament.specs.Answered.{Reached, Passed}
+use mathlib.Core.Path.{subst}
+use Rattle.tournament.proofs.Judging.{reached-none, reached-all, next-less}
 
 abbrev Inv-loop : tie.InvT-loop
-Inv-loop lines heads nexts book fit pairs i₀ i = Sought lines (counted (bookOf book pairs) (fitOf fit pairs)) i
+Inv-loop lines book fit pairs points₀ i₀ points i = Reached (map lineOf lines) (counted (bookOf book pairs) (fitOf fit pairs)) i points
 
 abbrev μ-loop : tie.MeasureT-loop
-μ-loop lines heads nexts book fit pairs i₀ i = length lines - i
+μ-loop lines book fit pairs points₀ i₀ points i = length lines - i
 
 pub first-broken-spec : {M : Type 1} → statement M
 first-broken-spec =
@@ -22,13 +25,11 @@ first-broken-spec =
     (tie.spec
     Inv-loop
     μ-loop
-    (λ c. sought-none (c .before .before .args .lines .now) (counted (bookOf (c .before .before .args .book .now) (c .before .before .args .pairs .now)) (fitOf (c .before .before .args .fit .now) (c .before .before .args .pairs .now))))
+    (λ c. reached-none (map lineOf (c .before .before .args .lines .now)) (c .before .before .pre .0) (counted (bookOf (c .before .before .args .book .now) (c .before .before .args .pairs .now)) (fitOf (c .before .before .args .fit .now) (c .before .before .args .pairs .now))))
+    (λ c κs. (c .before .before .before .before .pre .0, (c .loop-test .taken, (c .before .before .before .before .pre .1 .0, (c .before .before .before .before .pre .1 .1, c .before .loop .inv)))))
     (λ c. search needs)
+    (λ c. subst (Passed (map lineOf (c .before .before .before .before .before .before .before .before .args .lines .now)) (counted (bookOf (c .before .before .before .before .before .before .before .before .args .book .now) (c .before .before .before .before .before .before .before .before .args .pairs .now)) (fitOf (c .before .before .before .before .before .before .before .before .args .fit .now) (c .before .before .before .before .before .before .before .before .args .pairs .now))) (c .before .before .before .before .before .loop .i)) (c .before .walked .given .1) (c .before .before .before .in-block .ensures))
     (λ c. search needs)
-    (λ c κs. c .before .before .before .before .before .pre)
-    (λ c κs. search needs)
-    (λ c. (sought-broken (c .before .before .before .before .before .before .before .before .args .lines .now) (counted (bookOf (c .before .before .before .before .before .before .before .before .args .book .now) (c .before .before .before .before .before .before .before .before .args .pairs .now)) (fitOf (c .before .before .before .before .before .before .before .before .args .fit .now) (c .before .before .before .before .before .before .before .before .args .pairs .now))) (c .before .before .before .before .before .loop .inv) (c .before .before .before .before .loop-test .taken) (c .before .before .tally .ensures .0) (c .before .is-broken .ensures) (c .if1 .taken), c .before .before .tally .ensures .1))
-    (λ c. search needs)
-    (λ c. search needs)
-    (λ c. sought-more (c .before .before .before .before .before .before .before .before .args .lines .now) (counted (bookOf (c .before .before .before .before .before .before .before .before .args .book .now) (c .before .before .before .before .before .before .before .before .args .pairs .now)) (fitOf (c .before .before .before .before .before .before .before .before .args .fit .now) (c .before .before .before .before .before .before .before .before .args .pairs .now))) (c .before .before .before .before .before .loop .inv) (c .before .before .before .before .loop-test .taken) (c .before .before .tally .ensures .0) (c .before .is-broken .ensures) (c .if1 .left))
-    (λ c. (sought-all (c .before .before .before .before .args .lines .now) (counted (bookOf (c .before .before .before .before .args .book .now) (c .before .before .before .before .args .pairs .now)) (fitOf (c .before .before .before .before .args .fit .now) (c .before .before .before .before .args .pairs .now))) (c .before .loop .inv) (c .loop-test .left), omega arith)))
+    (λ c. next-less (c .before .before .before .before .before .before .before .before .args .lines .now) (counted (bookOf (c .before .before .before .before .before .before .before .before .args .book .now) (c .before .before .before .before .before .before .before .before .args .pairs .now)) (fitOf (c .before .before .before .before .before .before .before .before .args .fit .now) (c .before .before .before .before .before .before .before .before .args .pairs .now))) ((subst (Passed (map lineOf (c .before .before .before .before .before .before .before .before .args .lines .now)) (counted (bookOf (c .before .before .before .before .before .before .before .before .args .book .now) (c .before .before .before .before .before .before .before .before .args .pairs .now)) (fitOf (c .before .before .before .before .before .before .before .before .args .fit .now) (c .before .before .before .before .before .before .before .before .args .pairs .now))) (c .before .before .before .before .before .loop .i)) (c .before .walked2 .given .1) (c .before .before .before .in-block .ensures)) .0) ((subst (Passed (map lineOf (c .before .before .before .before .before .before .before .before .args .lines .now)) (counted (bookOf (c .before .before .before .before .before .before .before .before .args .book .now) (c .before .before .before .before .before .before .before .before .args .pairs .now)) (fitOf (c .before .before .before .before .before .before .before .before .args .fit .now) (c .before .before .before .before .before .before .before .before .args .pairs .now))) (c .before .before .before .before .before .loop .i)) (c .before .walked2 .given .1) (c .before .before .before .in-block .ensures)) .1))
+    (λ c. (subst (Passed (map lineOf (c .before .before .before .before .before .before .before .before .args .lines .now)) (counted (bookOf (c .before .before .before .before .before .before .before .before .args .book .now) (c .before .before .before .before .before .before .before .before .args .pairs .now)) (fitOf (c .before .before .before .before .before .before .before .before .args .fit .now) (c .before .before .before .before .before .before .before .before .args .pairs .now))) (c .before .before .before .before .before .loop .i)) (c .before .walked2 .given .1) (c .before .before .before .in-block .ensures)) .1)
+    (λ c. (reached-all (c .before .before .before .before .args .lines .now) (c .before .before .before .before .pre .0) (counted (bookOf (c .before .before .before .before .args .book .now) (c .before .before .before .before .args .pairs .now)) (fitOf (c .before .before .before .before .args .fit .now) (c .before .before .before .before .args .pairs .now))) (c .before .loop .inv) (c .loop-test .left), omega arith)))
