@@ -6,7 +6,8 @@ own with labels of its own. Labels name attributes that the run has and has not;
 none or 64 bytes, and share bytes. Tables are damaged (ids equal or descending, a byte too many, a byte that no label may have, a range that
 leaves the bytes), lists are short, sheets are damaged, and the lent text is ample, just enough, one byte short, or any. Every number, all
 bytes lent for the text, and by oracle/exports.c all lists must be as expected; every text is read again by csv.reader, strictly, and gives
-the records of the reference. Calls that differ go to target/compare. --cases: every sheet of cases/, with and without labels, instead.
+the records of the reference. Calls that differ go to target/compare. --cases: every sheet of cases/, with and without labels, instead; there
+the shell of SQLite, where it is at hand, imports the texts too.
 """
 import argparse
 import collections
@@ -16,9 +17,11 @@ import multiprocessing
 import pickle
 import platform
 import random
+import shutil
 import struct
 import subprocess
 import sys
+import tempfile
 
 import compare_engine
 import exports
@@ -136,6 +139,18 @@ def wrong(found, labels, data, room, answer):
     return None
 
 
+def by_sqlite(text):
+    """The rows of a text as the shell of SQLite imports them, or none where there is no such program."""
+    if not shutil.which("sqlite3"):
+        return None
+    with tempfile.NamedTemporaryFile() as file:
+        file.write(text)
+        file.flush()
+        select = "select " + " || ',' || ".join(f'hex("{name}")' for name in ("object", "attribute", "label", "value")) + " from t;"
+        out = subprocess.run(["sqlite3", "-batch", ":memory:", f".import --csv {file.name} t", select], stdout=subprocess.PIPE, check=True).stdout
+    return [[bytes.fromhex(field) for field in line.split(",")] for line in out.decode().splitlines()]
+
+
 def answers(out, rooms):
     at = 0
     for room in rooms:
@@ -184,6 +199,8 @@ def cases(words):
     for (name, labels, data, room, _, answer), found in zip(calls, answers(out, [call[3] for call in calls])):
         what = wrong(found, labels, data, room, answer)
         bad += [f"{name}: {what}"] * bool(what)
+        if found[0] == 0 and by_sqlite(found[4][:found[2]]) not in (None, exports.records(answer, labels, data)[1:]):
+            bad.append(f"{name}: sqlite3 has other records")
     print("\n".join([*bad, f"{len(calls)} exports of cases/, {len(bad)} differ"]))
     sys.exit(bool(bad))
 
