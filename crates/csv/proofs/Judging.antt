@@ -9,12 +9,15 @@ use mathlib.Core.Option.{Option, none, some}
 use lib.Dec.{leb}
 use lib.IntN.{ℤ}
 use lib.ListN.{length, getD, take, drop}
+use lib.Seq.{take-all}
 use lib.Signed.{ltZ}
 use mir.Syntax.{w32}
 use mir.Val.{toZ, ofZ}
 use borrow.Author.Tests.{le-leb, lt-leb}
 use Rattle.laws.specs.Lists.{every?, ascends, span}
 use Rattle.laws.proofs.Bools.{and-left, and-right, and-both}
+use Rattle.laws.proofs.Every.{every-snoc}
+use Rattle.laws.proofs.Maps.{take-next}
 use Rattle.laws.proofs.Scans.{drop-step, drop-end}
 use Rattle.rules.specs.Bytes.{signed}
 use Rattle.csv.specs.Labels.{idOf, firstOf, countOf, bytesOf, allowed, labelGood, standsAfter, badFrom, labelBad}
@@ -22,25 +25,24 @@ use Rattle.csv.specs.Puts.{idBefore}
 
 -- ---- bytes that may all stand
 
--- those from byte i on decide
-pub record Passed (t : List ℕ) (i : ℕ) : Type 0 where
-  pub left : every? allowed t ≡ every? allowed (drop i t)
+-- whether the first i bytes may
+pub record Passed (t : List ℕ) (i : ℕ) (g : Bool) : Type 0 where
+  pub within : i ≤ length t
+  pub so-far : g ≡ every? allowed (take i t)
 
-pub passed-none : (t : List ℕ) → Passed t 0
-passed-none t = record { left = refl }
+pub passed-none : (t : List ℕ) → Passed t 0 true
+passed-none t = record { within = omega arith; so-far = refl }
 
-module _ {t : List ℕ} {i : ℕ} (P : Passed t i) where
-  turn : (d : ℕ) → i < length t → every? allowed t ≡ allowed (getD t i d) && every? allowed (drop (i + 1) t)
-  turn d h = P .left ∙ ap (every? allowed) (drop-step t i d h)
+module _ {t : List ℕ} {i : ℕ} {g : Bool} (P : Passed t i g) where
+  pub passed-more : (d : ℕ) {own : Bool} → i < length t → own ≡ allowed (getD t i d) → Passed t (i + 1) (g && own)
+  passed-more d h e =
+      record {
+        within = omega arith;
+        so-far = rw (P .so-far, e) (sym (ap (every? allowed) (take-next t i d h) ∙ every-snoc allowed (take i t) (getD t i d)));
+      }
 
-  pub passed-more : (d : ℕ) {g : Bool} → i < length t → g ≡ allowed (getD t i d) → g ≡ true → Passed t (i + 1)
-  passed-more d h e y = record { left = turn d h ∙ ap (λ (b : Bool). b && every? allowed (drop (i + 1) t)) (sym e ∙ y) }
-
-  pub passed-not : (d : ℕ) {g : Bool} → i < length t → g ≡ allowed (getD t i d) → g ≡ false → false ≡ every? allowed t
-  passed-not d h e n = sym (turn d h ∙ ap (λ (b : Bool). b && every? allowed (drop (i + 1) t)) (sym e ∙ n))
-
-  pub passed-all : length t ≤ i → true ≡ every? allowed t
-  passed-all k = sym (P .left ∙ ap (every? allowed) (drop-end t i k))
+  pub passed-all : length t ≤ i → g ≡ every? allowed t
+  passed-all k = P .so-far ∙ ap (every? allowed) (take-all i t k)
 
 -- ---- a label by itself
 

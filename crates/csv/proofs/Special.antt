@@ -5,10 +5,10 @@ use native.Mathlib.Omega.{arith}
 use mathlib.Core.Path.{_≡_, refl, sym, ap, _∙_}
 use mathlib.Core.Bool.{Bool, true, false, _||_}
 use mathlib.Core.List.{List, [], _∷_, _++_}
-use lib.ListN.{length, take, drop, getD}
+use lib.ListN.{length, take, getD}
 use lib.Seq.{take-all}
 use Rattle.laws.specs.Lists.{some?}
-use Rattle.laws.proofs.Scans.{drop-step, drop-end}
+use Rattle.laws.proofs.Every.{some-next}
 use Rattle.listing.specs.Put.{Put, put, puts}
 use Rattle.listing.proofs.Puts.{after, renamed, ends, as-long}
 use Rattle.csv.specs.Csv.{classOf, special, twice, doubled, quotedIf, field}
@@ -17,25 +17,20 @@ use Rattle.csv.proofs.Classes.{doubled-next}
 abbrev isSpecial : ℕ → Bool
 isSpecial b = special (classOf b)
 
--- the bytes from byte i on decide
-pub record Plain (t : List ℕ) (i : ℕ) : Type 0 where
-  pub left : some? isSpecial t ≡ some? isSpecial (drop i t)
+-- whether one of the first i bytes is
+pub record Plain (t : List ℕ) (i : ℕ) (f : Bool) : Type 0 where
+  pub within : i ≤ length t
+  pub so-far : f ≡ some? isSpecial (take i t)
 
-pub plain-none : (t : List ℕ) → Plain t 0
-plain-none t = record { left = refl }
+pub plain-none : (t : List ℕ) → Plain t 0 false
+plain-none t = record { within = omega arith; so-far = refl }
 
-module _ {t : List ℕ} {i : ℕ} (P : Plain t i) where
-  turn : (d : ℕ) → i < length t → some? isSpecial t ≡ isSpecial (getD t i d) || some? isSpecial (drop (i + 1) t)
-  turn d h = P .left ∙ ap (some? isSpecial) (drop-step t i d h)
+module _ {t : List ℕ} {i : ℕ} {f : Bool} (P : Plain t i f) where
+  pub plain-more : (d : ℕ) {own : Bool} → i < length t → own ≡ isSpecial (getD t i d) → Plain t (i + 1) (f || own)
+  plain-more d h e = record { within = omega arith; so-far = rw (P .so-far, e) (sym (some-next isSpecial t i d h)) }
 
-  pub plain-more : (d : ℕ) {g : Bool} → i < length t → g ≡ isSpecial (getD t i d) → g ≡ false → Plain t (i + 1)
-  plain-more d h e n = record { left = turn d h ∙ ap (λ (b : Bool). b || some? isSpecial (drop (i + 1) t)) (sym e ∙ n) }
-
-  pub plain-not : (d : ℕ) {g : Bool} → i < length t → g ≡ isSpecial (getD t i d) → g ≡ true → true ≡ some? isSpecial t
-  plain-not d h e y = sym (turn d h ∙ ap (λ (b : Bool). b || some? isSpecial (drop (i + 1) t)) (sym e ∙ y))
-
-  pub plain-all : length t ≤ i → false ≡ some? isSpecial t
-  plain-all k = sym (P .left ∙ ap (some? isSpecial) (drop-end t i k))
+  pub plain-all : length t ≤ i → f ≡ some? isSpecial t
+  plain-all k = P .so-far ∙ ap (some? isSpecial) (take-all i t k)
 
 -- ---- doubled bytes
 

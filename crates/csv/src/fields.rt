@@ -33,14 +33,14 @@ fn is_special(b: u8) -> bool
 fn any_special(text: &[u8]) -> bool
     ensures defined { λ r. ⌜ r ≡ some? (λ b. special (classOf b)) (now (text .entry)) ⌝ }
 {
+    let mut found = false;
     let mut i = 0;
     while i < text.len() {
-        if is_special(text[i]) {
-            return true;
-        }
+        let own = is_special(text[i]);
+        found = found | own;
         i += 1;
     }
-    false
+    found
 }
 
 // A byte between quotes: a quote twice, any other once.

@@ -49,15 +49,14 @@ fn is_allowed(b: u8) -> bool
 fn all_allowed(text: &[u8]) -> bool
     ensures defined { λ r. ⌜ r ≡ every? rule.allowed (now (text .entry)) ⌝ }
 {
+    let mut good = true;
     let mut i = 0;
     while i < text.len() {
-        let good = is_allowed(text[i]);
-        if !good {
-            return false;
-        }
+        let own = is_allowed(text[i]);
+        good = good & own;
         i += 1;
     }
-    true
+    good
 }
 
 // Whether a label is good by itself: at most 64 bytes, inside those lent, each one allowed.

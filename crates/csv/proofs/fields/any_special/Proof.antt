@@ -1,5 +1,5 @@
 -- Made by `answers` from Proof.answers: edit that file.
--- `fields::any_special` meets its contract: what is left decides. The measure is how many bytes are left.
+-- `fields::any_special` meets its contract. The measure is how many bytes are left.
 use Rattle.csv.proofs.fields.any_special.Statement.{statement}
 use Rattle.csv.proofs.fields.any_special.Tie as tie
 use Rattle.csv.proofs.fields.any_special.Reads as reads
@@ -7,19 +7,14 @@ use Rattle.csv.proofs.fields.any_special.Lts as lts
 use Rattle.csv.proofs.fields.is_special.Reads as is-special-reads
 use borrow.Author.Needs.{needs}
 use Prim.Native.Nat.{_-_}
-use mathlib.Core.Path.{_≡_, refl, sym, ap, _∙_}
-use mathlib.Core.Bool.{Bool, _||_}
-use lib.ListN.{length, drop}
-use Rattle.laws.specs.Lists.{some?}
-use Rattle.laws.proofs.Scans.{drop-step, drop-end, some-step, some-done}
-use Rattle.csv.specs.Csv.{classOf, special}
-use Rattle.csv.proofs.Special.{Plain, plain-none, plain-more, plain-not, plain-all}
+use lib.ListN.{length}
+use Rattle.csv.proofs.Special.{Plain, plain-none, plain-more, plain-all}
 
 abbrev Inv-loop : tie.InvT-loop
-Inv-loop text i₀ i = Plain text i
+Inv-loop text found₀ i₀ found i = Plain text i found
 
 abbrev μ-loop : tie.MeasureT-loop
-μ-loop text i₀ i = length text - i
+μ-loop text found₀ i₀ found i = length text - i
 
 loop-holds : tie.Need-loop-holds Inv-loop μ-loop
 loop-holds c = plain-none (c .before .args .text .now)
@@ -30,9 +25,6 @@ shared-slice-read-is-special c = search needs
 is-special-requires : tie.Need-is-special-requires Inv-loop μ-loop
 is-special-requires c κs = search needs
 
-returns : tie.Need-returns Inv-loop μ-loop
-returns c = plain-not (c .before .before .before .before .loop .inv) 0 (c .before .before .before .loop-test .taken) (c .before .is-special .ensures) (c .if1 .taken)
-
 add-i : tie.Need-add-i Inv-loop μ-loop
 add-i c = search needs
 
@@ -40,10 +32,10 @@ loop-less : tie.Need-loop-less Inv-loop μ-loop
 loop-less c = search needs
 
 loop-again : tie.Need-loop-again Inv-loop μ-loop
-loop-again c = plain-more (c .before .before .before .before .loop .inv) 0 (c .before .before .before .loop-test .taken) (c .before .is-special .ensures) (c .if1 .left)
+loop-again c = plain-more (c .before .before .before .loop .inv) 0 (c .before .before .loop-test .taken) (c .is-special .ensures)
 
-returns-2 : tie.Need-returns-2 Inv-loop μ-loop
-returns-2 c = plain-all (c .before .loop .inv) (c .loop-test .left)
+returns : tie.Need-returns Inv-loop μ-loop
+returns c = plain-all (c .before .loop .inv) (c .loop-test .left)
 
 pub any-special-spec : {M : Type 1} → statement M
 any-special-spec =
@@ -54,8 +46,7 @@ any-special-spec =
     loop-holds
     shared-slice-read-is-special
     is-special-requires
-    returns
     add-i
     loop-less
     loop-again
-    returns-2)
+    returns)

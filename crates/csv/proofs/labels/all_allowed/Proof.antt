@@ -1,5 +1,5 @@
 -- Made by `answers` from Proof.answers: edit that file.
--- `labels::all_allowed` meets its contract: what is left decides. The measure is how many bytes are left.
+-- `labels::all_allowed` meets its contract. The measure is how many bytes are left.
 use Rattle.csv.proofs.labels.all_allowed.Statement.{statement}
 use Rattle.csv.proofs.labels.all_allowed.Tie as tie
 use Rattle.csv.proofs.labels.all_allowed.Reads as reads
@@ -8,14 +8,13 @@ use Rattle.csv.proofs.labels.is_allowed.Reads as is-allowed-reads
 use borrow.Author.Needs.{needs}
 use Prim.Native.Nat.{_-_}
 use lib.ListN.{length}
-use borrow.Author.Tests.{not-true, not-false}
-use Rattle.csv.proofs.Judging.{Passed, passed-none, passed-more, passed-not, passed-all}
+use Rattle.csv.proofs.Judging.{Passed, passed-none, passed-more, passed-all}
 
 abbrev Inv-loop : tie.InvT-loop
-Inv-loop text i₀ i = Passed text i
+Inv-loop text good₀ i₀ good i = Passed text i good
 
 abbrev μ-loop : tie.MeasureT-loop
-μ-loop text i₀ i = length text - i
+μ-loop text good₀ i₀ good i = length text - i
 
 loop-holds : tie.Need-loop-holds Inv-loop μ-loop
 loop-holds c = passed-none (c .before .args .text .now)
@@ -26,9 +25,6 @@ shared-slice-read-is-allowed c = search needs
 is-allowed-requires : tie.Need-is-allowed-requires Inv-loop μ-loop
 is-allowed-requires c κs = search needs
 
-returns : tie.Need-returns Inv-loop μ-loop
-returns c = passed-not (c .before .before .before .before .loop .inv) 0 (c .before .before .before .loop-test .taken) (c .before .is-allowed .ensures) (not-true _ (c .if1 .taken))
-
 add-i : tie.Need-add-i Inv-loop μ-loop
 add-i c = search needs
 
@@ -36,10 +32,10 @@ loop-less : tie.Need-loop-less Inv-loop μ-loop
 loop-less c = search needs
 
 loop-again : tie.Need-loop-again Inv-loop μ-loop
-loop-again c = passed-more (c .before .before .before .before .loop .inv) 0 (c .before .before .before .loop-test .taken) (c .before .is-allowed .ensures) (not-false _ (c .if1 .left))
+loop-again c = passed-more (c .before .before .before .loop .inv) 0 (c .before .before .loop-test .taken) (c .is-allowed .ensures)
 
-returns-2 : tie.Need-returns-2 Inv-loop μ-loop
-returns-2 c = passed-all (c .before .loop .inv) (c .loop-test .left)
+returns : tie.Need-returns Inv-loop μ-loop
+returns c = passed-all (c .before .loop .inv) (c .loop-test .left)
 
 pub all-allowed-spec : {M : Type 1} → statement M
 all-allowed-spec =
@@ -50,8 +46,7 @@ all-allowed-spec =
     loop-holds
     shared-slice-read-is-allowed
     is-allowed-requires
-    returns
     add-i
     loop-less
     loop-again
-    returns-2)
+    returns)
