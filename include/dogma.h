@@ -7,6 +7,7 @@
  * dogma_admit and dogma_leave lend and take back that pool's rows as pilots come and go.
  * dogma_write_sheet makes a sheet's bytes of tables, dogma_write_book and dogma_write_fit the two parts: see "writing sheets" below.
  * dogma_check_rules holds a sheet against an organiser's table of rules: see "tournament rules" below.
+ * dogma_export gives a run's rows as comma-separated text for a spreadsheet: see "spreadsheets" below.
  * The engine allocates nothing, keeps nothing between calls, and may be called from several threads with lists of their own.
  * Any bytes are taken: a damaged sheet is refused with a number and a place. What is demanded of the caller, since the
  * engine cannot test it, stands at DOGMA_DEMANDS below; dogma_calculate_checked tests it, and DOGMA_LEND counts arrays
@@ -56,6 +57,7 @@ enum dogma_number {
     DOGMA_LENGTH = 14,   /* of an admission: the number as given, which wants no row */
     DOGMA_TABLE = 18,    /* of an admission or a leaving, 0: what is lent is no state of the pool */
     DOGMA_RULES = 11,    /* a line of a table of rules, from 0 */
+    DOGMA_LABEL = 16,    /* of an export: a label, from 0 */
     DOGMA_MISUSED = 256  /* not the engine's: a checked form found a demand broken; enum dogma_argument, dogma_pilot_argument */
 };
 
@@ -66,7 +68,8 @@ enum dogma_list {
     DOGMA_LIST_ENTRIES = 3,
     DOGMA_LIST_PLAIN = 4,
     DOGMA_LIST_SOURCES = 5,
-    DOGMA_LIST_SHEET = 6 /* of the writers: the bytes that are lent for a sheet, a book or a fit */
+    DOGMA_LIST_SHEET = 6, /* of the writers: the bytes that are lent for a sheet, a book or a fit */
+    DOGMA_LIST_TEXT = 8   /* of an export: the bytes that are lent for the text */
 };
 #define DOGMA_LISTS 5
 
@@ -849,6 +852,51 @@ static inline struct dogma_written dogma_write_fit_checked(uint8_t *bytes, size_
         t.base_values, t.base_value_count, t.ids, t.id_count, t.buffs, t.buff_count, t.buff_values, t.buff_value_count,
         t.asks, t.ask_count);
 }
+
+/* ---- spreadsheets
+ *
+ * A run's rows as comma-separated text by RFC 4180: the header record `object,attribute,label,value`, then a record for each row of
+ * list 2, in its order; every record ends in CRLF. The value is what the program `sheet` prints. An attribute's label is the caller's own,
+ * and empty where there is none; one with a comma, a quote, CR or LF is quoted, and its quotes are doubled.
+ *
+ * A label is a row of three numbers over lent bytes; ids ascend strictly. It has at most 64 bytes, each printable ASCII (0x20 to 0x7E),
+ * CR or LF. The ranges of two labels may overlap, and other bytes may be anything.
+ * A label that begins with =, +, - or @ is a formula to some spreadsheet programs. Nothing is added to it here: reading the text gives
+ * back just the label. Whoever takes labels from strangers should look at them first.
+ *
+ * Number and place: those of dogma_calculate; then DOGMA_LABEL with the first bad label; then DOGMA_ROOM with DOGMA_LIST_TEXT where the
+ * text is longer than the bytes lent. After DOGMA_DONE the lists, states and counts are those of dogma_calculate, length says how many
+ * bytes the text has, and the bytes behind it are zero. After a refusal the lent bytes, all lists, states and counts are zero.
+ * A record has at most 172 bytes, so 30 + 172 * rows are always enough.
+ * Demands: as for dogma_calculate; and text, labels and label_bytes each lie apart from everything that is written.
+ */
+
+typedef uint32_t dogma_label[3];
+enum dogma_label_field {
+    DOGMA_LABEL_ID = 0,    /* signed: an attribute */
+    DOGMA_LABEL_FIRST = 1, /* its first byte in label_bytes */
+    DOGMA_LABEL_COUNT = 2
+};
+#define DOGMA_LABEL_MOST 64
+
+/* the first seven as in struct dogma_answer */
+struct dogma_exported {
+    uint64_t number;
+    uint64_t place;
+    uint64_t collected;
+    uint64_t rows;
+    uint64_t entries;
+    uint64_t plain;
+    uint64_t sources;
+    uint64_t length;
+};
+
+struct dogma_exported dogma_export(
+    uint8_t *text, size_t text_length, dogma_state *states, dogma_collected *collected, size_t collected_count, double *collected_values,
+    size_t collected_value_count, dogma_row *rows, size_t row_count, double *bases, size_t base_count, double *values, size_t value_count,
+    dogma_entry *entries, size_t entry_count, double *entry_values, size_t entry_value_count, dogma_plain *plain, size_t plain_count,
+    dogma_source *sources, size_t source_count, dogma_source_value *source_values, size_t source_value_count, const dogma_label *labels,
+    size_t label_count, const uint8_t *label_bytes, size_t label_byte_count, const uint8_t *sheet, size_t sheet_length);
 
 #ifdef __cplusplus
 }

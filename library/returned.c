@@ -171,3 +171,26 @@ struct dogma_checked dogma_check_rules_files(
     dogma_check_rules_files_into(&checked, lines, line_count, book, book_length, fit, fit_length);
     return checked;
 }
+
+extern void dogma_export_into(
+    struct dogma_exported *exported, uint8_t *text, size_t text_length, dogma_state *states, dogma_collected *collected,
+    size_t collected_count, double *collected_values, size_t collected_value_count, dogma_row *rows, size_t row_count, double *bases,
+    size_t base_count, double *values, size_t value_count, dogma_entry *entries, size_t entry_count, double *entry_values,
+    size_t entry_value_count, dogma_plain *plain, size_t plain_count, dogma_source *sources, size_t source_count,
+    dogma_source_value *source_values, size_t source_value_count, const dogma_label *labels, size_t label_count,
+    const uint8_t *label_bytes, size_t label_byte_count, const uint8_t *sheet, size_t sheet_length);
+
+struct dogma_exported dogma_export(
+    uint8_t *text, size_t text_length, dogma_state *states, dogma_collected *collected, size_t collected_count, double *collected_values,
+    size_t collected_value_count, dogma_row *rows, size_t row_count, double *bases, size_t base_count, double *values, size_t value_count,
+    dogma_entry *entries, size_t entry_count, double *entry_values, size_t entry_value_count, dogma_plain *plain, size_t plain_count,
+    dogma_source *sources, size_t source_count, dogma_source_value *source_values, size_t source_value_count, const dogma_label *labels,
+    size_t label_count, const uint8_t *label_bytes, size_t label_byte_count, const uint8_t *sheet, size_t sheet_length)
+{
+    struct dogma_exported exported;
+    dogma_export_into(
+        &exported, text, text_length, states, collected, collected_count, collected_values, collected_value_count, rows, row_count,
+        bases, base_count, values, value_count, entries, entry_count, entry_values, entry_value_count, plain, plain_count, sources,
+        source_count, source_values, source_value_count, labels, label_count, label_bytes, label_byte_count, sheet, sheet_length);
+    return exported;
+}

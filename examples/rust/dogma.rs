@@ -189,6 +189,38 @@ unsafe extern "C" {
         fit: *const u8,
         fit_length: usize,
     ) -> Checked;
+
+    fn dogma_export(
+        text: *mut u8,
+        text_length: usize,
+        states: *mut States,
+        collected: *mut [u32; 14],
+        collected_count: usize,
+        collected_values: *mut f64,
+        collected_value_count: usize,
+        rows: *mut [u32; 6],
+        row_count: usize,
+        bases: *mut f64,
+        base_count: usize,
+        values: *mut f64,
+        value_count: usize,
+        entries: *mut [u32; 12],
+        entry_count: usize,
+        entry_values: *mut f64,
+        entry_value_count: usize,
+        plain: *mut [u32; 2],
+        plain_count: usize,
+        sources: *mut SourceRow,
+        source_count: usize,
+        source_values: *mut [f64; 2],
+        source_value_count: usize,
+        labels: *const [u32; 3],
+        label_count: usize,
+        label_bytes: *const u8,
+        label_byte_count: usize,
+        sheet: *const u8,
+        sheet_length: usize,
+    ) -> Exported;
 }
 
 /// A list that can be full.
@@ -866,6 +898,103 @@ fn verdict_of(checked: Checked, shape: fn(u32) -> CheckRefusal) -> Result<Verdic
     }
 }
 
+// Eight numbers, as include/dogma.h has them.
+#[repr(C)]
+struct Exported {
+    answer: Answer,
+    length: u64,
+}
+
+/// Why there is no text.
+#[derive(Debug, Copy, Clone, PartialEq, Eq)]
+pub enum ExportRefusal {
+    /// The engine's own.
+    Run(Refusal),
+    /// The first bad label, from 0: over 64 bytes, a byte that is not printable ASCII, CR or LF, or an id that does not ascend.
+    Label { label: usize },
+}
+
+impl ExportRefusal {
+    /// The library's number and place.
+    pub fn number_and_place(self) -> (u32, u64) {
+        match self {
+            ExportRefusal::Run(refusal) => (refusal.number_and_place().0, refusal.number_and_place().1.into()),
+            ExportRefusal::Label { label } => (16, label as u64),
+        }
+    }
+}
+
+impl fmt::Display for ExportRefusal {
+    fn fmt(&self, f: &mut fmt::Formatter) -> fmt::Result {
+        let (number, place) = self.number_and_place();
+        write!(f, "refused {number} {place}")
+    }
+}
+
+impl std::error::Error for ExportRefusal {}
+
+impl Engine {
+    /// A run's rows as comma-separated text by RFC 4180, with labels for attributes: (id, label), ids ascending. A label that begins
+    /// with `=`, `+`, `-` or `@` is a formula to some spreadsheet programs; it is given as it is.
+    pub fn export(&mut self, sheet: &[u8], labels: &[(i32, &str)]) -> Result<String, ExportRefusal> {
+        let bytes: Vec<u8> = labels.iter().flat_map(|(_, label)| label.bytes()).collect();
+        let mut first = 0;
+        let table: Vec<[u32; 3]> = labels
+            .iter()
+            .map(|(id, label)| {
+                first += label.len();
+                [*id as u32, (first - label.len()) as u32, label.len() as u32]
+            })
+            .collect();
+        // no record is longer than 172 bytes, so the text has room
+        let mut text = vec![0u8; 30 + 172 * self.columns.rows.len()];
+        let lists = &mut self.columns;
+        // SAFETY: each pointer is that of a slice with its own length, so none is null, each is aligned, and no two that are written
+        // overlap; the sheet and the labels are borrowed apart from them. All stay borrowed until the call is over.
+        let exported = unsafe {
+            dogma_export(
+                text.as_mut_ptr(),
+                text.len(),
+                &mut *self.states,
+                lists.collected.as_mut_ptr(),
+                lists.collected.len(),
+                lists.collected_values.as_mut_ptr(),
+                lists.collected_values.len(),
+                lists.rows.as_mut_ptr(),
+                lists.rows.len(),
+                lists.bases.as_mut_ptr(),
+                lists.bases.len(),
+                lists.values.as_mut_ptr(),
+                lists.values.len(),
+                lists.entries.as_mut_ptr(),
+                lists.entries.len(),
+                lists.entry_values.as_mut_ptr(),
+                lists.entry_values.len(),
+                lists.plain.as_mut_ptr(),
+                lists.plain.len(),
+                lists.sources.as_mut_ptr(),
+                lists.sources.len(),
+                lists.source_values.as_mut_ptr(),
+                lists.source_values.len(),
+                table.as_ptr(),
+                table.len(),
+                bytes.as_ptr(),
+                bytes.len(),
+                sheet.as_ptr(),
+                sheet.len(),
+            )
+        };
+        match exported.answer.number {
+            0 => {
+                text.truncate(exported.length as usize);
+                Ok(String::from_utf8(text).expect("a text is ASCII"))
+            }
+            16 => Err(ExportRefusal::Label { label: exported.answer.place as usize }),
+            number => Err(ExportRefusal::Run(Refusal::new(number, exported.answer.place as u32))),
+        }
+    }
+}
+
 // The used rows of each list.
 struct Lists<'a> {
     states: &'a States,
@@ -1121,6 +1250,17 @@ mod tests {
         assert_eq!(check_rules_files(&twice, &BOOK[1..], FIT), Err(CheckRefusal::Book { table: 0 }));
         assert_eq!(check_rules_files(&twice, BOOK, &FIT[1..]), Err(CheckRefusal::Fit { table: 0 }));
         assert_eq!(CheckRefusal::Fit { table: 6 }.number_and_place(), (1, 26));
+    }
+
+    #[test]
+    fn rows_for_a_spreadsheet() {
+        let sheet: &[u8] = include_bytes!("../../cases/L.sheet");
+        let mut engine = Engine::new(Rooms::all(64));
+        assert_eq!(engine.export(sheet, &[(20, "Bonus, %"), (37, "Hull \"HP\"")]).unwrap(), include_str!("../../cases/L.csv"));
+        assert_eq!(engine.export(sheet, &[(20, ""), (20, "")]), Err(ExportRefusal::Label { label: 1 }));
+        assert_eq!(engine.export(sheet, &[(20, "\u{7f}")]), Err(ExportRefusal::Label { label: 0 }));
+        assert_eq!(engine.export(&sheet[..99], &[(20, "\u{7f}")]), Err(ExportRefusal::Run(Refusal::Shape { table: 0 })));
+        assert_eq!(Engine::new(Rooms::all(0)).export(sheet, &[]).unwrap_err().number_and_place(), (7, 2));
     }
 
     #[test]

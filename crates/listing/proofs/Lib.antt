@@ -7,3 +7,4 @@ pub mod Lengths
 pub mod Wholes
 pub mod Lined
 pub mod Told
+pub mod Behind

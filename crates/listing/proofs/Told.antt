@@ -14,7 +14,7 @@ use Rattle.listing.specs.Pieces.{Shown, Tells}
 use Rattle.listing.specs.Put.{Begins}
 
 -- only what is done has number 0
-no-number : (x : Refusal) → number (answer.Refused x) ≡ 0 → ⊥
+pub no-number : (x : Refusal) → number (answer.Refused x) ≡ 0 → ⊥
 no-number (refusal.Shape p) e = omega (arith, e)
 no-number (refusal.Func p) e = omega (arith, e)
 no-number (refusal.Domain p) e = omega (arith, e)

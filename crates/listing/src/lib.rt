@@ -11,6 +11,7 @@ ghost use Rattle.rules.specs.Answer as answer;
 ghost use Rattle.rules.specs.Answer.{Res, ok, refused};
 ghost use Rattle.rules.specs.Outcome.{Done};
 ghost use Rattle.rules.specs.Dispatch.{Row};
+ghost use Rattle.clear.specs.Ends.{ClearedFrom};
 ghost use Rattle.listing.specs.Put.{Added, Begins};
 ghost use Rattle.rules.specs.declared.Hundredths.the-variants.{Rounded};
 ghost use Rattle.rules.specs.declared.Refusal.{Refusal};
@@ -25,7 +26,7 @@ use numbers::integers::signed;
 use rules::Hundredths;
 
 // One byte.
-fn put_byte(out: &mut [u8], at: usize, x: u8) -> usize
+pub fn put_byte(out: &mut [u8], at: usize, x: u8) -> usize
     requires room { ⌜ at < length (now out) ⌝ }
     ensures added { λ r. ⌜ Added out at r (x ∷ []) ⌝ }
     ensures next { λ r. ⌜ r ≡ at + 1 ⌝ }
@@ -48,7 +49,7 @@ fn put_natural(out: &mut [u8], at: usize, n: u64) -> usize
 }
 
 // A number of 32 bits.
-fn put_u32(out: &mut [u8], at: usize, n: u32) -> usize
+pub fn put_u32(out: &mut [u8], at: usize, n: u32) -> usize
     requires room { ⌜ at + 10 ≤ length (now out) ⌝ }
     ensures added { λ r. ⌜ Added out at r (natural n) ⌝ }
     ensures within { λ r. ⌜ r ≤ at + 10 ⌝ }
@@ -66,7 +67,7 @@ fn put_u64(out: &mut [u8], at: usize, n: u64) -> usize
 }
 
 // A signed number.
-fn put_integer(out: &mut [u8], at: usize, x: i32) -> usize
+pub fn put_integer(out: &mut [u8], at: usize, x: i32) -> usize
     requires room { ⌜ at + 11 ≤ length (now out) ⌝ }
     ensures added { λ r. ⌜ Added out at r (integer x) ⌝ }
     ensures within { λ r. ⌜ r ≤ at + 11 ⌝ }
@@ -116,7 +117,7 @@ fn put_hundredths(out: &mut [u8], at: usize, value: Hundredths) -> usize
 }
 
 // A value with two decimals.
-fn put_value(out: &mut [u8], at: usize, value: f64) -> usize
+pub fn put_value(out: &mut [u8], at: usize, value: f64) -> usize
     requires room { ⌜ at + 16 ≤ length (now out) ⌝ }
     ensures added { λ r. ⌜ Added out at r (decimals (hundredthsOf value)) ⌝ }
     ensures within { λ r. ⌜ r ≤ at + 16 ⌝ }
@@ -125,7 +126,7 @@ fn put_value(out: &mut [u8], at: usize, value: f64) -> usize
 }
 
 // Bytes as they are.
-fn put_text(out: &mut [u8], at: usize, text: &[u8]) -> usize
+pub fn put_text(out: &mut [u8], at: usize, text: &[u8]) -> usize
     requires room { ⌜ at + length (now text) ≤ length (now out) ⌝ }
     ensures added { λ r. ⌜ Added out at r (now (text .entry)) ⌝ }
     ensures next { λ r. ⌜ r ≡ at + length (now (text .entry)) ⌝ }
@@ -137,6 +138,18 @@ fn put_text(out: &mut [u8], at: usize, text: &[u8]) -> usize
         i += 1;
     }
     at + i
+}
+
+// Zeros from a place on.
+pub fn zero_bytes(bytes: &mut [u8], from: usize)
+    ensures cleared { λ _. ⌜ ClearedFrom bytes 0 from ⌝ }
+{
+    let n = bytes.len();
+    let mut i = from;
+    while i < n {
+        bytes[i] = 0;
+        i += 1;
+    }
 }
 
 // The first line of a listing of so many rows.

@@ -12,7 +12,9 @@ use borrow.Author.Tests.{le-leb, lt-leb}
 use Rattle.laws.specs.Columns.{column}
 use Rattle.laws.proofs.Laid.{column-none}
 use Rattle.listing.specs.Put.{put, puts}
-use Rattle.listing.proofs.Puts.{ends, as-long, grows}
+use Rattle.listing.proofs.Puts.{ends, as-long}
+use Rattle.listing.proofs.Lined.{begun}
+use Rattle.listing.proofs.Behind.{cleared-behind}
 use Rattle.clear.specs.Ends.{cleared}
 use Rattle.shape.specs.Shaped.{shapedOf}
 use Rattle.shape.specs.declared.Shaped.{Shaped}
@@ -50,18 +52,11 @@ module _ (w : tables.Written) (n : ℕ) {out : List ℕ} (z : out ≡ replicate 
   pub given-full : {r : Written} → w ≡ full → r ≡ record { number = 7; place = 6; length = 0 } → Given w n r out
   given-full e h = (h ∙ sym (ap answerOf e), nothing (ap bytesIn e))
 
-map-own : (l : List ℕ) → map (λ b. b) l ≡ l
-map-own [] = refl
-map-own (x ∷ l) = ap (λ (r : List ℕ). x ∷ r) (map-own l)
-
 -- a text from the front on, and zeros behind it
 cleared-put : (b out : List ℕ) {end : ℕ} {now : List ℕ} → length b ≤ length out → put end now ≡ puts b (put 0 out) → cleared 0 end now ≡ column (λ b. b) 0 b (length out)
-unfolding cleared column
 cleared-put b out {end} {now} h e =
     let far : end ≡ length b = ends b 0 out e ∙ zero-add (length b) in
-    ap (λ (l : List ℕ). l ++ replicate (length now - end) 0) (grows b 0 out (omega arith) (omega (arith, far, h)) e ∙ sym (map-own b))
-    ∙ ap (λ (k : ℕ). map (λ b. b) b ++ replicate (k - end) 0) (as-long b 0 out e)
-    ∙ ap (λ (k : ℕ). map (λ b. b) b ++ replicate (length out - k) 0) far
+    cleared-behind (begun b out (omega (arith, far, h)) e) ∙ ap (column (λ b. b) 0 b) (as-long b 0 out e)
 
 abbrev done : ℕ → Written
 done k = record { number = 0; place = 0; length = k }

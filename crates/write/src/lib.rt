@@ -12,6 +12,7 @@ use columns::TypeEffectFields;
 use lent::book::book_shape;
 use lent::fit::fit_shape;
 use lent::sheet_shape;
+use listing::zero_bytes;
 use put_tables::pairs::book_length;
 use put_tables::pairs::fit_length;
 use put_tables::put_book_file;
@@ -41,18 +42,6 @@ pub struct Written {
     pub number: u64,
     pub place: u64,
     pub length: u64,
-}
-
-// Zeros from a place on.
-fn zero_bytes(bytes: &mut [u8], from: usize)
-    ensures cleared { λ _. ⌜ ClearedFrom bytes 0 from ⌝ }
-{
-    let n = bytes.len();
-    let mut i = from;
-    while i < n {
-        bytes[i] = 0;
-        i += 1;
-    }
 }
 
 // A refusal: all bytes are zero.

@@ -5,7 +5,7 @@ use Rattle.write.proofs.refused.Statement.{statement}
 use Rattle.write.proofs.refused.Tie as tie
 use Rattle.write.proofs.refused.Reads as reads
 use Rattle.write.proofs.refused.Lts as lts
-use Rattle.write.proofs.zero_bytes.Reads as zero-bytes-reads
+use Rattle.listing.proofs.zero_bytes.Reads as zero-bytes-reads
 use mathlib.Core.Path.{refl, _∙_}
 use Rattle.clear.proofs.Columned.{cleared-zeros}
 

@@ -1,0 +1,11 @@
+pub mod Classes
+pub mod Judging
+pub mod Special
+pub mod Seeking
+pub mod Plain
+pub mod Filling
+pub mod Given
+pub mod Promises
+pub mod Examples
+pub mod ReadBack
+pub mod Readings

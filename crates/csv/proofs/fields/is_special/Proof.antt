@@ -1,0 +1,13 @@
+-- Made by `answers` from Proof.answers: edit that file.
+-- `fields::is_special` meets its contract. Assumes nothing.
+use Rattle.csv.proofs.fields.is_special.Statement.{statement}
+use Rattle.csv.proofs.fields.is_special.Tie as tie
+use Rattle.csv.proofs.fields.is_special.Reads as reads
+use Rattle.csv.proofs.fields.is_special.Lts as lts
+use Rattle.csv.proofs.Classes.{special-told}
+
+returns : tie.Need-returns
+returns c = special-told (c .args .b)
+
+pub is-special-spec : {M : Type 1} → statement M
+is-special-spec = tie.close (tie.spec returns)

@@ -1,0 +1,4 @@
+pub mod Csv
+pub mod Labels
+pub mod Puts
+pub mod Sought
