@@ -1,0 +1,6 @@
+pub mod Ranked
+pub mod Parts
+pub mod Accepted
+pub mod Tends
+pub mod TendsSteps
+pub mod TendsReads
