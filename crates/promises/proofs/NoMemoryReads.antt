@@ -23,7 +23,7 @@ use Rattle.rules.specs.declared.Refusal.the-variants.{Depth}
 use Rattle.promises.specs.NoMemory.{keyAt, Needs, NoLoop}
 use Rattle.promises.proofs.NoMemoryGoes.{Goes, stops, goes, on-second, told, told-first, weaker}
 use Rattle.promises.proofs.NoMemorySteps.{Each, Agree, Ended, calculate-goes}
-use Rattle.promises.proofs.NoMemoryFresh.{Same, valueBy, fresh-goes}
+use Rattle.promises.proofs.NoMemoryFresh.{Same, valueBy, fresh-default, fresh-goes}
 use Rattle.promises.proofs.Ranks.{found-at, each-of}
 
 -- one need further
@@ -132,13 +132,7 @@ module _ (w : World) (Also : ℕ → Type 0) where
       pub long : length (m .values) ≡ length (w .rows)
       pub right : Right Busy (m .values)
 
-    -- an absent attribute, and one that has a value
-    default-fresh : (a : Key) → findRow (a .object) (a .id) 0 (w .rows) ≡ none → freshAt w a ≡ ok (getDogmaAttribute (w .book) (a .id) .«default_value»)
-    default-fresh a e = got (freshAt w a) (subst (λ (f : Option Found). Goes Same (valueBy w (freshAt w) a f) (freshAt w a)) e (fresh-goes w free a))
-      where
-        got : (x : Res Float) → Goes Same (ok (getDogmaAttribute (w .book) (a .id) .«default_value»)) x → x ≡ ok (getDogmaAttribute (w .book) (a .id) .«default_value»)
-        got x (goes e) = ap ok (sym e)
-
+    -- one that has a value, or is absent
     reads-known : (Busy : ℕ → Type 0) (a : Key) (m m′ : Mem) (v : Float) → ReadyFor Busy a m → freshAt w a ≡ ok v
         → ((f : Found) → findRow (a .object) (a .id) 0 (w .rows) ≡ some f → there? (getD (m .values) (f .index) none) ≡ true)
         → Goes (Reading Busy a m) (ok (record { value = v; mem = m })) (forgets w (a .object) (a .id) m′)
@@ -223,7 +217,7 @@ module _ (w : World) (Also : ℕ → Type 0) where
               | none ↦ ok (record { value = getDogmaAttribute (w .book) (a .id) .«default_value»; mem = m })
               | some x ↦ elim (getD (m .values) (x .index) none) [ some v ↦ ok (record { value = v; mem = m }) | none ↦ start (x .index) (x .row) m ]
             ]) (forgets w (a .object) (a .id) m′)
-        by none e = reads-known Busy a m m′ _ r (default-fresh a e) (λ f g. nowhere f (sym e ∙ g))
+        by none e = reads-known Busy a m m′ _ r (fresh-default w a e) (λ f g. nowhere f (sym e ∙ g))
           where
             nowhere : {X : Type 0} (f : Found) → none ≡ some f → X
             nowhere f q = let z : _≡_ {A = ℕ} 0 1 = cc in absurd (omega arith)

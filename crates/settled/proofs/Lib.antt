@@ -4,3 +4,5 @@ pub mod Accepted
 pub mod Tends
 pub mod TendsSteps
 pub mod TendsReads
+pub mod Quiet
+pub mod Ours
