@@ -5,13 +5,17 @@ use native.Mathlib.Omega.{arith}
 use mathlib.Core.Path.{_≡_, refl, sym, ap, ap₂, subst, _∙_}
 use mathlib.Core.Bool.{true, false, cond}
 use mathlib.Core.List.{List, [], _∷_, _++_}
+use mathlib.Core.Logic.{inl, inr}
 use mathlib.Core.Option.{Option, none, some}
+use borrow.Author.Tests.{ltb-true, ltb-false}
+use lib.Dec.{ltb}
 use lib.IntN.{ℤ, pos}
-use lib.ListN.{length, getD}
+use lib.ListN.{length, getD, List·getD-eq-default}
 use mir.Syntax.{w32}
 use mir.Val.{toZ, ofZ, SFits}
 use mir.Facts.{toZ-ofZ}
 use Rattle.laws.specs.Lists.{eqZ}
+use Rattle.laws.proofs.Bools.{true-or-false}
 use Rattle.laws.proofs.Order.{eqZ-same}
 use Rattle.rules.specs.Columns.{originNumbers, optionalNumbers, entryNumbers}
 use Rattle.rules.specs.Dispatch.{Row, Key}
@@ -30,7 +34,7 @@ use Rattle.reading.specs.Stretched.{Unlimited}
 use Rattle.reading.proofs.Finds.{found-in}
 use Rattle.needs.specs.Slots.{sourceSlot, shipSlot, resistanceSlot, limitSlot, limitSlots, slotsOf, rowIn, needAt}
 use Rattle.needs.specs.Telling.{NeedTables, EntryShown, TellsNeeds}
-use Rattle.needs.proofs.Slotted.{at-source, at-resistance, past-entries}
+use Rattle.needs.proofs.Slotted.{slots-long, at-source, at-resistance, past-entries}
 
 -- ---- the numbers of an entry
 
@@ -196,3 +200,18 @@ need-inside w i s j e = by (getD (slotsOf (w .book) (getD (w .rows) i noRow)) s 
     by : (o : Option Key) → some j ≡ rowIn (w .rows) o → j < length (w .rows)
     by none p = let z : _≡_ {A = ℕ} 0 1 = cc in absurd (omega arith)
     by (some a) p = at (a .object) (a .id) (findRow (a .object) (a .id) 0 (w .rows)) refl p
+
+-- and stands in one of the row's slots
+pub need-slot : (w : World) (i s j : ℕ) → some j ≡ needAt w i s → s < 2 * length (getD (w .rows) i noRow .entries) + 2
+unfolding needAt
+need-slot w i s j e = by (slotsOf (w .book) (getD (w .rows) i noRow)) (slots-long (w .book) (getD (w .rows) i noRow)) e
+  where
+    by : (slots : List (Option Key)) {n : ℕ} → length slots ≡ n → some j ≡ rowIn (w .rows) (getD slots s none) → s < n
+    by slots l p = elim (true-or-false (ltb s (length slots))) [
+      | inl h ↦ omega (arith, ltb-true s (length slots) h, l)
+      | inr h ↦
+          let z : getD slots s none ≡ none = List·getD-eq-default slots none (omega (arith, ltb-false s (length slots) h)) in
+          let none-there : _≡_ {A = Option ℕ} (some j) none = p ∙ ap (rowIn (w .rows)) z in
+          let y : _≡_ {A = ℕ} 0 1 = cc in
+          absurd (omega arith)
+    ]
