@@ -54,7 +54,8 @@ pub record Spreading (t : NeedTables) (row at s head end : ℕ) (c : List (List 
   pub start : num c row 0 ≡ row + 1
   pub own : at < length (t .rows) → num c at 0 ≡ row + 1
   pub led : (h : KnowsNeeds t) (j : ℕ) → j < length (t .rows) → num c j 0 ≡ row + 1 → (j ≡ row) ⊎ MetFrom (h .world) row j
-  pub met : (h : KnowsNeeds t) (j : ℕ) → j < length (t .rows) → num c j 0 ≡ row + 1 → (j ≡ at) ⊎ (((s : ℕ) → SlotMet (h .world) row c j s) ⊎ Waits c head end j)
+  pub met : (h : KnowsNeeds t) (j : ℕ) → j < length (t .rows) → num c j 0 ≡ row + 1
+      → (j ≡ at) ⊎ (((s : ℕ) → SlotMet (h .world) row c j s) ⊎ Waits c head end j)
   pub slots : (h : KnowsNeeds t) (i : ℕ) → i < s → SlotMet (h .world) row c at i
 
 -- a row is in the queue, once: r rows are in it then

@@ -51,7 +51,7 @@ fn queued(work: &mut [WorkRow], row: usize, mark: u32, end: usize) -> usize
     end + 1
 }
 
-// All that row `at` needs is met, but that it ends where the row that is searched for is among it.
+// All that the row at a place of the queue needs is met, but that it ends where the row that is searched for is among it.
 fn meet(
     work: &mut [WorkRow],
     book: &[u8],
@@ -61,16 +61,16 @@ fn meet(
     rows: &[AttributeRow],
     entries: &[EntryRow],
     row: usize,
-    at: usize,
     head: usize,
     end: usize,
 ) -> Met
     requires holding { ⌜ KnowsNeeds (needTables book pairs stretches limits rows entries) ⌝ }
-    requires within { ⌜ (row < length (now rows)) × (at < length (now rows)) ⌝ }
-    requires spreading { ⌜ Spreading (needTables book pairs stretches limits rows entries) row at 0 head end (now work) ⌝ }
-    ensures meets { λ r. ⌜ Meets (needsRead book pairs stretches limits rows entries) row head r (now (work .exit)) ⌝ }
+    requires within { ⌜ (row < length (now rows)) × (head < end) ⌝ }
+    requires spreading { ⌜ Spreading (needTables book pairs stretches limits rows entries) row (length (now rows)) 0 head end (now work) ⌝ }
+    ensures meets { λ r. ⌜ Meets (needsRead book pairs stretches limits rows entries) row (head + 1) r (now (work .exit)) ⌝ }
 {
     let mark = row as u32 + 1;
+    let at = index(work[head][WORK_PLACED]);
     let slots = slots_of(rows, at);
     let mut last = end;
     let mut s: usize = 0;
@@ -111,8 +111,6 @@ pub fn leads_back(
     let mut end = queued(work, row, row as u32 + 1, 0);
     let mut head: usize = 0;
     while head < end {
-        let at = index(work[head][WORK_PLACED]);
-        head += 1;
         let met = meet(
             work,
             book,
@@ -122,10 +120,10 @@ pub fn leads_back(
             rows,
             entries,
             row,
-            at,
             head,
             end,
         );
+        head += 1;
         match met {
             Met::Back => return true,
             Met::To(e) => end = e,

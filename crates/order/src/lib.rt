@@ -13,7 +13,7 @@ ghost use mathlib.Core.Bool.{true};
 ghost use mathlib.Core.List.{[]};
 ghost use Prim.Native.Nat.{_+_, _*_, _≤_, _<_, _^_};
 ghost use lib.ListN.{length, getD};
-ghost use Rattle.needs.specs.Telling.{needTables, needsRead, KnowsNeeds};
+ghost use Rattle.needs.specs.Telling.{NeedTables, needTables, needsRead, KnowsNeeds};
 ghost use Rattle.order.specs.Ranks.{num, Put, Unmet, Ranked};
 ghost use Rattle.order.specs.Walks.{Walking, Pushable, Looking, TurnsTo};
 
@@ -75,20 +75,10 @@ pub fn unmet(work: &mut [WorkRow], n: usize)
 }
 
 // A row is put at the end of the path.
-fn push(
-    work: &mut [WorkRow],
-    book: &[u8],
-    pairs: &TablePairs,
-    stretches: &Stretches,
-    limits: &Limits,
-    rows: &[AttributeRow],
-    entries: &[EntryRow],
-    walk: Walk,
-    row: usize,
-) -> Turned
-    requires walking { ⌜ Walking (needTables book pairs stretches limits rows entries) walk (now work) ⌝ }
-    requires pushable { ⌜ Pushable (now rows) (now work) row ⌝ }
-    ensures walking { λ r. ⌜ TurnsTo (needsRead book pairs stretches limits rows entries) r (now (work .exit)) ⌝ }
+fn push(work: &mut [WorkRow], walk: Walk, row: usize) -> Turned
+    requires inside { ⌜ (row < length (now work)) × (row < 2 ^ 32) ⌝ }
+    ensures walking { λ r. ⌜ ((t : NeedTables) → Walking t walk (now (work .entry)) → Pushable (t .rows) (now (work .entry)) row
+        → TurnsTo t r (now (work .exit))) ⌝ }
 {
     if work.len() <= walk.depth {
         return Turned::Stop;
@@ -103,23 +93,13 @@ fn push(
 }
 
 // A row whose needs are all placed is placed.
-fn place(
-    work: &mut [WorkRow],
-    book: &[u8],
-    pairs: &TablePairs,
-    stretches: &Stretches,
-    limits: &Limits,
-    rows: &[AttributeRow],
-    entries: &[EntryRow],
-    walk: Walk,
-    row: usize,
-) -> Turned
-    requires walking { ⌜ Walking (needTables book pairs stretches limits rows entries) walk (now work) ⌝ }
-    requires pushable { ⌜ Pushable (now rows) (now work) row ⌝ }
-    requires looked_at { ⌜ 2 * getD (getD (now rows) row []) 3 0 + 2 ≤ num (now work) row 1 ⌝ }
-    ensures walking { λ r. ⌜ TurnsTo (needsRead book pairs stretches limits rows entries) r (now (work .exit)) ⌝ }
+fn place(work: &mut [WorkRow], n: usize, walk: Walk, row: usize) -> Turned
+    requires inside { ⌜ (row < n) × ((n ≤ length (now work)) × (n < 2 ^ 32)) ⌝ }
+    ensures walking { λ r. ⌜ ((t : NeedTables) → n ≡ length (t .rows) → Walking t walk (now (work .entry))
+        → Pushable (t .rows) (now (work .entry)) row → 2 * getD (getD (t .rows) row []) 3 0 + 2 ≤ num (now (work .entry)) row 1
+        → TurnsTo t r (now (work .exit))) ⌝ }
 {
-    if rows.len() <= walk.placed {
+    if n <= walk.placed {
         return Turned::Stop;
     }
     put(work, row, WORK_MARK, PLACED);
@@ -133,21 +113,10 @@ fn place(
 }
 
 // A slot in which nothing stands, or a placed row, is done with.
-fn pass(
-    work: &mut [WorkRow],
-    book: &[u8],
-    pairs: &TablePairs,
-    stretches: &Stretches,
-    limits: &Limits,
-    rows: &[AttributeRow],
-    entries: &[EntryRow],
-    walk: Walk,
-    row: usize,
-) -> Turned
-    requires walking { ⌜ Walking (needTables book pairs stretches limits rows entries) walk (now work) ⌝ }
-    requires pushable { ⌜ Pushable (now rows) (now work) row ⌝ }
-    requires done_with { ⌜ Looking (needTables book pairs stretches limits rows entries) (now work) row ⌝ }
-    ensures walking { λ r. ⌜ TurnsTo (needsRead book pairs stretches limits rows entries) r (now (work .exit)) ⌝ }
+fn pass(work: &mut [WorkRow], walk: Walk, row: usize) -> Turned
+    requires inside { ⌜ row < length (now work) ⌝ }
+    ensures walking { λ r. ⌜ ((t : NeedTables) → Walking t walk (now (work .entry)) → Pushable (t .rows) (now (work .entry)) row
+        → Looking t (now (work .entry)) row → TurnsTo t r (now (work .exit))) ⌝ }
 {
     let slot = work[row][WORK_AT];
     if 4294967295 <= slot {
@@ -178,34 +147,14 @@ fn look(
 {
     let found = need_at(book, pairs, stretches, limits, rows, entries, row, slot);
     match found {
-        Found::Nothing => pass(
-            work,
-            book,
-            pairs,
-            stretches,
-            limits,
-            rows,
-            entries,
-            walk,
-            row,
-        ),
+        Found::Nothing => pass(work, walk, row),
         Found::At(k) => {
             let mark = work[k][WORK_MARK];
             if mark == PLACED {
-                return pass(
-                    work,
-                    book,
-                    pairs,
-                    stretches,
-                    limits,
-                    rows,
-                    entries,
-                    walk,
-                    row,
-                );
+                return pass(work, walk, row);
             }
             if mark == NOT_MET {
-                return push(work, book, pairs, stretches, limits, rows, entries, walk, k);
+                return push(work, walk, k);
             }
             Turned::Stop
         }
@@ -238,17 +187,7 @@ fn turn(
                 placed: walk.placed,
             });
         }
-        return push(
-            work,
-            book,
-            pairs,
-            stretches,
-            limits,
-            rows,
-            entries,
-            walk,
-            row,
-        );
+        return push(work, walk, row);
     }
     let top = index(work[walk.depth - 1][WORK_PATH]);
     let mark = work[top][WORK_MARK];
@@ -262,17 +201,7 @@ fn turn(
     let slot = index(work[top][WORK_AT]);
     let slots = slots_of(rows, top);
     if slots <= slot {
-        return place(
-            work,
-            book,
-            pairs,
-            stretches,
-            limits,
-            rows,
-            entries,
-            walk,
-            top,
-        );
+        return place(work, rows.len(), walk, top);
     }
     look(
         work,

@@ -9,7 +9,7 @@ use native.Mathlib.Omega.{arith}
 use lib.ListN.{length}
 use Rattle.loops.specs.Looping.{Spreading}
 use Rattle.loops.proofs.Queues.{unmarked-few}
-use Rattle.loops.proofs.Spreads.{spread-starts, take-inside, spread-take, spread-ends}
+use Rattle.loops.proofs.Spreads.{spread-starts, spread-ends}
 
 abbrev Inv-loop : tie.InvT-loop
 Inv-loop work₀ book pairs stretches limits rows entries row end₀ head₀ work end head = (length work ≡ length work₀) × Spreading (record { book = book; pairs = pairs; stretches = stretches; limits = limits; rows = rows; entries = entries }) row (length rows) 0 head end work
@@ -27,17 +27,13 @@ leads-back-spec =
     (λ c. search needs)
     (λ c κs. ((omega (arith, c .before .before .pre .1 .0 .0, c .before .before .pre .1 .1 .0), omega (arith, c .before .before .pre .1 .1 .0, c .before .before .pre .1 .0 .1)), omega (arith, unmarked-few (c .before .before .args .row + 1) (c .before .before .args .work .now))))
     (λ c. (refl, spread-starts (c .before .before .before .before .pre .1 .0 .0) (c .before .before .before .before .pre .1 .0 .1) (c .before .before .before .before .pre .1 .1 .0) (c .before .before .before .before .pre .1 .1 .1) (c .before .queued .ensures) (c .before .queued .kept .0)))
+    (λ c κs. (c .before .before .before .before .before .before .before .pre .0, ((c .before .before .before .before .before .before .before .pre .1 .1 .0, c .before .loop-test .taken), c .before .before .loop .inv .1)))
     (λ c. search needs)
     (λ c. search needs)
-    (λ c. search needs)
-    (λ c κs. search needs)
-    (λ c. search needs)
-    (λ c κs. (c .before .before .before .before .before .before .before .before .before .pre .0, ((c .before .before .before .before .before .before .before .before .before .pre .1 .1 .0, take-inside (c .before .before .before .before .loop .inv .1) (c .before .index .ensures .0) (c .before .before .before .loop-test .taken)), spread-take (c .before .before .before .before .loop .inv .1) (c .before .index .ensures .0) refl (c .before .before .before .loop-test .taken))))
-    (λ c. search needs)
-    (λ c. c .before .before .before .meet .kept .0 ∙ c .before .before .before .before .before .before .before .before .loop .inv .0 ∙ c .before .before .before .before .before .before .before .before .before .before .queued .kept .0)
+    (λ c. c .before .before .before .meet .kept .0 ∙ c .before .before .before .before .before .before .loop .inv .0 ∙ c .before .before .before .before .before .before .before .before .queued .kept .0)
     (λ c. let R = rw (c .enum-told .given .1) at (c .before .before .before .meet .ensures) in (λ h. sym (R .0 h), R .1))
     (λ c. search needs)
     (λ c. search needs)
-    (λ c. (c .before .before .before .before .meet .kept .0 ∙ c .before .before .before .before .before .before .before .before .before .loop .inv .0, rw (c .before .met .given .1) at (c .before .before .before .before .meet .ensures)))
+    (λ c. (c .before .before .before .before .meet .kept .0 ∙ c .before .before .before .before .before .before .before .loop .inv .0, rw (c .before .met .given .1) at (c .before .before .before .before .meet .ensures)))
     (λ c. c .before .loop .inv .0 ∙ c .before .before .before .queued .kept .0)
     (λ c. (λ h. sym (spread-ends (c .before .loop .inv .1) refl (omega (arith, c .loop-test .left)) (c .before .before .before .before .before .before .pre .1 .1 .0) h), c .before .loop .inv .1 .marks)))

@@ -11,7 +11,7 @@ pub place-spec : {M : Type 1} → statement M
 place-spec =
     tie.close
     (tie.spec
-    (λ c. search needs)
+    (λ c. λ t long walking pushable looked. tt)
     (λ c κs. search needs)
     (λ c. search needs)
     (λ c κs. search needs)
@@ -19,4 +19,4 @@ place-spec =
     (λ c κs. search needs)
     (λ c. search needs)
     (λ c. search needs)
-    (λ c. walking-place (c .before .before .before .before .before .before .before .before .before .before .before .before .before .before .pre .0) (c .before .before .before .before .before .before .before .before .before .before .before .before .before .before .pre .1 .0) (c .before .before .before .before .before .before .before .before .before .before .before .before .before .before .pre .1 .1) (omega (arith, c .before .before .before .before .before .before .before .before .before .before .before .if1 .left)) (c .before .before .before .before .before .before .before .before .before .put .ensures) (c .before .before .before .before .before .put2 .ensures) (c .before .before .put3 .ensures) (c .before .before .put3 .kept .0 ∙ c .before .before .before .before .before .put2 .kept .0 ∙ c .before .before .before .before .before .before .before .before .before .put .kept .0)))
+    (λ c. λ t long walking pushable looked. walking-place walking pushable looked (omega (arith, long, c .before .before .before .before .before .before .before .before .before .before .before .if1 .left)) (c .before .before .before .before .before .before .before .before .before .put .ensures) (c .before .before .before .before .before .put2 .ensures) (c .before .before .put3 .ensures) (c .before .before .put3 .kept .0 ∙ c .before .before .before .before .before .put2 .kept .0 ∙ c .before .before .before .before .before .before .before .before .before .put .kept .0)))
