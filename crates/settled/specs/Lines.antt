@@ -1,17 +1,19 @@
 -- Another planner's lines beside our rows: keys first, then each value. 02, M-111. Definitions only.
 use Prim.Native.Nat.{ℕ, suc, _+_, _*_}
-use mathlib.Core.Bool.{Bool, true, false, cond}
+use mathlib.Core.Bool.{Bool, true, false, not, _&&_, cond}
 use mathlib.Core.List.{List, [], _∷_, map}
 use mathlib.Core.Option.{Option, none, some}
 use lib.Dec.{eqb}
-use lib.Ieee.{Float, binary64, ofBits, toBits}
+use lib.Ieee.{Float, nan, inf, fin, binary64, ofBits}
 use lib.ListN.{getD}
 use mir.Syntax.{w32}
 use mir.Val.{toZ}
 use Rattle.laws.specs.Floats.{finite}
+use Rattle.laws.specs.Lists.{eqZ}
 use Rattle.rules.specs.Answer.{Res, ok, refused}
 use Rattle.rules.specs.Dispatch.{Row, Key, sameKey}
 use Rattle.rules.specs.Value.{World}
+use Rattle.promises.specs.NoMemory.{keyOf}
 use Rattle.settled.specs.Given.{given}
 
 -- "object, attribute and the float's 64 bits"
@@ -40,9 +42,25 @@ firstOther i [] (b ∷ bs) = some i
 firstOther i (a ∷ ks) [] = some i
 firstOther i (a ∷ ks) (b ∷ bs) = elim (sameKey a b) [ true ↦ firstOther (suc i) ks bs | false ↦ some i ]
 
--- what the rules give is the value, bit for bit
+abbrev pub sameSign : Bool → Bool → Bool
+sameSign true t = t
+sameSign false t = not t
+
+-- the same float, to the sign of a zero: floats of 64 bits are the same just when all their bits are
+abbrev pub sameFloat : Float → Float → Bool
+sameFloat nan nan = true
+sameFloat nan (inf t) = false
+sameFloat nan (fin t n f) = false
+sameFloat (inf s) nan = false
+sameFloat (inf s) (inf t) = sameSign s t
+sameFloat (inf s) (fin t n f) = false
+sameFloat (fin s m e) nan = false
+sameFloat (fin s m e) (inf t) = false
+sameFloat (fin s m e) (fin t n f) = sameSign s t && (eqb m n && eqZ e f)
+
+-- what the rules give is the value
 abbrev pub isGiven : Res Float → Option Float → Bool
-isGiven (ok v) (some x) = eqb (toBits binary64 v) (toBits binary64 x)
+isGiven (ok v) (some x) = sameFloat v x
 isGiven (ok v) none = false
 isGiven (refused y) x = false
 
@@ -50,3 +68,7 @@ isGiven (refused y) x = false
 unfoldable pub firstWrong : World → List (Option Float) → ℕ → List Row → Option ℕ
 firstWrong w vs i [] = none
 firstWrong w vs i (r ∷ rs) = elim (isGiven (given w vs i r) (getD vs i none)) [ true ↦ firstWrong w vs (suc i) rs | false ↦ some i ]
+
+-- "15 LISTING, rows compared before values"; "first wrong line from 0, or the number of lines where rows are missing"
+unfoldable pub firstBad : World → List Line → Option ℕ
+firstBad w ls = elim (firstOther 0 (map (λ l. l .key) ls) (map keyOf (w .rows))) [ some i ↦ some i | none ↦ firstWrong w (valuesOf ls) 0 (w .rows) ]
