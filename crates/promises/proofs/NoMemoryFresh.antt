@@ -1,7 +1,7 @@
 -- The value with no memory does not turn on how deep one may go, where that is deeper than needs can be followed.
 use Prim.Native.Nat.{ℕ, zero, suc, _<_}
 use native.Mathlib.Omega.{arith}
-use mathlib.Core.Path.{_≡_, refl, subst}
+use mathlib.Core.Path.{_≡_, refl, ap, subst, _∙_}
 use mathlib.Core.Option.{Option, none, some}
 use lib.Ieee.{Float}
 use lib.ListN.{length}
@@ -39,6 +39,11 @@ module _ (w : World) where
           ]) (valueBy (deep d) a f)
       by none = refl
       by (some f) = refl
+
+  -- an absent attribute has its default
+  pub fresh-default : (a : Key) → findRow (a .object) (a .id) 0 (w .rows) ≡ none → fresh w (a .object) (a .id) ≡ ok (getDogmaAttribute (w .book) (a .id) .«default_value»)
+  unfolding fresh
+  fresh-default a e = deep-step (length (w .rows)) a ∙ ap (valueBy (deep (length (w .rows))) a) e
 
   value-goes : (read read′ : Key → Res Float) (a : Key) → ((b : Key) → Needs w a b → Goes Same (read b) (read′ b)) → (f : Option Found) → findRow (a .object) (a .id) 0 (w .rows) ≡ f → Goes Same (valueBy read a f) (valueBy read′ a f)
   value-goes read read′ a h none e = goes refl

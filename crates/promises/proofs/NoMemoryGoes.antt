@@ -33,6 +33,11 @@ pub told : {A B : Type 0} {R : A → B → Type 0} {x : Res A} {y : Res B} → G
 told stops = stops
 told (goes r) = goes (r, refl)
 
+-- and the first
+pub told-first : {A B : Type 0} {R : A → B → Type 0} {x : Res A} {y : Res B} → Goes R x y → Goes (λ a b. R a b × (x ≡ ok a)) x y
+told-first stops = stops
+told-first (goes r) = goes (r, refl)
+
 -- what follows from the relation
 pub weaker : {A B : Type 0} {R S : A → B → Type 0} {x : Res A} {y : Res B} → Goes R x y → ((a : A) (b : B) → R a b → S a b) → Goes S x y
 weaker stops h = stops

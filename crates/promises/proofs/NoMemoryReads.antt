@@ -1,5 +1,6 @@
 -- Reading an attribute with the memory gives its value with no memory, where nothing leads back to itself: every value that is
--- in the memory is right but for the rows under calculation, and those no need of theirs reads.
+-- in the memory is right but for the rows under calculation, and those no need of theirs reads. What holds of a row once its
+-- calculation is done holds of every row that has a value, too.
 use Prim.Native.Nat.{ℕ, zero, suc, _<_}
 use native.Mathlib.Omega.{arith}
 use mathlib.Core.Path.{_≡_, refl, sym, ap, subst, _∙_}
@@ -20,9 +21,9 @@ use Rattle.rules.specs.Value.{World, Mem, Read, Reader, Found, findRow, calcula
 use Rattle.rules.specs.Fresh.{forgetful, fresh, needsOf, Leads, last, next}
 use Rattle.rules.specs.declared.Refusal.the-variants.{Depth}
 use Rattle.promises.specs.NoMemory.{keyAt, Needs, NoLoop}
-use Rattle.promises.proofs.NoMemoryGoes.{Goes, stops, goes, on-second, told, weaker}
+use Rattle.promises.proofs.NoMemoryGoes.{Goes, stops, goes, on-second, told, told-first, weaker}
 use Rattle.promises.proofs.NoMemorySteps.{Each, Agree, Ended, calculate-goes}
-use Rattle.promises.proofs.NoMemoryFresh.{Same, valueBy, fresh-goes}
+use Rattle.promises.proofs.NoMemoryFresh.{Same, valueBy, fresh-default, fresh-goes}
 use Rattle.promises.proofs.Ranks.{found-at, each-of}
 
 -- one need further
@@ -70,9 +71,24 @@ module _ (w : World) where
   abbrev pub freshAt : Key → Res Float
   freshAt a = fresh w (a .object) (a .id)
 
+  abbrev forgets : Reader
+  forgets = forgetful (fresh w)
+
+  -- what holds of a row once its calculation is done, its needs read as they are with no memory
+  abbrev pub Once : (ℕ → Type 0) → Type 1
+  Once Also =
+      (a : Key) (f : Found) → findRow (a .object) (a .id) 0 (w .rows) ≡ some f → (Inv : List (Option Float) → Type 0) (read : Reader) (m : Mem) (q : Read)
+      → Each (Agree w (f .index) (f .row) Inv read forgets) (needsOf (w .book) (f .row)) → Inv (set (m .values) (f .index) (some (f .row .base)))
+      → calculate w read (f .index) (f .row) m ≡ ok q → Also (f .index)
+
+module _ (w : World) (Also : ℕ → Type 0) where
+  -- the value with no memory, and what else holds of row j
+  abbrev Settled : ℕ → Float → Type 0
+  Settled j v = (freshAt w (keyAt w j) ≡ ok v) × Also j
+
   -- each value is right, but for those of the rows that are busy
   abbrev pub Right : (ℕ → Type 0) → List (Option Float) → Type 0
-  Right Busy vs = (j : ℕ) (v : Float) → getD vs j none ≡ some v → Busy j ⊎ (freshAt (keyAt w j) ≡ ok v)
+  Right Busy vs = (j : ℕ) (v : Float) → getD vs j none ≡ some v → Busy j ⊎ Settled j v
 
   -- row i is busy too
   abbrev And : (ℕ → Type 0) → ℕ → ℕ → Type 0
@@ -84,20 +100,20 @@ module _ (w : World) where
     | no p ↦ more (h j v (sym (getD-set-other vs i j (some b) none p) ∙ e))
   ]
     where
-      more : Busy j ⊎ (freshAt (keyAt w j) ≡ ok v) → And Busy i j ⊎ (freshAt (keyAt w j) ≡ ok v)
+      more : Busy j ⊎ Settled j v → And Busy i j ⊎ Settled j v
       more (inl p) = inl (inl p)
       more (inr q) = inr q
 
-  right-end : (Busy : ℕ → Type 0) (vs : List (Option Float)) (i : ℕ) (x : Float) → i < length vs → freshAt (keyAt w i) ≡ ok x → Right (And Busy i) vs → Right Busy (set vs i (some x))
+  right-end : (Busy : ℕ → Type 0) (vs : List (Option Float)) (i : ℕ) (x : Float) → i < length vs → Settled i x → Right (And Busy i) vs → Right Busy (set vs i (some x))
   right-end Busy vs i x l f h j v e = elim (ℕ-discrete j i) [
-    | yes p ↦ inr (subst (λ (n : ℕ). freshAt (keyAt w n) ≡ ok v) (sym p) (f ∙ ap ok (own p)))
+    | yes p ↦ inr (subst (λ (n : ℕ). Settled n v) (sym p) (f .0 ∙ ap ok (own p), f .1))
     | no p ↦ less p (h j v (sym (getD-set-other vs i j (some x) none p) ∙ e))
   ]
     where
       own : j ≡ i → x ≡ v
       own p = the-same x v (sym (getD-set-same vs i (some x) none l) ∙ subst (λ (n : ℕ). getD (set vs i (some x)) n none ≡ some v) p e)
 
-      less : (j ≡ i → ⊥) → And Busy i j ⊎ (freshAt (keyAt w j) ≡ ok v) → Busy j ⊎ (freshAt (keyAt w j) ≡ ok v)
+      less : (j ≡ i → ⊥) → And Busy i j ⊎ Settled j v → Busy j ⊎ Settled j v
       less p (inl (inl b)) = inl b
       less p (inl (inr e)) = absurd (p e)
       less p (inr q) = inr q
@@ -109,26 +125,17 @@ module _ (w : World) where
     pub keeps : Keeps (m .values) (q .mem .values)
     pub has : (f : Found) → findRow (a .object) (a .id) 0 (w .rows) ≡ some f → there? (getD (q .mem .values) (f .index) none) ≡ true
 
-  abbrev forgets : Reader
-  forgets = forgetful (fresh w)
-
-  module _ (free : NoLoop w) where
+  module _ (free : NoLoop w) (also : Once w Also) where
     -- the memory has each row, and the busy ones lead to a
     pub record ReadyFor (Busy : ℕ → Type 0) (a : Key) (m : Mem) : Type 0 where
       pub leading : (j : ℕ) → Busy j → Leads w (keyAt w j) a
       pub long : length (m .values) ≡ length (w .rows)
       pub right : Right Busy (m .values)
 
-    -- an absent attribute, and one that has a value
-    default-fresh : (a : Key) → findRow (a .object) (a .id) 0 (w .rows) ≡ none → freshAt a ≡ ok (getDogmaAttribute (w .book) (a .id) .«default_value»)
-    default-fresh a e = got (freshAt a) (subst (λ (f : Option Found). Goes Same (valueBy w freshAt a f) (freshAt a)) e (fresh-goes w free a))
-      where
-        got : (x : Res Float) → Goes Same (ok (getDogmaAttribute (w .book) (a .id) .«default_value»)) x → x ≡ ok (getDogmaAttribute (w .book) (a .id) .«default_value»)
-        got x (goes e) = ap ok (sym e)
-
-    reads-known : (Busy : ℕ → Type 0) (a : Key) (m m′ : Mem) (v : Float) → ReadyFor Busy a m → freshAt a ≡ ok v
+    -- one that has a value, or is absent
+    reads-known : (Busy : ℕ → Type 0) (a : Key) (m m′ : Mem) (v : Float) → ReadyFor Busy a m → freshAt w a ≡ ok v
         → ((f : Found) → findRow (a .object) (a .id) 0 (w .rows) ≡ some f → there? (getD (m .values) (f .index) none) ≡ true)
-        → Goes (Reading Busy a m) (ok (record { value = v; mem = m })) (forgets (a .object) (a .id) m′)
+        → Goes (Reading Busy a m) (ok (record { value = v; mem = m })) (forgets w (a .object) (a .id) m′)
     reads-known Busy a m m′ v r e h =
         subst (λ (x : Res Float). Goes (Reading Busy a m) (ok (record { value = v; mem = m })) (x >>= λ u. ok (record { value = u; mem = m′ }))) (sym e)
         (goes (record { value = refl; right = r .right; keeps = keeps-same (m .values); has = h }))
@@ -152,13 +159,13 @@ module _ (w : World) where
           way j (inl p) = leads-on w (r .leading j p) h
           way j (inr e) = last (subst (λ (x : Key). Needs w x b) (sym (ap (keyAt w) e ∙ found-at w a f found .key)) h)
 
-      ended : (q p : Read) → Valued Inside (f .index) q (p .value) → freshAt a ≡ ok (p .value) → Reading Busy a m q p
-      ended q p v e =
+      ended : (q p : Read) → Valued Inside (f .index) q (p .value) → freshAt w a ≡ ok (p .value) → Also (f .index) → Reading Busy a m q p
+      ended q p v e also-here =
           let l : f .index < length (v .before) = omega (arith, here, v .inv .1 .long) in
           let k = keeps-set (v .before) (f .index) (q .value) l in
           record {
             value = v .value;
-            right = subst (Right Busy) (sym (v .values)) (right-end Busy (v .before) (f .index) (q .value) l (ap freshAt (found-at w a f found .key) ∙ e ∙ ap ok (sym (v .value))) (v .inv .0));
+            right = subst (Right Busy) (sym (v .values)) (right-end Busy (v .before) (f .index) (q .value) l (ap (freshAt w) (found-at w a f found .key) ∙ e ∙ ap ok (sym (v .value)), also-here) (v .inv .0));
             keeps = subst (Keeps (m .values)) (sym (v .values)) (keeps-on (v .inv .1) k);
             has = λ g s. subst (λ (vs : List (Option Float)). there? (getD vs (g .index) none) ≡ true) (sym (v .values))
                 (subst (λ (n : ℕ). there? (getD (set (v .before) (f .index) (some (q .value))) n none) ≡ true) (ap (λ (x : Found). x .index) (one g s)) (ap there? (getD-set-same (v .before) (f .index) (some (q .value)) none l)));
@@ -169,36 +176,36 @@ module _ (w : World) where
 
       -- the row's calculation, given how its needs are read
       reads-started : (read : Reader)
-          → ((b : Key) → Needs w a b → (n n′ : Mem) → Inside (n .values) → Goes (Reading (And Busy (f .index)) b n) (read (b .object) (b .id) n) (forgets (b .object) (b .id) n′))
-          → Goes (Reading Busy a m) (calculate w read (f .index) (f .row) m) (forgets (a .object) (a .id) m′)
+          → ((b : Key) → Needs w a b → (n n′ : Mem) → Inside (n .values) → Goes (Reading (And Busy (f .index)) b n) (read (b .object) (b .id) n) (forgets w (b .object) (b .id) n′))
+          → Goes (Reading Busy a m) (calculate w read (f .index) (f .row) m) (forgets w (a .object) (a .id) m′)
       reads-started read h =
-          on-second _ (told (through (f .index) (f .row) Inside read forgets
-          (calculate-goes w (f .index) (f .row) Inside read forgets m (blank (w .rows)) each (inside-start (f .row .base)))
-          (subst (λ (x : Option Found). Goes Same (valueBy w freshAt a x) (freshAt a)) found (fresh-goes w free a))))
-          (λ q v g. goes (ended q (record { value = v; mem = m′ }) (g .0) (g .1)))
+          on-second _ (told-first (told (through w (f .index) (f .row) Inside read (forgets w)
+          (calculate-goes w (f .index) (f .row) Inside read (forgets w) m (blank (w .rows)) each (inside-start (f .row .base)))
+          (subst (λ (x : Option Found). Goes Same (valueBy w (freshAt w) a x) (freshAt w a)) found (fresh-goes w free a)))))
+          (λ q v g. goes (ended q (record { value = v; mem = m′ }) (g .0 .0) (g .0 .1) (also a f found Inside read m q each (inside-start (f .row .base)) (g .1))))
         where
-          each : Each (Agree w (f .index) (f .row) Inside read forgets) (needsOf (w .book) (f .row))
+          each : Each (Agree w (f .index) (f .row) Inside read (forgets w)) (needsOf (w .book) (f .row))
           each =
-              each-of (Agree w (f .index) (f .row) Inside read forgets) (needsOf (w .book) (f .row))
+              each-of (Agree w (f .index) (f .row) Inside read (forgets w)) (needsOf (w .book) (f .row))
               (λ b k n n′ v. weaker (h b (found-at w a f found .needed b k) n n′ v) (λ q p g. record { value = g .value; inv = (g .right, keeps-on (v .1) (g .keeps)) }))
 
     -- ---- an attribute that is absent, has a value, or is to be calculated
 
     reads-by : (Busy : ℕ → Type 0) (a : Key) (m m′ : Mem) (start : ℕ → Row → Mem → Res Read) → ReadyFor Busy a m
-        → ((f : Found) → findRow (a .object) (a .id) 0 (w .rows) ≡ some f → Goes (Reading Busy a m) (start (f .index) (f .row) m) (forgets (a .object) (a .id) m′))
-        → Goes (Reading Busy a m) (calculatedValue w start (a .object) (a .id) m) (forgets (a .object) (a .id) m′)
+        → ((f : Found) → findRow (a .object) (a .id) 0 (w .rows) ≡ some f → Goes (Reading Busy a m) (start (f .index) (f .row) m) (forgets w (a .object) (a .id) m′))
+        → Goes (Reading Busy a m) (calculatedValue w start (a .object) (a .id) m) (forgets w (a .object) (a .id) m′)
     unfolding calculatedValue
     reads-by Busy a m m′ start r h = by (findRow (a .object) (a .id) 0 (w .rows)) refl
       where
-        known : (f : Found) → findRow (a .object) (a .id) 0 (w .rows) ≡ some f → (v : Float) → getD (m .values) (f .index) none ≡ some v → freshAt a ≡ ok v
+        known : (f : Found) → findRow (a .object) (a .id) 0 (w .rows) ≡ some f → (v : Float) → getD (m .values) (f .index) none ≡ some v → freshAt w a ≡ ok v
         known f e v g = right-of (r .right (f .index) v g)
           where
-            right-of : Busy (f .index) ⊎ (freshAt (keyAt w (f .index)) ≡ ok v) → freshAt a ≡ ok v
+            right-of : Busy (f .index) ⊎ Settled (f .index) v → freshAt w a ≡ ok v
             right-of (inl b) = absurd (free a (subst (λ (x : Key). Leads w x a) (found-at w a f e .key) (r .leading (f .index) b)))
-            right-of (inr q) = ap freshAt (sym (found-at w a f e .key)) ∙ q
+            right-of (inr q) = ap (freshAt w) (sym (found-at w a f e .key)) ∙ q .0
 
         valued : (f : Found) → findRow (a .object) (a .id) 0 (w .rows) ≡ some f → (v : Option Float) → getD (m .values) (f .index) none ≡ v
-            → Goes (Reading Busy a m) (elim v [ some x ↦ ok (record { value = x; mem = m }) | none ↦ start (f .index) (f .row) m ]) (forgets (a .object) (a .id) m′)
+            → Goes (Reading Busy a m) (elim v [ some x ↦ ok (record { value = x; mem = m }) | none ↦ start (f .index) (f .row) m ]) (forgets w (a .object) (a .id) m′)
         valued f e none g = h f e
         valued f e (some x) g =
             reads-known Busy a m m′ x r (known f e x g)
@@ -209,14 +216,14 @@ module _ (w : World) where
             (elim f [
               | none ↦ ok (record { value = getDogmaAttribute (w .book) (a .id) .«default_value»; mem = m })
               | some x ↦ elim (getD (m .values) (x .index) none) [ some v ↦ ok (record { value = v; mem = m }) | none ↦ start (x .index) (x .row) m ]
-            ]) (forgets (a .object) (a .id) m′)
-        by none e = reads-known Busy a m m′ _ r (default-fresh a e) (λ f g. nowhere f (sym e ∙ g))
+            ]) (forgets w (a .object) (a .id) m′)
+        by none e = reads-known Busy a m m′ _ r (fresh-default w a e) (λ f g. nowhere f (sym e ∙ g))
           where
             nowhere : {X : Type 0} (f : Found) → none ≡ some f → X
             nowhere f q = let z : _≡_ {A = ℕ} 0 1 = cc in absurd (omega arith)
         by (some f) e = valued f e (getD (m .values) (f .index) none) refl
 
-    pub reads : (d : ℕ) (Busy : ℕ → Type 0) (a : Key) (m m′ : Mem) → ReadyFor Busy a m → Goes (Reading Busy a m) (valueOf w d (a .object) (a .id) m) (forgets (a .object) (a .id) m′)
+    pub reads : (d : ℕ) (Busy : ℕ → Type 0) (a : Key) (m m′ : Mem) → ReadyFor Busy a m → Goes (Reading Busy a m) (valueOf w d (a .object) (a .id) m) (forgets w (a .object) (a .id) m′)
     unfolding valueOf
     reads zero Busy a m m′ r = reads-by Busy a m m′ (λ i row n. refused (Depth (a .object))) r (λ f e. stops)
     reads (suc d) Busy a m m′ r =

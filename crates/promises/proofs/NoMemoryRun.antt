@@ -24,7 +24,7 @@ use Rattle.rules.proofs.Ranked.{same-key}
 use Rattle.promises.specs.NoMemory.{keyOf, keyAt, noRow, NoLoop, Sound, Memoryless}
 use Rattle.rules.proofs.Results.{got, then}
 use Rattle.promises.proofs.NoMemoryGoes.{second}
-use Rattle.promises.proofs.NoMemoryReads.{Keeps, keeps-same, keeps-on, freshAt, Right, reads}
+use Rattle.promises.proofs.NoMemoryReads.{Keeps, keeps-same, keeps-on, freshAt, Once, Right, reads}
 use Rattle.promises.proofs.NoMemoryRows.{found-there, rows-distinct}
 use Rattle.promises.proofs.NoMemoryWalk.{walks}
 
@@ -44,10 +44,10 @@ there-is (some x) e = record { value = x; is = refl }
 
 -- ---- asks and walk
 
-module _ (w : World) (free : NoLoop w) where
+module _ (w : World) (Also : ℕ → Type 0) (free : NoLoop w) (also : Once w Also) where
   record Standing (m : Mem) : Type 0 where
     long : length (m .values) ≡ length (w .rows)
-    right : Right w Nobody (m .values)
+    right : Right w Also Nobody (m .values)
 
   record After (starts : List Ask) (m n : Mem) : Type 0 where
     standing : Standing n
@@ -56,7 +56,7 @@ module _ (w : World) (free : NoLoop w) where
 
   one-read : (d : ℕ) (s : Ask) (m : Mem) (q : Read) → Standing m → valueOf w d (s .object) (s .«attribute_id») m ≡ ok q → After (s ∷ []) m (q .mem)
   one-read d s m q h e =
-      let g = second (reads w free d Nobody (keyAsked s) m m (record { leading = λ j b. absurd b; long = h .long; right = h .right })) e .related in
+      let g = second (reads w Also free also d Nobody (keyAsked s) m m (record { leading = λ j b. absurd b; long = h .long; right = h .right })) e .related in
       record {
         standing = record { long = g .keeps .long ∙ h .long; right = g .right };
         keeps = g .keeps;
@@ -139,29 +139,39 @@ module _ (k : Book) (f : Fit) (q : Rooms) where
   found-row i s h = found-there 0 (world .rows) i (rows-distinct k f (collectedIn k f) s) h
 
   module _ (free : NoLoop world) where
-    pub run-no-memory : (d : Done) → Sound f → run k f q ≡ ok d → (i : ℕ) → i < length (d .rows) → Memoryless world d i
-    run-no-memory d s e i h =
+    -- of each row: its value is the one with no memory, and what holds of a calculated row holds of it
+    pub run-each : (Also : ℕ → Type 0) → Once world Also → (d : Done) → Sound f → run k f q ≡ ok d → (i : ℕ) → i < length (d .rows) → Memoryless world d i × Also i
+    run-each Also also d s e i h =
         let r = ran d e in
-        let a = all-read world free (f .depth) (startsOf f (world .rows)) (blank (world .rows)) (r .mem) (blank-standing world free) (r .gone) in
+        let a = all-read world Also free also (f .depth) (startsOf f (world .rows)) (blank (world .rows)) (r .mem) (blank-standing world Also free also) (r .gone) in
         let l : i < length (world .rows) = subst (λ (rs : List Row). i < length rs) (r .rows) h in
         let v = there-is (getD (r .mem .values) (0 + i) none) (a .has (keyAt world i) (walk-asks i s l) _ (found-row i s l)) in
         let here : 0 + i ≡ i = omega arith in
         let has : getD (r .mem .values) i none ≡ some (v .value) = ap (λ (n : ℕ). getD (r .mem .values) n none) (sym here) ∙ v .is in
-        record {
-          value = v .value;
-          has = ap (λ (vs : List (Option Float)). getD vs i none) (r .values) ∙ has;
-          is = ap (λ (rs : List Row). freshAt world (keyOf (getD rs i noRow))) (r .rows) ∙ right (a .standing .right i (v .value) has);
-        }
+        let settled = right (a .standing .right i (v .value) has) in (
+          record {
+            value = v .value;
+            has = ap (λ (vs : List (Option Float)). getD vs i none) (r .values) ∙ has;
+            is = ap (λ (rs : List Row). freshAt world (keyOf (getD rs i noRow))) (r .rows) ∙ settled .0;
+          },
+          settled .1,
+        )
       where
         right : {X : Type 0} → ⊥ ⊎ X → X
         right (inl x) = absurd x
         right (inr x) = x
 
+    nothing-more : Once world (λ j. Unit {0})
+    nothing-more a g found Inv read m r each start is = tt
+
+    pub run-no-memory : (d : Done) → Sound f → run k f q ≡ ok d → (i : ℕ) → i < length (d .rows) → Memoryless world d i
+    run-no-memory d s e i h = run-each (λ j. Unit {0}) nothing-more d s e i h .0
+
     -- as many values as rows, and the rows of the world
     pub run-long : (d : Done) → run k f q ≡ ok d → length (d .values) ≡ length (d .rows)
     run-long d e =
         let r = ran d e in
-        let a = all-read world free (f .depth) (startsOf f (world .rows)) (blank (world .rows)) (r .mem) (blank-standing world free) (r .gone) in
+        let a = all-read world (λ j. Unit {0}) free nothing-more (f .depth) (startsOf f (world .rows)) (blank (world .rows)) (r .mem) (blank-standing world (λ j. Unit {0}) free nothing-more) (r .gone) in
         ap length (r .values) ∙ a .standing .long ∙ sym (ap length (r .rows))
 
   pub run-rows : (d : Done) → run k f q ≡ ok d → d .rows ≡ rowsIn k f

@@ -37,11 +37,11 @@ abbrev pub Each : (Key → Type 0) → List Key → Type 0
 Each P [] = Unit {0}
 Each P (a ∷ r) = P a × Each P r
 
-each-left : (P : Key → Type 0) (xs ys : List Key) → Each P (xs ++ ys) → Each P xs
+pub each-left : (P : Key → Type 0) (xs ys : List Key) → Each P (xs ++ ys) → Each P xs
 each-left P [] ys h = tt
 each-left P (x ∷ xs) ys h = (h .0, each-left P xs ys (h .1))
 
-each-right : (P : Key → Type 0) (xs ys : List Key) → Each P (xs ++ ys) → Each P ys
+pub each-right : (P : Key → Type 0) (xs ys : List Key) → Each P (xs ++ ys) → Each P ys
 each-right P [] ys h = h
 each-right P (x ∷ xs) ys h = each-right P xs ys (h .1)
 
@@ -113,7 +113,7 @@ module _ (w : World) (i : ℕ) (row : Row) (Inv : List (Option Float) → Type 0
     abbrev pub Agree : Key → Type 0
     Agree a = (m m′ : Mem) → Inv (m .values) → Goes Got (read (a .object) (a .id) m) (read′ (a .object) (a .id) m′)
 
-    resisted-goes : (a : OptionalId) (q p : Read) → Each Agree (resistanceNeeds a) → Got q p → Goes Got (resisted w i row read a q) (resisted (unrecorded w) i row read′ a p)
+    pub resisted-goes : (a : OptionalId) (q p : Read) → Each Agree (resistanceNeeds a) → Got q p → Goes Got (resisted w i row read a q) (resisted (unrecorded w) i row read′ a p)
     unfolding resisted
     resisted-goes Absent q p h g = goes g
     resisted-goes (Given a) q p h g =
@@ -121,7 +121,7 @@ module _ (w : World) (i : ℕ) (row : Row) (Inv : List (Option Float) → Type 0
         (λ x y k. on _ _ (number-goes (row .object) (times (q .value) (x .value)) (times (p .value) (y .value)) (ap₂ times (g .value) (k .value)))
         (λ u v e. goes (record { value = e; inv = k .inv })))
 
-    from-goes : (e : Effect) (f : Origin) (g h : Gathered) → Each Agree (entryNeeds (e .resistance) f) → Like g h → Goes Like (gatherFrom w i row read e f g) (gatherFrom (unrecorded w) i row read′ e f h)
+    pub from-goes : (e : Effect) (f : Origin) (g h : Gathered) → Each Agree (entryNeeds (e .resistance) f) → Like g h → Goes Like (gatherFrom w i row read e f g) (gatherFrom (unrecorded w) i row read′ e f h)
     unfolding gatherFrom
     from-goes e (origin.Buff b v) g h n l = contribute-goes e v g h l
     from-goes e (origin.Effect f source c a) g h n l = by (runsAt c (stateOf w source)) (w .recording)
@@ -153,10 +153,10 @@ module _ (w : World) (i : ℕ) (row : Row) (Inv : List (Option Float) → Type 0
             (λ s u j. on-first _ _ (note-goes _ (s .mem) (h .mem) (j .inv)) (λ m m′ v. goes (record { same = l .same; inv = v }))))
         by false false = goes l
 
-    abbrev entriesNeeds : List Effect → List Key
+    abbrev pub entriesNeeds : List Effect → List Key
     entriesNeeds es = flat (λ e. entryNeeds (e .resistance) (e .origin)) es
 
-    gather-goes : (op : EffectOperator) (es : List Effect) (g h : Gathered) → Each Agree (entriesNeeds es) → Like g h → Goes Like (gather w i row read op es g) (gather (unrecorded w) i row read′ op es h)
+    pub gather-goes : (op : EffectOperator) (es : List Effect) (g h : Gathered) → Each Agree (entriesNeeds es) → Like g h → Goes Like (gather w i row read op es g) (gather (unrecorded w) i row read′ op es h)
     unfolding gather
     gather-goes op [] g h n l = goes l
     gather-goes op (e ∷ r) g h n l = by (λ a b k. gather-goes op r a b (each-right Agree (entryNeeds (e .resistance) (e .origin)) (entriesNeeds r) n) k) (sameOperator (e .operator) op)

@@ -1,0 +1,10 @@
+pub mod Ranked
+pub mod Same
+pub mod Parts
+pub mod Accepted
+pub mod Listings
+pub mod Tends
+pub mod TendsSteps
+pub mod TendsReads
+pub mod Quiet
+pub mod Ours
