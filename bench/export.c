@@ -1,21 +1,15 @@
 /* `export SECONDS SHEET LABELS`: times dogma_export beside dogma_calculate on the same sheet, in turn; LABELS has 2 numbers of 32 bits, how
- * many labels and how many bytes; then the labels, three numbers each, and the bytes. A line: the rounds, the rows, the labels, the bytes of
- * the text; then times in nanoseconds, each as median and the tenth and ninetieth of a hundred: dogma_calculate, lists lent to the row;
+ * many labels and how many bytes; then the labels, three numbers each, and the bytes. A line: the rounds, the rows, the bytes of the
+ * text; then times in nanoseconds, each as median and the tenth and ninetieth of a hundred: dogma_calculate, lists lent to the row;
  * dogma_export, the text lent to the byte; the same with no labels. Then of neighbouring runs what the text took more, to the calculation.
  * `export count WHAT TIMES SHEET LABELS`: one of the three, 0 to 2, so many times, for a tool that counts instructions. */
-#define _POSIX_C_SOURCE 199309L
-#include <stdio.h>
-#include <stdlib.h>
-#include <string.h>
-#include <time.h>
+enum { AHEAD = 0, ROOM = 65536, WHATS = 3, LABELS = 4096, TEXT = 30 + 172 * ROOM };
 
-enum { ROOM = 65536, WHATS = 3, MOST = 5000, LABELS = 4096, TEXT = 30 + 172 * ROOM };
-
-#include "lent.h"
+#include "timed.h"
 
 static uint32_t given[2 + 3 * LABELS + 16 * LABELS];
 static uint8_t text[TEXT];
-static size_t sheet_length, room = TEXT, empty_room = TEXT, rooms[DOGMA_LISTS];
+static size_t room = TEXT, empty_room = TEXT;
 
 static struct dogma_exported exported(int labelled)
 {
@@ -26,91 +20,34 @@ static struct dogma_exported exported(int labelled)
         labelled ? given[0] : 0, (const uint8_t *)(given + 2 + 3 * given[0]), labelled ? given[1] : 0, sheet, sheet_length);
 }
 
-static struct dogma_answer calculated(void)
+static void run(int what)
 {
-    return dogma_calculate(
-        states, collected, rooms[0], collected_values, rooms[0], rows, rooms[1], bases, rooms[1], values, rooms[1], entries, rooms[2],
-        entry_values, rooms[2], plain, rooms[3], sources, rooms[4], source_values, rooms[4], sheet, sheet_length);
+    if (what == 0)
+        calculated();
+    else
+        exported(what == 1);
 }
 
-static uint64_t run(int what)
+/* the rooms of the texts, to the byte */
+static void seat_texts(void)
 {
-    return what == 0 ? calculated().number : exported(what == 1).number;
-}
-
-static void expect(int right, const char *what)
-{
-    if (!right) {
-        fprintf(stderr, "export: %s\n", what);
-        exit(2);
-    }
-}
-
-/* the rooms that the sheet needs */
-static void seat(void)
-{
-    for (int list = 0; list < DOGMA_LISTS; list++)
-        rooms[list] = 1;
-    struct dogma_answer answer;
-    while ((answer = calculated()).number == DOGMA_ROOM) {
-        rooms[answer.place - 1] *= 2;
-        expect(rooms[answer.place - 1] <= ROOM, "a list is too long");
-    }
-    expect(answer.number == DOGMA_DONE, "the sheet is refused");
-    const uint64_t counts[DOGMA_LISTS] = { answer.collected, answer.rows, answer.entries, answer.plain, answer.sources };
-    for (int list = 0; list < DOGMA_LISTS; list++)
-        rooms[list] = counts[list];
-    expect(run(0) == DOGMA_DONE && run(1) == DOGMA_DONE && run(2) == DOGMA_DONE, "the labels are refused");
-    room = exported(1).length;
-    empty_room = exported(0).length;
-}
-
-static size_t read_file(const char *name, void *bytes, size_t most)
-{
-    FILE *file = fopen(name, "rb");
-    expect(file != NULL, name);
-    const size_t length = fread(bytes, 1, most, file);
-    fclose(file);
-    return length;
-}
-
-static double now(void)
-{
-    struct timespec time;
-    clock_gettime(CLOCK_MONOTONIC, &time);
-    return 1e9 * (double)time.tv_sec + (double)time.tv_nsec;
-}
-
-static int by_size(const void *a, const void *b)
-{
-    const double x = *(const double *)a, y = *(const double *)b;
-    return (x > y) - (x < y);
-}
-
-static void print_spread(double *some, int count)
-{
-    qsort(some, (size_t)count, sizeof *some, by_size);
-    printf(" %.6f %.6f %.6f", some[(count - 1) / 2], some[(count - 1) / 10], some[(count - 1) * 9 / 10]);
+    seat();
+    const struct dogma_exported labelled = exported(1), empty = exported(0);
+    expect(labelled.number == DOGMA_DONE && empty.number == DOGMA_DONE, "the labels are refused");
+    room = labelled.length;
+    empty_room = empty.length;
 }
 
 static void measure(double seconds)
 {
     static double times[WHATS][MOST], ratio[MOST];
-    const double start = now();
-    int round = 0;
-    while (round < 33 || (now() - start < 1e9 * seconds && round < MOST)) {
-        for (int what = 0; what < WHATS; what++) {
-            const double before = now();
-            run(what);
-            times[what][round] = now() - before;
-        }
+    const int rounds = take_times(seconds, WHATS, times);
+    for (int round = 0; round < rounds; round++)
         ratio[round] = (times[1][round] - times[0][round]) / times[0][round];
-        round++;
-    }
-    printf("%d %zu %u %zu", round, rooms[1], (unsigned)given[0], room);
+    printf("%d %zu %zu", rounds, rooms[1], room);
     for (int what = 0; what < WHATS; what++)
-        print_spread(times[what], round);
-    print_spread(ratio, round);
+        print_spread(times[what], rounds);
+    print_spread(ratio, rounds);
     putchar('\n');
 }
 
@@ -119,7 +56,7 @@ int main(int count, char **words)
     expect(count == 4 || count == 6, "usage: export SECONDS SHEET LABELS | export count WHAT TIMES SHEET LABELS");
     sheet_length = read_file(words[count - 2], sheet, sizeof sheet);
     read_file(words[count - 1], given, sizeof given);
-    seat();
+    seat_texts();
     if (count == 4)
         measure(atof(words[1]));
     for (int i = 0; count == 6 && i < atoi(words[3]); i++)
