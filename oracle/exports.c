@@ -23,26 +23,6 @@ static void *room_for(size_t n)
     return place;
 }
 
-static void get(void *to, size_t n)
-{
-    if (take(to, n) != n)
-        stop("exports: the input ends inside a call\n");
-}
-
-static void give(const void *from, size_t n)
-{
-    const char *bytes = from;
-    while (n > 0) {
-        if (out_at == sizeof out_buffer)
-            flush();
-        const size_t part = n < sizeof out_buffer - out_at ? n : sizeof out_buffer - out_at;
-        memcpy(out_buffer + out_at, bytes, part);
-        out_at += part;
-        bytes += part;
-        n -= part;
-    }
-}
-
 static uint32_t rubbish(size_t i)
 {
     uint32_t x = (uint32_t)i * 2654435761u ^ state;
