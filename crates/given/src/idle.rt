@@ -200,7 +200,8 @@ pub fn idles_have_strength(
     ensures defined { λ r.
         let t = read book pairs states stretches limits rows bases entries «entry_values» in
         ⌜ ((h : Judged t (now (values .entry)))
-        → r ≡ isOk (idles (unrecorded (h .world)) (looks (h .world) (h .values)) row (rowAt (h .world) row) (rowAt (h .world) row .entries) (blank (h .world .rows)))) ⌝ }
+        → r ≡ isOk (idles (unrecorded (h .world)) (looks (h .world) (h .values)) row (rowAt (h .world) row)
+        (rowAt (h .world) row .entries) (blank (h .world .rows)))) ⌝ }
 {
     let first = index(rows[row][ROW_FIRST_ENTRY]);
     let count = index(rows[row][ROW_ENTRY_COUNT]);

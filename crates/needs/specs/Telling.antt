@@ -26,7 +26,8 @@ pub record NeedTables : Type 0 where
 abbrev pub needTables : Column ℕ → Column (List ℕ) → Column (List ℕ) → Column ℕ → Column (List ℕ) → Column (List ℕ) → NeedTables
 needTables b p s l r e = record { book = now b; pairs = now p; stretches = now s; limits = now l; rows = now r; entries = now e }
 
-abbrev pub needsRead : LentColumn ℕ → LentColumn (List ℕ) → LentColumn (List ℕ) → LentColumn ℕ → LentColumn (List ℕ) → LentColumn (List ℕ) → NeedTables
+abbrev pub needsRead :
+    LentColumn ℕ → LentColumn (List ℕ) → LentColumn (List ℕ) → LentColumn ℕ → LentColumn (List ℕ) → LentColumn (List ℕ) → NeedTables
 needsRead b p s l r e = needTables (b .entry) (p .entry) (s .entry) (l .entry) (r .entry) (e .entry)
 
 -- e stands in list 3 as these numbers, and its source is an object
