@@ -3,14 +3,10 @@
 
 Usage: slips_export.py [SEED [CALLS]]: for each slip the first of CALLS calls (default 1,000) on which it shows.
 """
-import pathlib
-import sys
-import types
-
 import compare_export
 import exports
+import slipping
 
-SOURCE = (pathlib.Path(__file__).resolve().parent / "exports.py").read_text()
 QUOTED = "if any(byte in SPECIAL for byte in text):"
 
 SLIPS = [
@@ -38,30 +34,11 @@ SLIPS = [
 ]
 
 
-def slipped(name, old, new):
-    if SOURCE.count(old) != 1:
-        sys.exit(f"{name}: the text stands {SOURCE.count(old)} times")
-    module = types.ModuleType("slipped")
-    module.__dict__["__file__"] = exports.__file__
-    exec(compile(SOURCE.replace(old, new), name, "exec"), module.__dict__)
-    return module
 
-
-def main():
-    seed = sys.argv[1] if len(sys.argv) > 1 else "5"
-    count = int(sys.argv[2]) if len(sys.argv) > 2 else 1000
-    made = [compare_export.call_of(seed, number) for number in range(count)]
-    given = lambda module, call: module.exported(call[5], call[0], call[1], call[2])
-    right = [given(exports, call) for call in made]
-    unseen = 0
-    for name, old, new in SLIPS:
-        module = slipped(name, old, new)
-        first = next((n for n, call in enumerate(made) if given(module, call) != right[n]), None)
-        unseen += first is None
-        print(f"{name}: " + ("NOT SEEN" if first is None else f"call {first}"), flush=True)
-    print(f"{len(SLIPS)} slips, {unseen} not seen in {count:,} calls")
-    sys.exit(unseen > 0)
+def answer(module, call):
+    return module.exported(call[5], call[0], call[1], call[2])
 
 
 if __name__ == "__main__":
-    main()
+    seed, count = slipping.words(1000)
+    slipping.report(SLIPS, exports, "call", [compare_export.call_of(seed, number) for number in range(count)], answer)

@@ -3,14 +3,12 @@
 
 Usage: slips_pool.py [SEED [POOLS]]: for each slip the first call of POOLS pools (default 1,000) in which it shows.
 """
-import pathlib
 import sys
-import types
 
 import compare_pool
 import pools
+import slipping
 
-SOURCE = (pathlib.Path(__file__).resolve().parent / "pools.py").read_text()
 ASTRAY = "if own[1] > 0 and rows_of(own)[-1] >= room or"
 IN_COMMON = "return a[1] > 0 and b[1] > 0 and (a[0] in rows_of(b) or b[0] in rows_of(a))"
 WRITTEN = "self.columns[c][width * first:width * (first + length)] = used[c].ljust(width * length, b\"\\0\")"
@@ -56,15 +54,6 @@ SLIPS = [
 ]
 
 
-def slipped(name, old, new):
-    if SOURCE.count(old) != 1:
-        sys.exit(f"{name}: the text stands {SOURCE.count(old)} times")
-    module = types.ModuleType("slipped")
-    module.__dict__["__file__"] = pools.__file__
-    exec(compile(SOURCE.replace(old, new), name, "exec"), module.__dict__)
-    return module
-
-
 def followed(module, some):
     """What each call answers, and the pool after it."""
     pool = module.Pool(some.pool.columns, some.pool.states)
@@ -85,10 +74,10 @@ def seen_in(module, made):
 
 
 def main():
-    seed, count = sys.argv[1] if len(sys.argv) > 1 else "5", int(sys.argv[2]) if len(sys.argv) > 2 else 1000
+    seed, count = slipping.words(1000)
     made, missed = [compare_pool.Calls(seed, number) for number in range(count)], []
     for name, old, new in SLIPS:
-        found = seen_in(slipped(name, old, new), made)
+        found = seen_in(slipping.slipped(pools, name, old, new), made)
         missed += [name] if found is None else []
         print(f"{name}: {found or 'not seen'}", flush=True)
     print(f"{len(SLIPS)} slips, not seen: {missed}")

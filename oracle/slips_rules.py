@@ -3,14 +3,10 @@
 
 Usage: slips_rules.py [SEED [TABLES]]: for each slip the first of TABLES tables (default 3,000) on which it shows.
 """
-import pathlib
-import sys
-import types
-
 import compare_rules
 import rules
+import slipping
 
-SOURCE = (pathlib.Path(__file__).resolve().parent / "rules.py").read_text()
 COUNTED = "for t in run.things if t.kind == ITEM and run.calculated(t)]"
 ASCENDS = "lines[at - 1][:2] >= (kind, i)"
 MOST_IS = "    most = 0 if kind == FORBIDDEN else number\n"
@@ -59,34 +55,13 @@ SLIPS = [
 ]
 
 
-def slipped(name, old, new):
-    if SOURCE.count(old) != 1:
-        sys.exit(f"{name}: the text stands {SOURCE.count(old)} times")
-    module = types.ModuleType("slipped")
-    module.__dict__["__file__"] = rules.__file__
-    exec(compile(SOURCE.replace(old, new), name, "exec"), module.__dict__)
-    return module
 
-
-def answer(module, lines, files):
-    return module.by_sheet(*files, lines) if len(files) == 1 else module.by_files(*files, lines)
-
-
-def main():
-    seed = sys.argv[1] if len(sys.argv) > 1 else "5"
-    count = int(sys.argv[2]) if len(sys.argv) > 2 else 3000
-    made = [compare_rules.calls_of(seed, number) for number in range(count)]
-    right = [[answer(rules, lines, files) for files in calls] for lines, calls in made]
-    unseen = 0
-    for name, old, new in SLIPS:
-        module = slipped(name, old, new)
-        shows = (n for n, (lines, calls) in enumerate(made) for k, files in enumerate(calls) if answer(module, lines, files) != right[n][k])
-        first = next(shows, None)
-        unseen += first is None
-        print(f"{name}: " + ("NOT SEEN" if first is None else f"table {first}"), flush=True)
-    print(f"{len(SLIPS)} slips, {unseen} not seen in {count:,} tables")
-    sys.exit(unseen > 0)
+def answer(module, table):
+    """What is said of each call on a table's fit."""
+    lines, calls = table
+    return [module.by_sheet(*files, lines) if len(files) == 1 else module.by_files(*files, lines) for files in calls]
 
 
 if __name__ == "__main__":
-    main()
+    seed, count = slipping.words(3000)
+    slipping.report(SLIPS, rules, "table", [compare_rules.calls_of(seed, number) for number in range(count)], answer)

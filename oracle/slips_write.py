@@ -3,14 +3,10 @@
 
 Usage: slips_write.py [SEED [TABLES]]: for each slip the first of TABLES tables (default 2,000) on which it shows.
 """
-import pathlib
-import sys
-import types
-
 import compare_write
+import slipping
 import writes
 
-SOURCE = (pathlib.Path(__file__).resolve().parent / "writes.py").read_text()
 LIKE = "return ROWS[t][1] is None or len(self.rows[t]) == len(self.floats[t])"
 FITS = "if any(not tables.alike(t) or tables.count(t) > TABLES[t][1] for t in own):"
 NUMBERS = "return kind == BOOK or 1 <= tables.header[3] <= 256 and tables.header[4] <= 1"
@@ -59,39 +55,18 @@ SLIPS = [
 ]
 
 
-def slipped(name, old, new):
-    if SOURCE.count(old) != 1:
-        sys.exit(f"{name}: the text stands {SOURCE.count(old)} times")
-    module = types.ModuleType("slipped")
-    module.__dict__["__file__"] = writes.__file__
-    exec(compile(SOURCE.replace(old, new), name, "exec"), module.__dict__)
-    return module
 
-
-def answered(module, case):
+def answer(module, case):
     """What each call gives, or that it cannot be said."""
-    tables = module.Tables(case.tables.header, case.tables.rows, case.tables.floats)
+    tables, given = module.Tables(case.tables.header, case.tables.rows, case.tables.floats), []
     for kind, room in case.calls:
         try:
-            yield module.write(tables, kind, room)
+            given.append(module.write(tables, kind, room))
         except Exception as error:
-            yield type(error).__name__
-
-
-def main():
-    seed = sys.argv[1] if len(sys.argv) > 1 else "5"
-    count = int(sys.argv[2]) if len(sys.argv) > 2 else 2000
-    cases = [compare_write.Case(seed, number) for number in range(count)]
-    right = [list(answered(writes, case)) for case in cases]
-    unseen = 0
-    for name, old, new in SLIPS:
-        module = slipped(name, old, new)
-        shown = next((number for number, case in enumerate(cases) if list(answered(module, case)) != right[number]), None)
-        unseen += shown is None
-        print(f"{name}: " + ("not seen" if shown is None else f"tables {shown}"))
-    print(f"{len(SLIPS) - unseen} of {len(SLIPS)} slips are seen within {count} tables of seed {seed}")
-    sys.exit(unseen > 0)
+            given.append(type(error).__name__)
+    return given
 
 
 if __name__ == "__main__":
-    main()
+    seed, count = slipping.words(2000)
+    slipping.report(SLIPS, writes, "table", [compare_write.Case(seed, number) for number in range(count)], answer)
