@@ -11,13 +11,7 @@ fn book() -> Book {
     let mut book = Book::new(Categories::GAME);
     book.attribute("maxVelocity", 37).high_is_good();
     book.attribute("speedFactor", 20).high_is_good();
-    book.effect("boost", 1, Category::Online).modifier(
-        Touches::Item,
-        Domain::Ship,
-        Operator::PostPercent,
-        "speedFactor",
-        "maxVelocity",
-    );
+    book.effect("boost", 1, Category::Online).modifier(Touches::Item, Domain::Ship, Operator::PostPercent, "speedFactor", "maxVelocity");
     book.type_of("hull", 587);
     book.type_of("overdrive", 9).category(7).effect("boost");
     book
@@ -27,12 +21,8 @@ fn book() -> Book {
 fn fit() -> Fit {
     let mut fit = Fit::new();
     fit.ship("hull").base("maxVelocity", 200.0);
-    fit.item("overdrive", Slot::Low)
-        .state(State::Online)
-        .base("speedFactor", 50.0);
-    fit.item("overdrive", Slot::Low)
-        .state(State::Online)
-        .base("speedFactor", 50.0);
+    fit.item("overdrive", Slot::Low).state(State::Online).base("speedFactor", 50.0);
+    fit.item("overdrive", Slot::Low).state(State::Online).base("speedFactor", 50.0);
     fit
 }
 
@@ -49,11 +39,7 @@ fn run(files: &[String]) -> Result<(), Box<dyn std::error::Error>> {
 
     let velocity = figures.value(0, book.attribute_id("maxVelocity")?);
     assert!(velocity.is_some_and(|velocity| velocity > 430.0));
-    for (file, bytes) in
-        files
-            .iter()
-            .zip([sheet.clone(), book.write_book()?, fit.write_fit(&book)?])
-    {
+    for (file, bytes) in files.iter().zip([sheet.clone(), book.write_book()?, fit.write_fit(&book)?]) {
         std::fs::write(file, bytes)?;
     }
     Ok(())

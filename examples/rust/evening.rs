@@ -17,11 +17,7 @@ fn read(file: &str) -> Vec<u8> {
 
 fn tell(call: &str, pilot: u32, answer: Result<(), Refusal>, hall: &Hall) {
     let (number, place) = answer.map_or_else(|refusal| refusal.number_and_place(), |()| (0, 0));
-    let free: String = hall
-        .free()
-        .iter()
-        .map(|[start, length]| format!(" ({start}, {length})"))
-        .collect();
+    let free: String = hall.free().iter().map(|[start, length]| format!(" ({start}, {length})")).collect();
     println!("{call} {pilot}: {number} {place}, free{free}");
 }
 
@@ -39,9 +35,7 @@ fn calculate(hall: &mut Hall, pilot: u32, book: &[u8], fit: &str) {
     match hall.calculate(pilot, book, &read(fit)) {
         Ok(figures) => {
             println!("pilot {pilot}: 0 0");
-            figures
-                .rows()
-                .for_each(|row| println!("{} {} {}", row.object, row.attribute, shown(row.value)));
+            figures.rows().for_each(|row| println!("{} {} {}", row.object, row.attribute, shown(row.value)));
         }
         Err(refusal) => {
             let (number, place) = refusal.number_and_place();

@@ -11,11 +11,7 @@ fn label(line: &str) -> Option<(i32, &str)> {
 
 fn run(sheet: &str, labels: &str, csv: &str) -> Result<(), Box<dyn std::error::Error>> {
     let (sheet, text) = (std::fs::read(sheet)?, std::fs::read_to_string(labels)?);
-    let labels: Vec<(i32, &str)> = text
-        .lines()
-        .map(label)
-        .collect::<Option<_>>()
-        .ok_or("a line of the labels is no label")?;
+    let labels: Vec<(i32, &str)> = text.lines().map(label).collect::<Option<_>>().ok_or("a line of the labels is no label")?;
 
     let mut engine = Engine::new();
     let text = engine.export(&sheet, &labels)?;

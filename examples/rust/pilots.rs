@@ -14,15 +14,9 @@ fn read(file: &str) -> Vec<u8> {
 fn run(book: &str, fits: &[String]) -> Result<(), Refusal> {
     let book = read(book);
     // each pilot has 256 rows of every list
-    let seats: Vec<(u32, Rooms)> = (0..)
-        .zip(fits)
-        .map(|(pilot, _)| (pilot, Rooms::all(256)))
-        .collect();
+    let seats: Vec<(u32, Rooms)> = (0..).zip(fits).map(|(pilot, _)| (pilot, Rooms::all(256))).collect();
     let mut pool = Pool::new(&seats)?;
-    let answers: Vec<_> = (0..)
-        .zip(fits)
-        .map(|(pilot, fit)| pool.calculate(pilot, &book, &read(fit)).map(|_| ()))
-        .collect();
+    let answers: Vec<_> = (0..).zip(fits).map(|(pilot, fit)| pool.calculate(pilot, &book, &read(fit)).map(|_| ())).collect();
 
     // all of them are in the pool side by side
     for (pilot, answer) in (0..).zip(answers) {
@@ -45,9 +39,7 @@ fn run(book: &str, fits: &[String]) -> Result<(), Refusal> {
 fn main() -> ExitCode {
     let words: Vec<String> = std::env::args().skip(1).collect();
     let said = match &words[..] {
-        [book, fits @ ..] if !fits.is_empty() => {
-            run(book, fits).map_err(|refusal| refusal.to_string())
-        }
+        [book, fits @ ..] if !fits.is_empty() => run(book, fits).map_err(|refusal| refusal.to_string()),
         _ => Err("usage: pilots BOOK FIT ..: up to 16 fits".to_string()),
     };
     match said {

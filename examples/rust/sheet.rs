@@ -24,10 +24,7 @@ fn print_whole(figures: &Figures) {
         }
     }
     for (row, entry) in figures.entries_by_collection() {
-        println!(
-            "collected {} acts on {} of object {}",
-            entry.collected, row.attribute, row.object
-        );
+        println!("collected {} acts on {} of object {}", entry.collected, row.attribute, row.object);
     }
 }
 
