@@ -652,11 +652,11 @@ class Pool:
         return self._figures.get(pilot)
 
 
-class Hall(Pool):
+class Hall:
     """A pool whose rows are lent to pilots as they come, and taken back when they go.
 
     Hall(1024) has so many rows of every list, all free. A pilot gets the lowest run of as many free rows as it wants, the same of every
-    list; so admit the long ones first where you can.
+    list; so admit the long ones first where you can. One whose rows are too few (ROOM) leaves and is admitted with more.
     """
 
     def __init__(self, rows: int) -> None:
@@ -670,7 +670,7 @@ class Hall(Pool):
         return hall
 
     def _open(self, rows: int, stretches: Stretches, free: Sequence[Tuple[int, int]]) -> None:
-        self._seat(Rooms.all(rows), stretches)
+        self._pool = Pool.with_stretches(Rooms.all(rows), stretches)
         places = [_u32(number, "a free stretch's number") for pair in free for number in pair]
         self._free = (ctypes.c_uint32 * max(2 * FREE, len(places)))(*places)
         self._count = len(free)
@@ -680,22 +680,36 @@ class Hall(Pool):
         """The free stretches, in order: start and length."""
         return list(zip(self._free[:2 * self._count:2], self._free[1:2 * self._count:2]))
 
+    @property
+    def stretches(self) -> List[List[Tuple[int, int]]]:
+        """Of each pilot and each list the first row and the length."""
+        return self._pool.stretches
+
     def admit(self, pilot: int, rows: int) -> None:
         """Lends a pilot the lowest run of so many free rows."""
-        with self._lock:
-            seat = _call("dogma_admit", self._free, len(self._free) // 2, self._table, self._count, self._lists.rooms.rows, _u32(pilot, "the pilot"),
-                         _u32(rows, "the rows wanted"))
+        pool, wanted = self._pool, (_u32(pilot, "the pilot"), _u32(rows, "the rows wanted"))
+        with pool._lock:
+            seat = _call("dogma_admit", self._free, len(self._free) // 2, pool._table, self._count, pool._lists.rooms.rows, *wanted)
             self._count = seat.free
             seat.raised(call="admit")
 
     def leave(self, pilot: int) -> None:
         """Clears a pilot's rows and takes them back."""
-        with self._lock:
-            seat = _call("dogma_leave", self._lists.states, *self._lists.lent(), self._free, len(self._free) // 2, self._table, self._count,
-                         _u32(pilot, "the pilot"))
+        pool, who = self._pool, _u32(pilot, "the pilot")
+        with pool._lock:
+            lists = pool._lists
+            seat = _call("dogma_leave", lists.states, *lists.lent(), self._free, len(self._free) // 2, pool._table, self._count, who)
             self._count = seat.free
             seat.raised(call="leave")
-            self._figures.pop(pilot, None)
+            pool._figures.pop(pilot, None)
+
+    def calculate(self, pilot: int, book: Bytes, fit: Bytes) -> Figures:
+        """The pilot's fit over the book; what the other pilots have stays as it was."""
+        return self._pool.calculate(pilot, book, fit)
+
+    def figures(self, pilot: int) -> Optional[Figures]:
+        """A pilot's last result since it was admitted, if it was not refused."""
+        return self._pool.figures(pilot)
 
 
 # ---- an organiser's rules

@@ -139,7 +139,8 @@ static void expect_rules_and_texts(void)
     expect_text("null letters", dogma_export_checked(text, 9, lent, labels, 1, NULL, 1, sheet, 3), DOGMA_MISUSED, DOGMA_ARGUMENT_LABEL_BYTES);
     expect_text("a text over a list", dogma_export_checked((uint8_t *)plain, 1, lent, labels, 1, letters, 1, sheet, 3), DOGMA_MISUSED, DOGMA_ARGUMENT_TEXT);
     expect_text("a text over its letters", dogma_export_checked(text, 9, lent, labels, 1, text + 8, 1, sheet, 3), DOGMA_MISUSED, DOGMA_ARGUMENT_TEXT);
-    expect_text("letters over a list", dogma_export_checked(text, 9, lent, labels, 1, (const uint8_t *)rows, 1, sheet, 3), DOGMA_MISUSED, DOGMA_ARGUMENT_LABEL_BYTES);
+    expect_text(
+        "letters over a list", dogma_export_checked(text, 9, lent, labels, 1, (const uint8_t *)rows, 1, sheet, 3), DOGMA_MISUSED, DOGMA_ARGUMENT_LABEL_BYTES);
 }
 
 int main(void)

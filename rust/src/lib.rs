@@ -39,6 +39,9 @@
 #![deny(missing_docs)]
 #![deny(unsafe_code)]
 
+#[cfg(not(target_pointer_width = "64"))]
+compile_error!("the library is for 64-bit machines");
+
 mod builder;
 mod codes;
 mod engine;

@@ -213,7 +213,7 @@ impl Refusal {
     /// The library's number and place.
     pub fn number_and_place(&self) -> (u64, u64) {
         match *self {
-            Refusal::Shape { part: Part::Fit, table } => (1, table + 20),
+            Refusal::Shape { part: Part::Fit, table } => (1, table.saturating_add(20)),
             Refusal::Shape { table, .. } => (1, table),
             Refusal::Func { modifier } => (2, modifier),
             Refusal::Domain { modifier } => (3, modifier),
