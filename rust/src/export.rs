@@ -12,6 +12,18 @@ impl Engine {
     /// each at most 64 bytes of printable ASCII, CR or LF; an attribute without one has an empty field.
     ///
     /// A label that begins with `=`, `+`, `-` or `@` is a formula to some spreadsheet programs; it is given as it is.
+    ///
+    /// ```
+    /// # use dogma::{Book, Categories, Engine, Fit};
+    /// # let mut book = Book::new(Categories::GAME);
+    /// # book.attribute("maxVelocity", 37);
+    /// # book.type_of("hull", 587);
+    /// # let mut fit = Fit::new();
+    /// # fit.ship("hull").base("maxVelocity", 200.0);
+    /// let text = Engine::new().export(&fit.write_sheet(&book)?, &[(37, "Speed, m/s")])?;
+    /// assert_eq!(text, "object,attribute,label,value\r\n0,37,\"Speed, m/s\",200.00\r\n");
+    /// # Ok::<(), Box<dyn std::error::Error>>(())
+    /// ```
     pub fn export(&mut self, sheet: &[u8], labels: &[(i32, &str)]) -> Result<String, Refusal> {
         let mut text = Vec::new();
         let length = self.until_it_fits(|engine| {

@@ -8,6 +8,20 @@ use crate::refusal::Refusal;
 ///
 /// A pilot's result stands until that pilot is calculated again; no pilot can change another's. Stretches do not grow: a pilot whose
 /// stretch of a list is too short is refused with [`Refusal::Room`], and wants a longer one.
+///
+/// ```
+/// # use dogma::{Book, Categories, Fit, Pool, Rooms};
+/// # let mut book = Book::new(Categories::GAME);
+/// # book.attribute("maxVelocity", 37);
+/// # book.type_of("hull", 587);
+/// # let mut fit = Fit::new();
+/// # fit.ship("hull").base("maxVelocity", 200.0);
+/// let (book, fit) = (book.write_book()?, fit.write_fit(&book)?);
+/// let mut pool = Pool::new(&[(0, Rooms::all(64)), (3, Rooms::all(256))])?;
+/// pool.calculate(3, &book, &fit)?;
+/// assert_eq!(pool.figures(3).and_then(|figures| figures.value(0, 37)), Some(200.0));
+/// # Ok::<(), Box<dyn std::error::Error>>(())
+/// ```
 #[derive(Debug, Clone)]
 pub struct Pool {
     states: Box<[States; PILOTS]>,
@@ -87,6 +101,22 @@ impl Pool {
 ///
 /// A pilot gets the lowest run of as many free rows as it wants, the same of every list; so admit the long ones first where you can.
 /// One whose rows are too few ([`Refusal::Room`]) leaves and is admitted with more.
+///
+/// ```
+/// # use dogma::{Book, Categories, Fit, Hall};
+/// # let mut book = Book::new(Categories::GAME);
+/// # book.attribute("maxVelocity", 37);
+/// # book.type_of("hull", 587);
+/// # let mut fit = Fit::new();
+/// # fit.ship("hull").base("maxVelocity", 200.0);
+/// let (book, fit) = (book.write_book()?, fit.write_fit(&book)?);
+/// let mut hall = Hall::new(1024);
+/// hall.admit(3, 256)?;
+/// assert_eq!(hall.calculate(3, &book, &fit)?.row_count(), 1);
+/// hall.leave(3)?;
+/// assert_eq!(hall.free(), [[0, 1024]]);
+/// # Ok::<(), Box<dyn std::error::Error>>(())
+/// ```
 #[derive(Debug, Clone)]
 pub struct Hall {
     pool: Pool,

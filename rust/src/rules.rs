@@ -57,6 +57,19 @@ pub enum Verdict {
 }
 
 /// Holds a sheet against an organiser's table.
+///
+/// ```
+/// # use dogma::{check_rules, Book, Categories, Fit, Rule, Slot, Verdict};
+/// # let mut book = Book::new(Categories::GAME);
+/// # book.type_of("hull", 587);
+/// # let mut fit = Fit::new();
+/// # fit.ship("hull");
+/// book.type_of("overdrive", 9).group(764).category(7);
+/// fit.item("overdrive", Slot::Low).quantity(3);
+/// let table = [Rule::Points { of: 9, points: 3 }, Rule::Most { group: 764, pieces: 2 }, Rule::Total { points: 6 }];
+/// assert_eq!(check_rules(&table, &fit.write_sheet(&book)?)?, Verdict::Broken { line: 1, count: 3 });
+/// # Ok::<(), Box<dyn std::error::Error>>(())
+/// ```
 pub fn check_rules(rules: &[Rule], sheet: &[u8]) -> Result<Verdict, Refusal> {
     verdict_of(ffi::check_rules(&lines(rules), sheet), Refusal::of)
 }

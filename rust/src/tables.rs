@@ -108,6 +108,21 @@ impl Tables {
     }
 
     /// A sheet's bytes as tables, or the refusal that the engine has for them. Written again they are the same bytes.
+    ///
+    /// ```
+    /// # use dogma::{Book, Categories, Fit, Tables};
+    /// # let mut book = Book::new(Categories::GAME);
+    /// # book.attribute("maxVelocity", 37);
+    /// # book.type_of("hull", 587);
+    /// # let mut fit = Fit::new();
+    /// # fit.ship("hull").base("maxVelocity", 200.0);
+    /// let sheet = fit.write_sheet(&book)?;
+    /// let mut tables = Tables::read_sheet(&sheet)?;
+    /// assert_eq!(tables.write_sheet()?, sheet);
+    /// tables.base_values[0] = 250.0;
+    /// assert_ne!(tables.write_sheet()?, sheet);
+    /// # Ok::<(), Box<dyn std::error::Error>>(())
+    /// ```
     pub fn read_sheet(bytes: &[u8]) -> Result<Tables, Refusal> {
         let header_bad = Refusal::Shape { part: Part::Sheet, table: 0 };
         let tables = cut(bytes).ok_or(header_bad)?;

@@ -2,7 +2,7 @@
 mod cases;
 
 use cases::{book, case, fit, sheets, BOOK, FIT};
-use dogma::{Engine, Fit, Part, Refusal, Rooms, Slot, Tables, WriteError};
+use dogma::{check_rules, Engine, Fit, Hall, Part, Pool, Refusal, Rooms, Rule, Slot, Tables, WriteError};
 
 #[test]
 fn case_l_from_nothing() {
@@ -97,6 +97,55 @@ fn lists_grow_as_they_must() {
     assert_eq!((engine.rooms().rows, engine.rooms().sources), (4500, 0));
     assert!(engine.calculate(&case("grey-copies.sheet")).is_ok());
     assert!(engine.export(&sheet, &[]).is_ok());
+}
+
+/// Numbers that look like chance, and are the same each time.
+fn chance(seed: &mut u64) -> usize {
+    *seed = seed.wrapping_mul(6364136223846793005).wrapping_add(1442695040888963407);
+    (*seed >> 33) as usize
+}
+
+#[test]
+fn whatever_the_bytes_are() {
+    let sheets: Vec<Vec<u8>> = sheets().iter().map(|name| case(&format!("{name}.sheet"))).collect();
+    let rules = [Rule::Points { of: 9, points: 3 }, Rule::Total { points: 5 }];
+    let (mut engine, mut pool) = (Engine::growing(Rooms::all(0), Rooms::all(256)), Pool::new(&[(0, Rooms::all(64))]).unwrap());
+    let (mut seed, mut done) = (1, 0);
+    for _ in 0..20_000 {
+        let mut bytes = sheets[chance(&mut seed) % sheets.len()].clone();
+        for _ in 0..1 + chance(&mut seed) % 4 {
+            let at = chance(&mut seed) % bytes.len();
+            bytes[at] = chance(&mut seed) as u8;
+        }
+        bytes.truncate(bytes.len() - chance(&mut seed) % 3 / 2);
+        let split = bytes.len() / 2;
+        let read = Tables::read_sheet(&bytes).err();
+        let _ = pool.calculate(0, &bytes[..split], &bytes[split..]);
+        assert_eq!(check_rules(&rules, &bytes).err(), read);
+        let text = engine.export(&bytes, &[(37, "a, b")]);
+        match engine.calculate(&bytes) {
+            Err(refusal) => {
+                assert_eq!(text, Err(refusal));
+                assert!(read.is_none() || read == Some(refusal));
+            }
+            Ok(figures) => {
+                done += 1;
+                assert_eq!(figures.rows().count(), text.unwrap().matches("\r\n").count() - 1);
+                assert_eq!(figures.entries_by_collection().count(), figures.counts()[2]);
+                assert_eq!(figures.rows().map(|row| figures.sources(&row).count()).sum::<usize>(), figures.counts()[4]);
+            }
+        }
+    }
+    assert!(done > 1_000, "{done}");
+}
+
+#[test]
+fn of_any_thread() {
+    fn sent<T: Send + Sync>() {}
+    sent::<Engine>();
+    sent::<Pool>();
+    sent::<Hall>();
+    sent::<Refusal>();
 }
 
 #[test]
