@@ -6,6 +6,7 @@ import contextlib
 import csv
 import io
 import pathlib
+import shutil
 import struct
 import subprocess
 import sys
@@ -308,9 +309,8 @@ class Misuse(unittest.TestCase):
 
 
 class Command(unittest.TestCase):
-    def run_on(self, *words, **more):
-        return subprocess.run([sys.executable, "-m", "dogma", *map(str, words)], stdout=subprocess.PIPE, stderr=subprocess.PIPE,
-                              cwd=str(pathlib.Path(__file__).parent), **more)
+    def run_on(self, *words, cwd=pathlib.Path(dogma.__file__).parent, **more):
+        return subprocess.run([sys.executable, "-m", "dogma", *map(str, words)], stdout=subprocess.PIPE, stderr=subprocess.PIPE, cwd=str(cwd), **more)
 
     def test_table(self):
         said = self.run_on(CASES / "L.sheet")
@@ -319,6 +319,26 @@ class Command(unittest.TestCase):
         self.assertEqual(said.stdout.splitlines()[1], b"0,37,,430.37")
         said = self.run_on(CASES / "refused-1-7.sheet")
         self.assertEqual((said.returncode, said.stdout, said.stderr[:37]), (1, b"", b"refused 1 7: table 7 (base attributes"))
+
+    def test_where_the_library_is(self):
+        library = pathlib.Path(dogma.library_path()).resolve()
+        with tempfile.TemporaryDirectory() as place:
+            there = pathlib.Path(place)
+            shutil.copy(dogma.__file__, place)
+            for given, seen in [(library, True), (library.with_suffix(".a"), True), (library.parent, True), (there, False)]:
+                said = self.run_on(CASES / "L.sheet", cwd=place, env={"DOGMA_LIBRARY": str(given)})
+                self.assertEqual(said.returncode == 0, seen, given)
+            self.assertEqual(self.run_on(CASES / "L.sheet", cwd=place, env={}).returncode, 2)
+            self.assertEqual(self.run_on(CASES / "L.sheet", cwd=place, env={"LD_LIBRARY_PATH": str(library.parent)}).returncode, 0)
+            shutil.copy(str(library), place)
+            self.assertEqual(self.run_on(CASES / "L.sheet", cwd=place, env={}).returncode, 0)
+
+    def test_the_page(self):
+        """The example on the module's page does what it says."""
+        code = [line[4:] for line in dogma.__doc__.splitlines() if line.startswith("    ")]
+        names = {}
+        exec("\n".join(code[:-1]), names)
+        self.assertEqual(f"{code[-1].split('#')[1].strip()}", str(eval(code[-1], names)))
 
     def test_what_is_missing(self):
         self.assertEqual(self.run_on().returncode, 2)
