@@ -904,7 +904,9 @@ class Tables:
         for name, records in tables.items():
             if name not in _NAMES:
                 raise TypeError(f"there is no table {name}; there are {', '.join(_NAMES)}")
-            setattr(self, name, list(records))
+            of = _RECORD_TYPES[_NAMES.index(name)]
+            # a plain tuple is taken for the record that it has the fields of
+            setattr(self, name, [record if not isinstance(record, tuple) else of(*record) for record in records])
 
     def __eq__(self, other: object) -> bool:
         return isinstance(other, Tables) and vars(self) == vars(other)

@@ -137,6 +137,11 @@ class Sheets(unittest.TestCase):
             except Refused as refused:
                 self.assertEqual((refused.number, refused.place), numbers(dogma.calculate, data), file.name)
 
+    def test_plain_tuples(self):
+        sheet = dogma.Tables(attributes=[(1, 2)], objects=[(0, 587), dogma.Object(dogma.Kind.CHAR)], ids=[3, 4]).write_sheet()
+        tables = dogma.read_sheet(sheet)
+        self.assertEqual((tables.attributes[0].flags, tables.objects[0].type, tables.ids, tables.depth), (2, 587, [3, 4], 256))
+
     def test_damaged(self):
         engine = Engine()
         others = [SHEET[:length] for length in range(len(SHEET))]
