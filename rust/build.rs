@@ -36,8 +36,11 @@ fn main() {
         }
         return;
     }
-    if let Some(folder) = from_pkg_config() {
-        println!("cargo:rustc-link-search=native={}", folder.display());
+    match from_pkg_config() {
+        Some(folder) => println!("cargo:rustc-link-search=native={}", folder.display()),
+        None => {
+            println!("cargo:warning=libdogma is sought in the linker's folders alone: build it (library/build), install it, or set DOGMA_LIBRARY")
+        }
     }
     println!("cargo:rustc-link-lib=dogma");
 }
