@@ -1,6 +1,7 @@
 /* dogma.h: the engine's entries for C (C11; C++ for the declarations alone).
  *
- * `library/build` makes the library, one archive with every function of this header, for the machine at hand, and prints its path.
+ * `library/build` makes the library, libdogma.a and libdogma.so with every function of this header, for the machine at hand, and prints
+ * the first's path; `library/install PREFIX` installs both. docs/GUIDE.md leads from a hull and two modules to all that there is.
  *
  * dogma_calculate takes a sheet's bytes and lent lists, and gives a number, a place and five counts; the lists hold the rest.
  * dogma_calculate_pilot does the same for up to 16 fits over one book of records, in one lent pool: see "several pilots" below.
@@ -898,6 +899,77 @@ struct dogma_exported dogma_export(
     dogma_source *sources, size_t source_count, dogma_source_value *source_values, size_t source_value_count, const dogma_label *labels,
     size_t label_count, const uint8_t *label_bytes, size_t label_byte_count, const uint8_t *sheet, size_t sheet_length);
 
+/* ---- rules and spreadsheets with their demands tested */
+
+/* the arguments of dogma_check_rules and dogma_check_rules_files, as MISUSED's place has them */
+enum dogma_rules_argument {
+    DOGMA_ARGUMENT_LINES = 0, DOGMA_ARGUMENT_RULES_SHEET = 1, DOGMA_ARGUMENT_RULES_BOOK = 1, DOGMA_ARGUMENT_RULES_FIT = 2
+};
+
+/* The answer for the first of these that may not be lent; its number is DOGMA_DONE where all may be. */
+static inline struct dogma_checked dogma_rules_misuse_(const struct dogma_part_ *parts, unsigned count)
+{
+    struct dogma_checked checked = { DOGMA_DONE, 0, 0, 0, 0 };
+    for (unsigned i = 0; i < count && checked.number == DOGMA_DONE; i++)
+        if (!dogma_sound_(parts[i])) {
+            checked.number = DOGMA_MISUSED;
+            checked.place = i;
+        }
+    return checked;
+}
+
+/* dogma_check_rules, or DOGMA_MISUSED with the argument (enum dogma_rules_argument) that breaks a demand. */
+static inline struct dogma_checked dogma_check_rules_checked(
+    const dogma_rule *lines, size_t line_count, const uint8_t *sheet, size_t sheet_length)
+{
+    const struct dogma_part_ parts[] = {
+        { (uintptr_t)lines, line_count, sizeof(dogma_rule), 4 }, { (uintptr_t)sheet, sheet_length, 1, 1 } };
+    const struct dogma_checked misuse = dogma_rules_misuse_(parts, 2);
+    return misuse.number == DOGMA_DONE ? dogma_check_rules(lines, line_count, sheet, sheet_length) : misuse;
+}
+
+/* The same of dogma_check_rules_files. */
+static inline struct dogma_checked dogma_check_rules_files_checked(
+    const dogma_rule *lines, size_t line_count, const uint8_t *book, size_t book_length, const uint8_t *fit, size_t fit_length)
+{
+    const struct dogma_part_ parts[] = {
+        { (uintptr_t)lines, line_count, sizeof(dogma_rule), 4 }, { (uintptr_t)book, book_length, 1, 1 }, { (uintptr_t)fit, fit_length, 1, 1 } };
+    const struct dogma_checked misuse = dogma_rules_misuse_(parts, 3);
+    return misuse.number == DOGMA_DONE ? dogma_check_rules_files(lines, line_count, book, book_length, fit, fit_length) : misuse;
+}
+
+/* those of dogma_export: the first twelve are those of dogma_calculate */
+enum dogma_export_argument {
+    DOGMA_ARGUMENT_LABELS = 12, DOGMA_ARGUMENT_LABEL_BYTES = 13, DOGMA_ARGUMENT_TEXT = 14, DOGMA_EXPORT_ARGUMENTS = 15
+};
+
+/* dogma_export, or DOGMA_MISUSED with the argument (enum dogma_export_argument) that breaks a demand; then nothing was written. */
+static inline struct dogma_exported dogma_export_checked(
+    uint8_t *text, size_t text_length, const struct dogma_lent *lent, const dogma_label *labels, size_t label_count,
+    const uint8_t *label_bytes, size_t label_byte_count, const uint8_t *sheet, size_t sheet_length)
+{
+    const struct dogma_part_ others[] = {
+        { (uintptr_t)sheet, sheet_length, 1, 1 },
+        { (uintptr_t)labels, label_count, sizeof(dogma_label), 4 },
+        { (uintptr_t)label_bytes, label_byte_count, 1, 1 },
+        { (uintptr_t)text, text_length, 1, 1 },
+    };
+    unsigned misused = dogma_misused_(lent, DOGMA_OBJECTS, others, 4);
+    for (unsigned i = 0; i < 3 && misused == DOGMA_EXPORT_ARGUMENTS; i++)
+        if (!dogma_apart_(others[i], others[3]))
+            misused = DOGMA_ARGUMENT_TEXT;
+    if (misused != DOGMA_EXPORT_ARGUMENTS) {
+        const struct dogma_exported exported = { DOGMA_MISUSED, misused, 0, 0, 0, 0, 0, 0 };
+        return exported;
+    }
+    return dogma_export(
+        text, text_length, lent->states, lent->collected, lent->collected_count, lent->collected_values, lent->collected_value_count,
+        lent->rows, lent->row_count, lent->bases, lent->base_count, lent->values, lent->value_count,
+        lent->entries, lent->entry_count, lent->entry_values, lent->entry_value_count, lent->plain, lent->plain_count,
+        lent->sources, lent->source_count, lent->source_values, lent->source_value_count,
+        labels, label_count, label_bytes, label_byte_count, sheet, sheet_length);
+}
+
 #ifdef __cplusplus
 }
 #else
@@ -907,6 +979,7 @@ _Static_assert(sizeof(struct dogma_answer) == 56, "seven numbers of 64 bits");
 _Static_assert(sizeof(struct dogma_stretch) == 8 && sizeof(struct dogma_seat) == 24, "two of 32 bits, three of 64");
 _Static_assert(sizeof(struct dogma_written) == 24, "three numbers of 64 bits");
 _Static_assert(sizeof(struct dogma_checked) == 40, "five numbers of 64 bits");
+_Static_assert(sizeof(struct dogma_exported) == 64, "eight numbers of 64 bits");
 
 /* An array and the number of its elements. A pointer, or an array of another row, does not compile. */
 #define DOGMA_ARRAY_(array, row) \

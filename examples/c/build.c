@@ -1,4 +1,4 @@
-/* Builds case L from nothing and prints its figures: build [SHEET BOOK FIT] writes the bytes too. */
+/* A hull and two modules, from nothing to figures: build [SHEET BOOK FIT] writes the bytes too. */
 #include <inttypes.h>
 #include <stdio.h>
 
@@ -7,7 +7,7 @@
 
 /* the attributes of the example */
 enum { SPEED_FACTOR = 20, MAX_VELOCITY = 37 };
-enum { BOOST = 1, BOOSTER = 9, MODULES = 7, ROOM = 64 };
+enum { BOOST = 1, HULL = 587, OVERDRIVE = 9, MODULES = 7, SUBSYSTEMS = 32, STRUCTURE_MODULES = 66, ROOM = 64 };
 
 static const dogma_attribute attributes[] = {
     { [DOGMA_ATTRIBUTE_ID] = SPEED_FACTOR, [DOGMA_ATTRIBUTE_FLAGS] = DOGMA_HIGH_IS_GOOD },
@@ -28,20 +28,27 @@ static const dogma_modifier modifiers[] = {
     },
 };
 static const dogma_type_effect type_effects[] = {
-    { [DOGMA_TYPE_EFFECT_TYPE] = BOOSTER, [DOGMA_TYPE_EFFECT_EFFECT] = BOOST },
+    { [DOGMA_TYPE_EFFECT_TYPE] = OVERDRIVE, [DOGMA_TYPE_EFFECT_EFFECT] = BOOST },
 };
 
-#define A_BOOSTER \
+#define AN_OVERDRIVE \
     { \
-        [DOGMA_OBJECT_KIND] = DOGMA_KIND_ITEM, [DOGMA_OBJECT_TYPE] = BOOSTER, [DOGMA_OBJECT_CATEGORY] = MODULES, \
+        [DOGMA_OBJECT_KIND] = DOGMA_KIND_ITEM, [DOGMA_OBJECT_TYPE] = OVERDRIVE, [DOGMA_OBJECT_CATEGORY] = MODULES, \
         [DOGMA_OBJECT_SLOT] = DOGMA_SLOT_LOW, [DOGMA_OBJECT_QUANTITY] = 1, [DOGMA_OBJECT_STATE] = DOGMA_STATE_ONLINE, \
         [DOGMA_OBJECT_FIRST_BASE] = 1, [DOGMA_OBJECT_BASE_COUNT] = 1, \
     }
 static const dogma_object objects[] = {
-    { [DOGMA_OBJECT_KIND] = DOGMA_KIND_SHIP, [DOGMA_OBJECT_FIRST_BASE] = 0, [DOGMA_OBJECT_BASE_COUNT] = 1 },
-    { [DOGMA_OBJECT_KIND] = DOGMA_KIND_CHAR },
-    A_BOOSTER,
-    A_BOOSTER,
+    {
+        [DOGMA_OBJECT_KIND] = DOGMA_KIND_SHIP, [DOGMA_OBJECT_TYPE] = HULL, [DOGMA_OBJECT_QUANTITY] = 1,
+        [DOGMA_OBJECT_STATE] = DOGMA_STATE_ACTIVE, [DOGMA_OBJECT_MAX_STATE] = DOGMA_STATE_ACTIVE,
+        [DOGMA_OBJECT_FIRST_BASE] = 0, [DOGMA_OBJECT_BASE_COUNT] = 1,
+    },
+    {
+        [DOGMA_OBJECT_KIND] = DOGMA_KIND_CHAR, [DOGMA_OBJECT_QUANTITY] = 1,
+        [DOGMA_OBJECT_STATE] = DOGMA_STATE_ACTIVE, [DOGMA_OBJECT_MAX_STATE] = DOGMA_STATE_ACTIVE,
+    },
+    AN_OVERDRIVE,
+    AN_OVERDRIVE,
 };
 static const uint32_t base_attributes[] = { MAX_VELOCITY, SPEED_FACTOR };
 static const double base_values[] = { 200.0, 50.0 };
@@ -49,7 +56,10 @@ static const double base_values[] = { 200.0, 50.0 };
 #define COUNT(array) (sizeof(array) / sizeof((array)[0]))
 
 static const struct dogma_tables tables = {
-    .header = { [DOGMA_HEADER_CATEGORY_MODULE] = MODULES, [DOGMA_HEADER_DEPTH] = 2, [DOGMA_HEADER_RECORDING] = 0 },
+    .header = {
+        [DOGMA_HEADER_CATEGORY_MODULE] = MODULES, [DOGMA_HEADER_CATEGORY_SUBSYSTEM] = SUBSYSTEMS,
+        [DOGMA_HEADER_CATEGORY_STRUCTURE_MODULE] = STRUCTURE_MODULES, [DOGMA_HEADER_DEPTH] = 256,
+    },
     .attributes = attributes, .attribute_count = COUNT(attributes),
     .defaults = defaults, .default_count = COUNT(defaults),
     .effects = effects, .effect_count = COUNT(effects),

@@ -69,10 +69,10 @@ int main(int count, char **words)
         fprintf(stderr, "%s, line %zu: not an id, a space and a label\n", words[2], bad);
         return 2;
     }
-    const struct dogma_exported e = dogma_export(
-        text, sizeof text, states, collected, ROWS, collected_values, ROWS, rows, ROWS, bases, ROWS, values, ROWS, entries, ROWS,
-        entry_values, ROWS, plain, ROWS, sources, ROWS, source_values, ROWS, (const dogma_label *)labels, label_count, label_bytes,
-        label_length, sheet, sheet_length);
+    const struct dogma_exported e = dogma_export_checked(
+        text, sizeof text,
+        DOGMA_LEND(states, collected, collected_values, rows, bases, values, entries, entry_values, plain, sources, source_values),
+        (const dogma_label *)labels, label_count, label_bytes, label_length, sheet, sheet_length);
     if (e.number == DOGMA_LABEL)
         fprintf(stderr, "%s, line %" PRIu64 ": a label is over 64 bytes, has a byte that is not printable, or its id does not ascend\n", words[2], e.place + 1);
     else if (e.number != DOGMA_DONE)

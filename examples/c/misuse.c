@@ -54,11 +54,17 @@ static void expect_pools(void)
     expect("columns that overlap", dogma_calculate_pilot_checked(&pool, sheet, 3, sheet, 3, 0), DOGMA_MISUSED, DOGMA_ARGUMENT_VALUES);
 }
 
-static void expect_written(const char *what, struct dogma_written written, uint64_t number, uint64_t place)
-{
-    const struct dogma_answer answer = { written.number, written.place, 0, 0, 0, 0, 0 };
-    expect(what, answer, number, place);
-}
+/* the other answers begin with number and place too */
+#define EXPECT_OF(name, type) \
+    static void name(const char *what, struct type said, uint64_t number, uint64_t place) \
+    { \
+        const struct dogma_answer answer = { said.number, said.place, 0, 0, 0, 0, 0 }; \
+        expect(what, answer, number, place); \
+    }
+EXPECT_OF(expect_written, dogma_written)
+EXPECT_OF(expect_seat, dogma_seat)
+EXPECT_OF(expect_checked, dogma_checked)
+EXPECT_OF(expect_text, dogma_exported)
 
 /* The same of the writers: a ship and a char in 236 bytes. */
 static void expect_writers(void)
@@ -83,9 +89,65 @@ static void expect_writers(void)
     expect_written("ids that are written", dogma_write_fit_checked(bytes, sizeof bytes, &tables), DOGMA_MISUSED, DOGMA_ARGUMENT_IDS);
 }
 
+/* The same of a hall: eight rows would do, the shortest column has one. */
+static void expect_halls(void)
+{
+    static dogma_stretch_of_list none[DOGMA_PILOTS][DOGMA_LISTS];
+    static struct dogma_stretch free[DOGMA_FREE];
+    const struct dogma_hall right =
+        DOGMA_HALL(pool_states, collected, collected_values, rows, bases, values, entries, entry_values, plain, sources, source_values, none, free);
+    struct dogma_hall hall = right;
+    hall.count = DOGMA_START(free, dogma_pool_rows(&hall.lent));
+    expect_seat("a pilot", dogma_admit_checked(&hall, 0, 1), DOGMA_DONE, 0);
+    expect_seat("one that is not in", dogma_leave_checked(&hall, 1), DOGMA_PILOT, 1);
+    expect_seat("the pilot leaves", dogma_leave_checked(&hall, 0), DOGMA_DONE, 0);
+    hall.stretch_count = 15;
+    expect_seat("stretches of 15 pilots", dogma_admit_checked(&hall, 0, 1), DOGMA_MISUSED, DOGMA_ARGUMENT_STRETCHES);
+    hall = right;
+    hall.free = NULL;
+    expect_seat("no free ones", dogma_admit_checked(&hall, 0, 1), DOGMA_MISUSED, DOGMA_ARGUMENT_FREE);
+    hall = right;
+    hall.free_room = DOGMA_FREE - 1;
+    expect_seat("a free place too few", dogma_admit_checked(&hall, 0, 1), DOGMA_TABLE, 0);
+    hall = right;
+    hall.free = (struct dogma_stretch *)(void *)none;
+    expect_seat("free ones that overlap", dogma_leave_checked(&hall, 0), DOGMA_MISUSED, DOGMA_ARGUMENT_FREE);
+    hall = right;
+    hall.lent.bases = values;
+    expect_seat("columns that overlap", dogma_leave_checked(&hall, 0), DOGMA_MISUSED, DOGMA_ARGUMENT_VALUES);
+}
+
+/* The same of rules, of which nothing is written, and of texts. */
+static void expect_rules_and_texts(void)
+{
+    static const dogma_rule lines[] = { { DOGMA_RULE_TOTAL, 0, 1 } };
+    static const dogma_label labels[] = { { 1, 0, 1 } };
+    static const uint8_t letters[] = "a";
+    static uint8_t text[60];
+    const struct dogma_lent *lent =
+        DOGMA_LEND(states, collected, collected_values, rows, bases, values, entries, entry_values, plain, sources, source_values);
+    expect_checked("rules", dogma_check_rules_checked(lines, 1, sheet, 3), DOGMA_SHAPE, 0);
+    expect_checked("null lines", dogma_check_rules_checked(NULL, 0, sheet, 3), DOGMA_MISUSED, DOGMA_ARGUMENT_LINES);
+    expect_checked("a null sheet of rules", dogma_check_rules_checked(lines, 1, NULL, 0), DOGMA_MISUSED, DOGMA_ARGUMENT_RULES_SHEET);
+    expect_checked("a null fit of rules", dogma_check_rules_files_checked(lines, 1, sheet, 3, NULL, 0), DOGMA_MISUSED, DOGMA_ARGUMENT_RULES_FIT);
+    expect_checked(
+        "lines out of line", dogma_check_rules_checked((const dogma_rule *)(const void *)((const char *)lines + 1), 0, sheet, 3),
+        DOGMA_MISUSED, DOGMA_ARGUMENT_LINES);
+    expect_text("a text", dogma_export_checked(text, sizeof text, lent, labels, 1, letters, 1, sheet, 3), DOGMA_SHAPE, 0);
+    expect_text("a null text", dogma_export_checked(NULL, 0, lent, labels, 1, letters, 1, sheet, 3), DOGMA_MISUSED, DOGMA_ARGUMENT_TEXT);
+    expect_text("null labels", dogma_export_checked(text, 9, lent, NULL, 0, letters, 1, sheet, 3), DOGMA_MISUSED, DOGMA_ARGUMENT_LABELS);
+    expect_text("null letters", dogma_export_checked(text, 9, lent, labels, 1, NULL, 1, sheet, 3), DOGMA_MISUSED, DOGMA_ARGUMENT_LABEL_BYTES);
+    expect_text("a text over a list", dogma_export_checked((uint8_t *)plain, 1, lent, labels, 1, letters, 1, sheet, 3), DOGMA_MISUSED, DOGMA_ARGUMENT_TEXT);
+    expect_text("a text over its letters", dogma_export_checked(text, 9, lent, labels, 1, text + 8, 1, sheet, 3), DOGMA_MISUSED, DOGMA_ARGUMENT_TEXT);
+    expect_text(
+        "letters over a list", dogma_export_checked(text, 9, lent, labels, 1, (const uint8_t *)rows, 1, sheet, 3), DOGMA_MISUSED, DOGMA_ARGUMENT_LABEL_BYTES);
+}
+
 int main(void)
 {
     expect_writers();
+    expect_halls();
+    expect_rules_and_texts();
 #if WRONG == 1
     dogma_row *pointer = rows;
     (void)DOGMA_LEND(states, collected, collected_values, pointer, bases, values, entries, entry_values, plain, sources, source_values);

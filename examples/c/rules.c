@@ -81,8 +81,8 @@ int main(int count, char **words)
     }
     const size_t length = read_file(words[2], first);
     const struct dogma_checked checked = count == 3
-        ? dogma_check_rules((const dogma_rule *)lines, line_count, first, length)
-        : dogma_check_rules_files((const dogma_rule *)lines, line_count, first, length, second, read_file(words[3], second));
+        ? dogma_check_rules_checked((const dogma_rule *)lines, line_count, first, length)
+        : dogma_check_rules_files_checked((const dogma_rule *)lines, line_count, first, length, second, read_file(words[3], second));
     if (checked.number != DOGMA_DONE) {
         printf("refused %" PRIu64 " %" PRIu64 "\n", checked.number, checked.place);
         return 1;

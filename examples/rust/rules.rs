@@ -1,10 +1,8 @@
 //! Holds a fit against an organiser's rules, and says in words what is broken: rules RULES SHEET, or rules RULES BOOK FIT.
 //! RULES is text, a rule to a line: points TYPE POINTS | most GROUP PIECES | forbidden GROUP | total POINTS; # begins a remark.
-mod dogma;
-
 use std::process::ExitCode;
 
-use dogma::{Rule, Verdict, check_rules, check_rules_files};
+use dogma::{check_rules, check_rules_files, Rule, Verdict};
 
 fn rule(text: &str) -> Option<Rule> {
     let words: Vec<&str> = text.split_whitespace().collect();
@@ -23,10 +21,15 @@ fn rules(text: &str) -> Option<Vec<Rule>> {
 
 fn broken(rule: Rule, count: u64) -> String {
     match rule {
-        Rule::Most { group, pieces } => format!("the fit has {count} of group {group}, and {pieces} are allowed"),
-        Rule::Forbidden { group } => format!("group {group} is forbidden, and the fit has {count} of it"),
+        Rule::Most { group, pieces } => {
+            format!("the fit has {count} of group {group}, and {pieces} are allowed")
+        }
+        Rule::Forbidden { group } => {
+            format!("group {group} is forbidden, and the fit has {count} of it")
+        }
         Rule::Total { points } => format!("the fit costs {count} points, and {points} are allowed"),
-        Rule::Points { .. } => unreachable!("points are no limit"),
+        // points alone are no limit: such a line is never broken
+        Rule::Points { of, points } => format!("type {of} costs {points}"),
     }
 }
 
