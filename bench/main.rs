@@ -6,8 +6,6 @@
 #![allow(dead_code, unused_imports, unused_variables, unexpected_cfgs)]
 
 mod calculate;
-#[path = "dogma.rs"]
-mod dogma;
 mod eve;
 mod fit;
 mod info;
@@ -19,7 +17,7 @@ use std::hint::black_box;
 use std::time::Instant;
 
 use calculate::report::{built, calculated, value_bits};
-use dogma::{Engine, Refusal, Rooms};
+use dogma::{Engine, Rooms};
 use sheet::Sheet;
 
 fn nanoseconds(run: impl FnOnce()) -> f64 {
@@ -37,7 +35,7 @@ fn counts_of(engine: &mut Engine, bytes: &[u8]) -> [usize; 5] {
 }
 
 fn rooms(counts: [usize; 5], least: usize) -> Rooms {
-    let [collected, rows, entries, plain, sources] = counts.map(|count| count.max(least));
+    let [collected, rows, entries, plain, sources] = counts.map(|count| count.max(least) as u32);
     Rooms { collected, rows, entries, plain, sources }
 }
 
@@ -51,9 +49,9 @@ fn spread(mut values: Vec<f64>) -> String {
 fn time(file: &str, seconds: f64) {
     let bytes = std::fs::read(file).expect("the sheet can be read");
     let sheet = Sheet::read(&bytes);
-    let counts = counts_of(&mut Engine::new(Rooms::all(1 << 20)), &bytes);
-    let mut lent = Engine::new(rooms(counts, 4096));
-    let mut exact = Engine::new(rooms(counts, 0));
+    let counts = counts_of(&mut Engine::new(), &bytes);
+    let mut lent = Engine::with_rooms(rooms(counts, 4096));
+    let mut exact = Engine::with_rooms(rooms(counts, 0));
     // both give the same values, bit for bit
     let mut objects = built(&sheet);
     calculated(&sheet, &mut objects);
@@ -97,8 +95,8 @@ fn time(file: &str, seconds: f64) {
 fn count(what: &str, times: usize, file: &str) {
     let bytes = std::fs::read(file).expect("the sheet can be read");
     let sheet = Sheet::read(&bytes);
-    let counts = counts_of(&mut Engine::new(Rooms::all(1 << 17)), &bytes);
-    let mut engine = Engine::new(rooms(counts, 0));
+    let counts = counts_of(&mut Engine::new(), &bytes);
+    let mut engine = Engine::with_rooms(rooms(counts, 0));
     for _ in 0..times {
         match what {
             "ours" => { black_box(engine.calculate(black_box(&bytes)).is_ok()); }

@@ -52,7 +52,6 @@ def rust_sources(sources):
     report = place / "calculate" / "report.rs"
     report.write_text(report.read_text() + (HERE / "report_tail.rs").read_text())
     (place / "main.rs").write_text((HERE / "main.rs").read_text())
-    (place / "dogma.rs").write_text((ROOT / "examples" / "rust" / "dogma.rs").read_text())
     return place / "main.rs"
 
 
@@ -62,10 +61,12 @@ def built(sources):
         sys.exit(made.returncode)
     library = str((ROOT / made.stdout.strip()).resolve())
     main = rust_sources(sources)
-    command = ["rustc", "--edition", "2024", "-C", "opt-level=3", "-C", "codegen-units=1", "-A", "warnings", "-C", f"link-arg={library}",
-               "-o", str(PLACE / "bench"), str(main)]
+    release = ["rustc", "-C", "opt-level=3", "-C", "codegen-units=1", "-A", "warnings"]
+    crate = str(PLACE / "libdogma.rlib")
+    ours = [*release, "--edition", "2021", "--crate-type", "rlib", "--crate-name", "dogma", "-o", crate, "rust/src/lib.rs"]
+    command = [*release, "--edition", "2024", "--extern", f"dogma={crate}", "-C", f"link-arg={library}", "-o", str(PLACE / "bench"), str(main)]
     stack = ["cc", "-std=c11", "-O2", "-pthread", "-Iinclude", str(HERE / "stack.c"), library, "-o", str(PLACE / "stack")]
-    for words in (command, stack):
+    for words in (ours, command, stack):
         if subprocess.run(words, cwd=ROOT).returncode != 0:
             sys.exit("a part was not built")
     return library
