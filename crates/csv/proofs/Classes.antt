@@ -27,6 +27,13 @@ pub special-told : (b : ℕ) → eqb b 34 || (eqb b 44 || (eqb b 13 || eqb b 10)
 unfolding classOf
 special-told b = special-by (eqb b 34) (eqb b 44) (eqb b 13) (eqb b 10) (leb 32 b && leb b 126)
 
+-- no byte above a comma is
+pub not-special : (b : ℕ) → 44 < b → false ≡ special (classOf b)
+not-special b l =
+    sym (ap (λ (t : Bool). t || (eqb b 44 || (eqb b 13 || eqb b 10))) (ne-eqb b 34 (λ e. omega (arith, e)))
+    ∙ ap (λ (t : Bool). t || (eqb b 13 || eqb b 10)) (ne-eqb b 44 (λ e. omega (arith, e)))
+    ∙ ap (λ (t : Bool). t || eqb b 10) (ne-eqb b 13 (λ e. omega (arith, e))) ∙ ne-eqb b 10 (λ e. omega (arith, e))) ∙ special-told b
+
 -- ---- between quotes
 
 once-by : (b : ℕ) (q c r l t : Bool) → q ≡ false → b ∷ [] ≡ twice (classBy q c r l t) b []

@@ -16,7 +16,7 @@ use mir.Val.{toZ, ofZ}
 use borrow.Author.Tests.{le-leb, lt-leb}
 use Rattle.laws.specs.Lists.{every?, ascends, span}
 use Rattle.laws.proofs.Bools.{and-left, and-right, and-both}
-use Rattle.laws.proofs.Every.{every-snoc}
+use Rattle.laws.proofs.Every.{every-snoc, every-take, every-drop}
 use Rattle.laws.proofs.Maps.{take-next}
 use Rattle.laws.proofs.Scans.{drop-step, drop-end}
 use Rattle.rules.specs.Bytes.{signed}
@@ -65,6 +65,10 @@ module _ (bytes r : List ℕ) where
   pub by-bytes : {g : Bool} → countOf r ≤ 64 → firstOf r + countOf r ≤ length bytes → g ≡ every? allowed (bytesOf bytes r) → g ≡ labelGood bytes r
   unfolding labelGood
   by-bytes h k e = rw (le-leb (countOf r) 64 h, le-leb (firstOf r + countOf r) (length bytes) k) e
+
+-- where all bytes may stand, those of any label may
+pub all-clean : (bytes r : List ℕ) → every? allowed bytes ≡ true → true ≡ every? allowed (bytesOf bytes r)
+all-clean bytes r e = sym (every-take allowed (countOf r) (drop (firstOf r) bytes) (every-drop allowed (firstOf r) bytes e))
 
 -- ---- the table
 

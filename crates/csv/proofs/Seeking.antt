@@ -1,23 +1,26 @@
 -- The search among labels, a half at a time, and what it found.
-use Prim.Native.Nat.{ℕ, _+_, _-_, _/_, _≤_, _<_}
+use Prim.Native.Nat.{ℕ, zero, suc, _+_, _-_, _/_, _≤_, _<_}
+use native.Mathlib.Nat.{not-suc-le-zero, le-of-suc-le-suc}
 use native.Mathlib.Omega.{arith}
 use mathlib.Core.Path.{_≡_, refl, sym, ap, subst, _∙_}
 use mathlib.Core.Bool.{Bool, true, false, _&&_}
-use mathlib.Core.List.{List, [], map}
+use mathlib.Core.List.{List, [], _∷_, map}
 use mathlib.Core.Option.{Option, none, some}
 use lib.Dec.{leb}
 use lib.IntN.{ℤ}
-use lib.ListN.{length, getD}
+use lib.ListN.{length, getD, length-map}
 use lib.Signed.{ltZ}
 use mir.Syntax.{w32}
 use mir.Val.{SFits, toZ, ofZ}
 use mir.Facts.{toZ-ofZ}
 use borrow.Author.Tests.{leb-true}
-use Rattle.laws.specs.Lists.{eqZ, every?, first, span}
-use Rattle.laws.proofs.Ascending.{ascends-notDescending}
+use Rattle.laws.specs.Lists.{eqZ, every?, ascends, first, span}
+use Rattle.laws.proofs.Ascending.{ascends-head, ascends-tail, ascends-notDescending}
 use Rattle.laws.proofs.Bools.{and-left, and-right}
 use Rattle.laws.proofs.Every.{every-at}
-use Rattle.laws.proofs.First.{mapSome, first-map}
+use Rattle.laws.proofs.First.{mapSome, first-at, first-map}
+use Rattle.laws.proofs.Maps.{map-at}
+use Rattle.laws.proofs.Order.{eqZ-true, ltZ-apart}
 use Rattle.laws.proofs.Signs.{tested-same, tested-apart}
 use Rattle.laws.proofs.Search.{Between, Falls, lessThan, hasKey, between-start, between-end, between-up, between-down, falls-less, lower-found, lower-missing, lower-past}
 use Rattle.csv.specs.Labels.{idOf, firstOf, countOf, bytesOf, allowed, labelGood, labelBad, Label, labelsOf, textOr, labelOf}
@@ -46,6 +49,15 @@ module _ (rows : List (List ℕ)) (a : ℤ) where
 pub lower-own : (rows : List (List ℕ)) (a : ℤ) {i : ℕ} → SFits w32 a → FirstNotBelow rows (toZ w32 (ofZ w32 a)) i → FirstNotBelow rows a i
 lower-own rows a {i} f w = subst (λ (z : ℤ). FirstNotBelow rows z i) (toZ-ofZ f) w
 
+-- a later id is greater
+ascends-far : (rows : List (List ℕ)) → ascends (map idOf rows) ≡ true → (k i : ℕ) → k < i → i < length rows → ltZ (idOf (getD rows k [])) (idOf (getD rows i [])) ≡ true
+ascends-far [] o k i l h = absurd (not-suc-le-zero h)
+ascends-far (r ∷ rs) o k zero l h = absurd (not-suc-le-zero l)
+ascends-far (r ∷ rs) o zero (suc i) l h =
+    sym (ap (ltZ (idOf r)) (map-at idOf rs i [] (idOf []) (le-of-suc-le-suc h)))
+    ∙ every-at (ltZ (idOf r)) (map idOf rs) i (idOf []) (ascends-head (idOf r) (map idOf rs) o) (rw (length-map rs idOf) (le-of-suc-le-suc h))
+ascends-far (r ∷ rs) o (suc k) (suc i) l h = ascends-far rs (ascends-tail (idOf r) (map idOf rs) o) k i (le-of-suc-le-suc l) (le-of-suc-le-suc h)
+
 -- ---- what stands at the bound
 
 module _ (bytes : List ℕ) (rows : List (List ℕ)) (G : labelBad bytes rows ≡ none) (a : ℤ) where
@@ -68,6 +80,12 @@ module _ (bytes : List ℕ) (rows : List (List ℕ)) (G : labelBad bytes rows �
 
     pub label-past : length rows ≤ i → [] ≡ labelOf (labelsOf bytes rows) a
     label-past h = sym (by-row (lower-past idOf rows [] a (ascends-notDescending (map idOf rows) (all-good bytes rows G .rising)) bound h))
+
+  -- the row with its id, wherever it was told
+  label-at : {i : ℕ} → i < length rows → eqZ (idOf (getD rows i [])) a ≡ true → bytesOf bytes (getD rows i []) ≡ labelOf (labelsOf bytes rows) a
+  label-at {i} h e =
+      sym (by-row (first-at (hasKey idOf a) rows i [] h (λ k l. ltZ-apart (idOf (getD rows k [])) a
+      (subst (λ (z : ℤ). ltZ (idOf (getD rows k [])) z ≡ true) (eqZ-true (idOf (getD rows i [])) a e) (ascends-far rows (all-good bytes rows G .rising) k i l h))) e))
 
   -- the label in row i lies inside the bytes, and is short
   module _ {i : ℕ} (h : i < length rows) where
@@ -109,3 +127,12 @@ module _ (bytes : List ℕ) (rows : List (List ℕ)) (G : labelBad bytes rows �
       pub part-found : i < length rows → ofZ w32 x ≡ ofZ w32 a → {f c : ℕ} → (f ≡ firstOf (getD rows i [])) → (c ≡ countOf (getD rows i [])) → PartOf f c
       part-found h s {f} {c} k l =
           (rw (k, l) (label-found w h (ap (λ (z : ℤ). eqZ z a) (sym e) ∙ tested-same x a p q s)), (rw (k, l) (label-inside h), rw l (label-short h)))
+
+  pub part-told
+      : {i : ℕ} → i < length rows → {x : ℤ} → SFits w32 x → SFits w32 a → x ≡ toZ w32 (getD (getD rows i []) 0 0) → ofZ w32 x ≡ ofZ w32 a
+      → {f c : ℕ} → f ≡ firstOf (getD rows i []) → c ≡ countOf (getD rows i []) → PartOf f c
+  part-told h {x} p q e s k l = (rw (k, l) (label-at h (ap (λ (z : ℤ). eqZ z a) (sym e) ∙ tested-same x a p q s)), (rw (k, l) (label-inside h), rw l (label-short h)))
+
+  -- what was found for the bits of an id is its own
+  pub part-own : (f c : ℕ) → SFits w32 a → (span f c bytes ≡ labelOf (labelsOf bytes rows) (toZ w32 (ofZ w32 a))) × ((f + c ≤ length bytes) × (c ≤ 64)) → PartOf f c
+  part-own f c q p = subst (λ (z : ℤ). (span f c bytes ≡ labelOf (labelsOf bytes rows) z) × ((f + c ≤ length bytes) × (c ≤ 64))) (toZ-ofZ q) p

@@ -22,10 +22,13 @@ const CR: u8 = 13;
 
 const LF: u8 = 10;
 
-// Whether a field with this byte is quoted.
+// Whether a field with this byte is quoted; most bytes are above all that are special.
 fn is_special(b: u8) -> bool
     ensures defined { λ r. ⌜ r ≡ special (classOf b) ⌝ }
 {
+    if COMMA < b {
+        return false;
+    }
     (b == QUOTE) | ((b == COMMA) | ((b == CR) | (b == LF)))
 }
 

@@ -1,7 +1,11 @@
 // Lent labels: the first bad one, and the one of an attribute.
+use columns::AttributePlaces;
 use info::little_endian::index;
+use info::places::attribute_slot;
+use info::places::place_of;
 use numbers::integers::signed;
 ghost use mathlib.Core.Path.{_≡_};
+ghost use mathlib.Core.Bool.{true};
 ghost use mathlib.Core.List.{[]};
 ghost use mathlib.Core.Option.{none};
 ghost use Prim.Native.Nat.{_+_, _≤_, _<_};
@@ -59,8 +63,9 @@ fn all_allowed(text: &[u8]) -> bool
     good
 }
 
-// Whether a label is good by itself: at most 64 bytes, inside those lent, each one allowed.
-fn label_good(label: LabelRow, bytes: &[u8]) -> bool
+// Whether a label is good by itself: at most 64 bytes, inside those lent, each one allowed. Where all lent bytes are, none is looked at.
+fn label_good(label: LabelRow, bytes: &[u8], clean: bool) -> bool
+    requires told { ⌜ (clean ≡ true → every? rule.allowed (now bytes) ≡ true) ⌝ }
     ensures defined { λ r. ⌜ r ≡ rule.labelGood (now (bytes .entry)) label ⌝ }
 {
     let first = index(label[LABEL_FIRST]);
@@ -71,6 +76,9 @@ fn label_good(label: LabelRow, bytes: &[u8]) -> bool
     let end = first + count;
     if bytes.len() < end {
         return false;
+    }
+    if clean {
+        return true;
     }
     all_allowed(&bytes[first..end])
 }
@@ -93,10 +101,11 @@ fn stands(labels: &[LabelRow], i: usize) -> bool
 pub fn bad_label(labels: &[LabelRow], bytes: &[u8]) -> Table
     ensures defined { λ r. ⌜ badLabel r ≡ labelBad (now (bytes .entry)) (now (labels .entry)) ⌝ }
 {
+    let clean = all_allowed(bytes);
     let mut i = 0;
     while i < labels.len() {
         let after = stands(labels, i);
-        let good = after & label_good(labels[i], bytes);
+        let good = after & label_good(labels[i], bytes, clean);
         if !good {
             return Table::Bad(i);
         }
@@ -146,4 +155,39 @@ pub fn part_of(labels: &[LabelRow], bytes: &[u8], id: i32) -> Part
         return Part { first: 0, count: 0 };
     }
     Part { first: 0, count: 0 }
+}
+
+// The places of labels by their ids, told to the look-ups: of no promise.
+pub fn tell(places: &mut AttributePlaces, labels: &[LabelRow]) {
+    let mut i = 0;
+    while i < labels.len() {
+        let id = signed(labels[i][LABEL_ID]);
+        let at = attribute_slot(id);
+        let place = (i % 65536) as u16;
+        places[at] = place;
+        i += 1;
+    }
+}
+
+// The same as `part_of`: the place that was told is tried first, and tested.
+pub fn part_at(labels: &[LabelRow], places: &AttributePlaces, bytes: &[u8], id: i32) -> Part
+    requires good { ⌜ labelBad (now bytes) (now labels) ≡ none ⌝ }
+    ensures the_label { λ r. let ls = labelsOf (now (bytes .entry)) (now (labels .entry)) in
+        ⌜ span (r .first) (r .count) (now (bytes .entry)) ≡ labelOf ls id ⌝ }
+    ensures inside { λ r. ⌜ r .first + r .count ≤ length (now (bytes .entry)) ⌝ }
+    ensures short { λ r. ⌜ r .count ≤ 64 ⌝ }
+{
+    let told = place_of(places[attribute_slot(id)]);
+    if labels.len() <= told {
+        return part_of(labels, bytes, id);
+    }
+    let label = labels[told];
+    let own = signed(label[LABEL_ID]);
+    if own == id {
+        return Part {
+            first: index(label[LABEL_FIRST]),
+            count: index(label[LABEL_COUNT]),
+        };
+    }
+    part_of(labels, bytes, id)
 }

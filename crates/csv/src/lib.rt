@@ -1,4 +1,6 @@
 // A run's rows as comma-separated text by RFC 4180, with lent labels for the attributes.
+use columns::ATTRIBUTE_SLOTS;
+use columns::AttributePlaces;
 use columns::AttributeRow;
 use columns::ROW_ATTRIBUTE;
 use columns::ROW_OBJECT;
@@ -6,7 +8,8 @@ use fields::put_record;
 use labels::LabelRow;
 use labels::Table;
 use labels::bad_label;
-use labels::part_of;
+use labels::part_at;
+use labels::tell;
 use listing::put_text;
 use listing::zero_bytes;
 use numbers::integers::signed;
@@ -68,6 +71,7 @@ fn put_row(
     row: AttributeRow,
     value: f64,
     labels: &[LabelRow],
+    places: &AttributePlaces,
     label_bytes: &[u8],
 ) -> Filled
     requires inside { ⌜ at ≤ length (now text) ⌝ }
@@ -78,7 +82,7 @@ fn put_row(
         ⌜ AddedOr r (now (text .entry)) (now (text .exit)) at (recordText fields) ⌝ }
 {
     let id = signed(row[ROW_ATTRIBUTE]);
-    let part = part_of(labels, label_bytes, id);
+    let part = part_at(labels, places, label_bytes, id);
     let first = part.first;
     let end = first + part.count;
     let long = put_record(line, row[ROW_OBJECT], id, &label_bytes[first..end], value);
@@ -103,13 +107,24 @@ fn put_records(
     if text.len() < HEADER_BYTES {
         return Filled::Full;
     }
+    let mut places = [0u16; ATTRIBUTE_SLOTS];
+    tell(&mut places, labels);
     let mut line = [0u8; LINE_BYTES];
     let mut end = put_text(text, 0, b"object,attribute,label,value\r\n");
     let mut next = 0;
     while next < n {
         let row = rows[next];
         let value = values[next];
-        let put = put_row(text, &mut line, end, row, value, labels, label_bytes);
+        let put = put_row(
+            text,
+            &mut line,
+            end,
+            row,
+            value,
+            labels,
+            &places,
+            label_bytes,
+        );
         match put {
             Filled::Full => {
                 return Filled::Full;

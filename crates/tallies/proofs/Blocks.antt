@@ -1,34 +1,32 @@
--- A block of lines: how its ids are laid, the place of an id among them, and its sums, an object at a time.
-use Prim.Native.Nat.{ℕ, _+_, _*_, _-_, _≤_, _<_}
+-- A block of lines: how its keys are laid, the place of a key among them, and its sums, an object at a time.
+use Prim.Native.Nat.{ℕ, zero, suc, _+_, _*_, _-_, _%_, _≤_, _<_}
 use native.Mathlib.Nat.{add-zero, eq-or-lt-of-le, lt-irrefl}
 use native.Mathlib.Omega.{arith}
 use mathlib.Core.Path.{_≡_, refl, sym, ap, subst, _∙_}
 use mathlib.Core.Bool.{Bool, true, false, _&&_, _||_, cond}
 use mathlib.Core.List.{List, [], map}
 use mathlib.Core.Logic.{_⊎_, inl, inr, ⊎-elim}
-use lib.Dec.{eqb, ltb}
+use lib.Dec.{eqb, ltb, leb}
 use lib.IntN.{ℤ, pos, negsuc}
 use lib.ListN.{length, getD, set, take, replicate, length-set, length-map, length-replicate, getD-replicate}
 use lib.Seq.{getD-set-same, getD-set-other, take-all}
 use lib.Signed.{ltZ}
 use mir.Syntax.{w32}
-use mir.Val.{SFits, toZ, ofZ}
+use mir.Val.{SFits, ofZ, toZ, sel}
 use mir.Facts.{toZ-ofZ}
-use borrow.Author.Tests.{eqb-true, eqb-false, eq-eqb, ne-eqb, ltb-true, ltb-false}
+use borrow.Author.Tests.{eqb-true, eqb-false, eq-eqb, ne-eqb, ltb-true, ltb-false, lt-ltb, leb-false}
 use Rattle.laws.specs.Lists.{eqZ, keep}
-use Rattle.laws.proofs.Bools.{and-right, both-ways, not-passed, true-or-false}
+use Rattle.laws.proofs.Bools.{and-left, and-right, both-ways, not-passed, same-test, true-or-false}
 use Rattle.laws.proofs.Keep.{keep-keep}
 use Rattle.laws.proofs.Maps.{map-at}
-use Rattle.laws.proofs.Order.{ltZ-apart, ltZ-false, ltZ-trans, leZ-ltZ-trans, eqZ-sym}
-use Rattle.laws.proofs.Search.{between-start}
-use Rattle.laws.proofs.Signs.{eqZ-bits}
-use Rattle.laws.proofs.Windows.{Counted, counted-more, narrowed}
+use Rattle.laws.proofs.Order.{ltZ-neither, eqZ-true, eqZ-same, eqZ-sym}
+use Rattle.laws.proofs.Search.{Falls, between-up, between-down, between-end}
 use Rattle.rules.specs.Bytes.{signed}
 use Rattle.rules.specs.Sheet.{Book, Fit}
 use Rattle.rules.specs.Item.{noItem, object}
 use Rattle.rules.specs.declared.Item.{Item}
 use Rattle.tallies.specs.Tallies.{Line, lineOf, rises, counts, counted, total}
-use Rattle.tallies.specs.Blocks.{Ordered, Laid, Keyed, idBelow, Findable, Bounds, Added, keyOf, piecesBy, Summed, Told}
+use Rattle.tallies.specs.Blocks.{Ordered, rank, lineKey, Laid, Keyed, Spanned, keyBelow, Bounds, Added, keyOf, piecesBy, Counted, Summed, Told}
 use Rattle.tallies.proofs.Sums.{total-next}
 
 -- ---- what rises
@@ -41,220 +39,375 @@ rises-alike a b r e = by (ltb (a .kind) (b .kind)) refl r
     by true h q = absurd (omega (arith, ltb-true (a .kind) (b .kind) h, e))
     by false h q = and-right (eqb (a .kind) (b .kind)) (ltZ (a .id) (b .id)) q
 
+-- no later line is of a lesser kind
+rises-kind : (a b : Line) → rises a b ≡ true → a .kind ≤ b .kind
+rises-kind a b r = by (ltb (a .kind) (b .kind)) refl r
+  where
+    by : (t : Bool) → ltb (a .kind) (b .kind) ≡ t → t || (eqb (a .kind) (b .kind) && ltZ (a .id) (b .id)) ≡ true → a .kind ≤ b .kind
+    by true h q = omega (arith, ltb-true (a .kind) (b .kind) h)
+    by false h q = omega (arith, eqb-true (a .kind) (b .kind) (and-left (eqb (a .kind) (b .kind)) (ltZ (a .id) (b .id)) q))
+
+kind-le : (ls : List Line) → Ordered ls → (i j : ℕ) → i ≤ j → j < length ls → getD ls i (lineOf []) .kind ≤ getD ls j (lineOf []) .kind
+kind-le ls O i j l h = by (eq-or-lt-of-le {n = i} {m = j} l)
+  where
+    by : (i ≡ j) ⊎ (i < j) → getD ls i (lineOf []) .kind ≤ getD ls j (lineOf []) .kind
+    by (inl q) = subst (λ (x : ℕ). getD ls i (lineOf []) .kind ≤ getD ls x (lineOf []) .kind) q (omega arith)
+    by (inr q) = rises-kind (getD ls i (lineOf [])) (getD ls j (lineOf [])) (O .rising i j q h)
+
+-- ---- keys
+
+-- any bits read as signed fit 32
+pub signed-fits : (x : ℕ) → SFits w32 (signed x)
+signed-fits x = by (ltb x 2147483648) refl
+  where
+    by : (t : Bool) → ltb x 2147483648 ≡ t → SFits w32 (sel t (pos x) (negsuc (4294967296 - suc x)))
+    by true e = record { sfits = ltb-true x 2147483648 e }
+    by false e = record { sfits = omega (arith, ltb-false x 2147483648 e) }
+
+rank-few : (a : ℤ) → SFits w32 a → rank a < 4294967296
+rank-few (pos m) f = omega (arith, f .sfits)
+rank-few (negsuc m) f = omega arith
+
+rank-less : (a b : ℤ) → SFits w32 a → SFits w32 b → ltZ a b ≡ true → rank a < rank b
+rank-less (pos m) (pos n) f g e = omega (arith, ltb-true m n e)
+rank-less (pos m) (negsuc n) f g e = both-ways e refl
+rank-less (negsuc m) (pos n) f g e = omega arith
+rank-less (negsuc m) (negsuc n) f g e = omega (arith, ltb-true n m e, f .sfits)
+
+rank-same : (a b : ℤ) → SFits w32 a → SFits w32 b → rank a ≡ rank b → a ≡ b
+rank-same a b f g e =
+    ltZ-neither a b (not-passed (ltZ a b) (λ t. omega (arith, rank-less a b f g t, e))) (not-passed (ltZ b a) (λ t. omega (arith, rank-less b a g f t, e)))
+
+-- as it is worked out from the bits
+pub rank-bits : (a : ℤ) → SFits w32 a → (ofZ w32 a + 2147483648) % 4294967296 ≡ rank a
+rank-bits (pos m) f = let h = f .sfits in omega (arith, h)
+rank-bits (negsuc m) f = let h = f .sfits in omega (arith, h)
+
+rises-key : (a b : Line) → SFits w32 (a .id) → SFits w32 (b .id) → rises a b ≡ true → lineKey (a .kind) (a .id) < lineKey (b .kind) (b .id)
+rises-key a b f g r = by (ltb (a .kind) (b .kind)) refl r
+  where
+    by : (t : Bool) → ltb (a .kind) (b .kind) ≡ t → t || (eqb (a .kind) (b .kind) && ltZ (a .id) (b .id)) ≡ true → lineKey (a .kind) (a .id) < lineKey (b .kind) (b .id)
+    by true h q = omega (arith, ltb-true (a .kind) (b .kind) h, rank-few (a .id) f)
+    by false h q =
+        omega (
+          arith,
+          eqb-true (a .kind) (b .kind) (and-left (eqb (a .kind) (b .kind)) (ltZ (a .id) (b .id)) q),
+          rank-less (a .id) (b .id) f g (and-right (eqb (a .kind) (b .kind)) (ltZ (a .id) (b .id)) q),
+        )
+
+key-same : (kind : ℕ) (a b : ℤ) → SFits w32 a → SFits w32 b → eqb (lineKey kind a) (lineKey kind b) ≡ eqZ a b
+key-same kind a b f g =
+    same-test (eqb (lineKey kind a) (lineKey kind b)) (eqZ a b) (λ e. eqZ-same a b (rank-same a b f g (omega (arith, eqb-true (lineKey kind a) (lineKey kind b) e))))
+    (λ e. eq-eqb (lineKey kind a) (lineKey kind b) (ap (lineKey kind) (eqZ-true a b e)))
+
+key-apart : (k l : ℕ) (a b : ℤ) → SFits w32 a → SFits w32 b → (k ≡ l → ⊥) → eqb (lineKey k a) (lineKey l b) ≡ false
+key-apart k l a b f g n = ne-eqb (lineKey k a) (lineKey l b) (λ e. n (omega (arith, e, rank-few a f, rank-few b g)))
+
+-- as it was worked out from the bits that were handed on
+pub key-told : (kind : ℕ) (a : ℤ) → SFits w32 a → {key : ℕ} → key ≡ lineKey kind (toZ w32 (ofZ w32 a)) → key ≡ lineKey kind a
+key-told kind a f e = e ∙ ap (lineKey kind) (toZ-ofZ f)
+
 -- ---- laying
 
-pub laid-none : (ls : List Line) {first : ℕ} → first < length ls → Laid ls first 0 (replicate 1024 2147483647)
+pub laid-none : (ls : List Line) {first : ℕ} → first < length ls → Laid ls first 0 (replicate 1024 18446744073709551615)
 laid-none ls {first} h =
     record {
-      long = length-replicate {A = ℕ} 1024 2147483647;
+      long = length-replicate {A = ℕ} 1024 18446744073709551615;
       few = omega arith;
       inside = omega arith;
-      alike = λ j l. absurd (omega arith);
       are = λ j l. absurd (omega arith);
-      rest = λ j l m. getD-replicate 1024 j 2147483647 0 m;
+      rest = λ j l m. getD-replicate 1024 j 18446744073709551615 0 m;
     }
 
-module _ (rows : List (List ℕ)) {first n : ℕ} {ids : List ℕ} (L : Laid (map lineOf rows) first n ids) where
+module _ (rows : List (List ℕ)) where
   abbrev At : ℕ → Line
   At i = getD (map lineOf rows) i (lineOf [])
 
-  -- the id of the next line, as it is laid
-  abbrev v : ℕ
-  v = getD (getD rows (first + n) []) 1 0
+  fits-at : {i : ℕ} → i < length rows → SFits w32 (At i .id)
+  fits-at {i} h = subst (λ (l : Line). SFits w32 (l .id)) (sym (map-at lineOf rows i [] (lineOf []) h)) (signed-fits (getD (getD rows i []) 1 0))
 
-  -- one more line of that kind
-  pub laid-more : first + n < length rows → n < 1023 → At (first + n) .kind ≡ At first .kind → Laid (map lineOf rows) first (n + 1) (set ids n (getD (getD rows (first + n) []) 1 0))
-  laid-more h less e =
-      record {
-        long = length-set ids n v ∙ L .long;
-        few = omega arith;
-        inside = omega (arith, length-map rows lineOf);
-        alike = λ j l. alike j (eq-or-lt-of-le {n = j} {m = n} (omega arith));
-        are = λ j l. are j (eq-or-lt-of-le {n = j} {m = n} (omega arith));
-        rest = λ j l m. getD-set-other ids n j v 0 (λ s. lt-irrefl n (subst (λ (x : ℕ). n < x) s (omega arith))) ∙ L .rest j (omega arith) m;
-      }
-    where
-      alike : (j : ℕ) → (j ≡ n) ⊎ (j < n) → At (first + j) .kind ≡ At first .kind
-      alike j (inl q) = subst (λ (x : ℕ). At (first + x) .kind ≡ At first .kind) (sym q) e
-      alike j (inr q) = L .alike j q
+  -- a row's kind, as it was read
+  pub kind-at : {i : ℕ} → i < length rows → getD (getD rows i []) 0 0 ≡ At i .kind
+  kind-at {i} h = sym (ap (λ (x : Line). x .kind) (map-at lineOf rows i [] (lineOf []) h))
 
-      are : (j : ℕ) → (j ≡ n) ⊎ (j < n) → signed (getD (set ids n v) j 0) ≡ At (first + j) .id
-      are j (inl q) =
-          ap (λ (x : ℕ). signed (getD (set ids n v) x 0)) q ∙ ap signed (getD-set-same ids n v 0 (omega (arith, L .long)))
-          ∙ sym (ap (λ (l : Line). l .id) (map-at lineOf rows (first + n) [] (lineOf []) h)) ∙ ap (λ (x : ℕ). At (first + x) .id) (sym q)
-      are j (inr q) =
-          ap signed (getD-set-other ids n j v 0 (λ s. lt-irrefl n (subst (λ (x : ℕ). x < n) s q))) ∙ L .are j q
+  module _ {first n : ℕ} {keys : List ℕ} (L : Laid (map lineOf rows) first n keys) where
+    -- one more line
+    pub laid-more : {v : ℕ} → first + n < length rows → n < 1023 → v ≡ lineKey (getD (getD rows (first + n) []) 0 0) (signed (getD (getD rows (first + n) []) 1 0))
+        → Laid (map lineOf rows) first (n + 1) (set keys n v)
+    laid-more {v} h less e =
+        record {
+          long = length-set keys n v ∙ L .long;
+          few = omega arith;
+          inside = omega (arith, length-map rows lineOf);
+          are = λ j l. are j (eq-or-lt-of-le {n = j} {m = n} (omega arith));
+          rest = λ j l m. getD-set-other keys n j v 0 (λ s. lt-irrefl n (subst (λ (x : ℕ). n < x) s (omega arith))) ∙ L .rest j (omega arith) m;
+        }
+      where
+        are : (j : ℕ) → (j ≡ n) ⊎ (j < n) → getD (set keys n v) j 0 ≡ lineKey (At (first + j) .kind) (At (first + j) .id)
+        are j (inl q) =
+            ap (λ (x : ℕ). getD (set keys n v) x 0) q ∙ getD-set-same keys n v 0 (omega (arith, L .long)) ∙ e
+            ∙ sym (ap (λ (l : Line). lineKey (l .kind) (l .id)) (map-at lineOf rows (first + n) [] (lineOf []) h))
+            ∙ ap (λ (x : ℕ). lineKey (At (first + x) .kind) (At (first + x) .id)) (sym q)
+        are j (inr q) = getD-set-other keys n j v 0 (λ s. lt-irrefl n (subst (λ (x : ℕ). x < n) s q)) ∙ L .are j q
 
-pub laid-first : (rows : List (List ℕ)) {first : ℕ} {ids : List ℕ} → Laid (map lineOf rows) first 0 ids → first < length rows → Laid (map lineOf rows) first 1 (set ids 0 (getD (getD rows first []) 1 0))
-laid-first rows {first} {ids} L h =
-    subst (λ (m : ℕ). Laid (map lineOf rows) first 1 (set ids 0 (getD (getD rows m []) 1 0))) (add-zero first)
-    (laid-more rows L (omega arith) (omega arith) (ap (λ (m : ℕ). getD (map lineOf rows) m (lineOf []) .kind) (add-zero first)))
+    inside : (j : ℕ) → j < n → first + j < length rows
+    inside j h = omega (arith, L .inside, length-map rows lineOf)
 
--- the kinds of two rows that were read
-pub kind-read : (rows : List (List ℕ)) {i j : ℕ} → i < length rows → j < length rows → eqb (getD (getD rows i []) 0 0) (getD (getD rows j []) 0 0) ≡ true
-    → getD (map lineOf rows) i (lineOf []) .kind ≡ getD (map lineOf rows) j (lineOf []) .kind
-kind-read rows {i} {j} h l e =
-    ap (λ (x : Line). x .kind) (map-at lineOf rows i [] (lineOf []) h) ∙ eqb-true (getD (getD rows i []) 0 0) (getD (getD rows j []) 0 0) e
-    ∙ sym (ap (λ (x : Line). x .kind) (map-at lineOf rows j [] (lineOf []) l))
+    module _ (O : Ordered (map lineOf rows)) where
+      pub laid-keyed : Keyed keys
+      laid-keyed =
+          record {
+            long = L .long;
+            rising = λ i j l h less. by i j l less (true-or-false (ltb j n)) h;
+            last = L .rest 1023 (omega (arith, L .few)) (omega arith);
+          }
+        where
+          by : (i j : ℕ) → i < j → getD keys j 0 < 18446744073709551615 → (ltb j n ≡ true) ⊎ (ltb j n ≡ false) → j < 1024 → getD keys i 0 < getD keys j 0
+          by i j l less (inl t) h =
+              let below = ltb-true j n t in
+              let rise = O .rising (first + i) (first + j) (omega arith) (omega (arith, L .inside)) in
+              omega (arith, L .are i (omega arith), L .are j below, rises-key (At (first + i)) (At (first + j)) (fits-at (inside i (omega arith))) (fits-at (inside j below)) rise)
+          by i j l less (inr t) h = absurd (omega (arith, L .rest j (ltb-false j n t) h))
 
-pub laid-keyed : (ls : List Line) → Ordered ls → {first n : ℕ} {ids : List ℕ} → Laid ls first n ids → Keyed ids
-laid-keyed ls O {first} {n} {ids} L =
-    record {
-      n = n;
-      long = L .long;
-      few = L .few;
-      rising = λ i j l h. subst (λ (z : ℤ). ltZ z (signed (getD ids j 0)) ≡ true) (sym (L .are i (omega arith)))
-          (subst (λ (z : ℤ). ltZ (At (first + i) .id) z ≡ true) (sym (L .are j h))
-          (rises-alike (At (first + i)) (At (first + j)) (O .rising (first + i) (first + j) (omega arith) (omega (arith, L .inside))) (L .alike i (omega arith) ∙ sym (L .alike j h))));
-      rest = L .rest;
-    }
-  where
-    At : ℕ → Line
-    At i = getD ls i (lineOf [])
+      -- by the kinds of the first line and of the last before e; from there on there are totals alone
+      pub laid-spanned
+          : {least most e : ℕ} → least ≡ At first .kind → most ≡ At (e - 1) .kind → (first < e) × ((j : ℕ) → e ≤ j → j < first + n → 3 ≤ At j .kind)
+          → e ≤ first + n → Spanned keys least most
+      laid-spanned {least} {most} {e} a z ends l =
+          record {
+            from = λ j h. from j h (true-or-false (ltb j n));
+            to = λ j h less. to j h less (true-or-false (ltb j n));
+          }
+        where
+          from : (j : ℕ) → j < 1024 → (ltb j n ≡ true) ⊎ (ltb j n ≡ false) → least * 4294967296 ≤ getD keys j 0
+          from j h (inl t) =
+              omega (arith, a, L .are j (ltb-true j n t), kind-le (map lineOf rows) O first (first + j) (omega arith) (omega (arith, L .inside, ltb-true j n t)))
+          from j h (inr t) = omega (arith, a, L .rest j (ltb-false j n t) h, O .known first (omega (arith, L .inside, ends .0)))
+
+          line : (j : ℕ) → j < n → getD keys j 0 < 3 * 4294967296 → (ltb (first + j) e ≡ true) ⊎ (ltb (first + j) e ≡ false) → getD keys j 0 < (most + 1) * 4294967296
+          line j below less (inl t) =
+              omega (
+                arith,
+                z,
+                L .are j below,
+                rank-few (At (first + j) .id) (fits-at (inside j below)),
+                kind-le (map lineOf rows) O (first + j) (e - 1) (omega (arith, ltb-true (first + j) e t)) (omega (arith, L .inside, ends .0)),
+              )
+          line j below less (inr t) = absurd (omega (arith, L .are j below, ends .1 (first + j) (ltb-false (first + j) e t) (omega arith)))
+
+          to : (j : ℕ) → j < 1024 → getD keys j 0 < 3 * 4294967296 → (ltb j n ≡ true) ⊎ (ltb j n ≡ false) → getD keys j 0 < (most + 1) * 4294967296
+          to j h less (inl t) = line j (ltb-true j n t) less (true-or-false (ltb (first + j) e))
+          to j h less (inr t) = absurd (omega (arith, L .rest j (ltb-false j n t) h))
+
+    -- a total that ends a block of more lines is left out
+    pub laid-ends : 0 < n → {x last : ℕ} → last ≡ At (first + n - 1) .kind → x ≡ cond (eqb last 3 && ltb 1 n) 1 0
+        → (first < first + n - x) × ((j : ℕ) → first + n - x ≤ j → j < first + n → 3 ≤ At j .kind)
+    laid-ends some {x} {last} l p = rw p (by (eqb last 3 && ltb 1 n) refl)
+      where
+        by : (t : Bool) → eqb last 3 && ltb 1 n ≡ t → (first < first + n - cond t 1 0) × ((j : ℕ) → first + n - cond t 1 0 ≤ j → j < first + n → 3 ≤ At j .kind)
+        by true e = (
+          omega (arith, ltb-true 1 n (and-right (eqb last 3) (ltb 1 n) e)),
+          λ j a b. subst (λ (i : ℕ). 3 ≤ At i .kind) (let q : first + n - 1 ≡ j = omega arith in q) (omega (arith, l, eqb-true last 3 (and-left (eqb last 3) (ltb 1 n) e))),
+        )
+        by false e = (omega arith, λ j a b. absurd (omega arith))
 
 -- ---- finding
 
--- no id is above the highest
-highest-not : (a : ℤ) → SFits w32 a → idBelow a 2147483647 ≡ false
-highest-not (pos m) f = not-passed (ltb 2147483647 m) (λ e. omega (arith, ltb-true 2147483647 m e, f .sfits))
-highest-not (negsuc m) f = refl
-
-pub keyed-findable : {ids : List ℕ} → Keyed ids → (a : ℤ) → SFits w32 a → Findable ids a
-keyed-findable {ids} K a f =
-    record {
-      long = K .long;
-      falls = record { before = λ i j l h e. by i j l e (true-or-false (ltb j (K .n))) h };
-      last = high 1023 (omega (arith, K .few)) (omega arith);
-    }
-  where
-    high : (j : ℕ) → K .n ≤ j → j < 1024 → idBelow a (getD ids j 0) ≡ false
-    high j l h = ap (idBelow a) (K .rest j l h) ∙ highest-not a f
-
-    low : (i j : ℕ) → j < K .n → idBelow a (getD ids j 0) ≡ true → (i ≡ j) ⊎ (i < j) → idBelow a (getD ids i 0) ≡ true
-    low i j m e (inl q) = subst (λ (x : ℕ). idBelow a (getD ids x 0) ≡ true) (sym q) e
-    low i j m e (inr q) = ltZ-trans (signed (getD ids i 0)) (signed (getD ids j 0)) a (K .rising i j q m) e
-
-    by : (i j : ℕ) → i ≤ j → idBelow a (getD ids j 0) ≡ true → (ltb j (K .n) ≡ true) ⊎ (ltb j (K .n) ≡ false) → j < length ids → idBelow a (getD ids i 0) ≡ true
-    by i j l e (inl t) h = low i j (ltb-true j (K .n) t) e (eq-or-lt-of-le {n = i} {m = j} l)
-    by i j l e (inr t) h = both-ways e (high j (ltb-false j (K .n) t) (omega (arith, K .long)))
-
--- the loop and a callee keep the bits of the one sought
-pub findable-bits : (ids : List ℕ) (a : ℤ) → SFits w32 a → Findable ids a → Findable ids (toZ w32 (ofZ w32 a))
-findable-bits ids a f F = subst (Findable ids) (sym (toZ-ofZ f)) F
-
-pub bounds-back : (ids : List ℕ) (a : ℤ) {lo hi : ℕ} → SFits w32 a → Bounds ids (toZ w32 (ofZ w32 a)) lo hi → Bounds ids a lo hi
-bounds-back ids a {lo} {hi} f b = subst (λ (z : ℤ). Bounds ids z lo hi) (toZ-ofZ f) b
-
-module _ (ids : List ℕ) (a : ℤ) (F : Findable ids a) where
-  pub bounds-start : Bounds ids a 0 (0 + 1024)
-  bounds-start = subst (Bounds ids a 0) (F .long) (between-start (idBelow a) ids 0)
-
-  pub bounds-high : {lo hi : ℕ} → Bounds ids a lo hi → hi ≤ 1024
-  bounds-high b = omega (arith, b .inside, F .long)
-
-  -- a step by the id that was read at k
-  stepped : {x y : ℕ} (m k : ℕ) → y ≡ getD ids k 0 → x ≡ cond (ltZ (toZ w32 y) a) m 0 → x ≡ cond (idBelow a (getD ids k 0)) m 0
-  stepped m k e p = p ∙ ap (λ (i : ℕ). cond (ltZ (toZ w32 i) a) m 0) e
-
-  pub bounds-narrowed
-      : {x y z r s t : ℕ} (lo left q : ℕ) → Bounds ids a lo (lo + left) → 0 < q → 4 * q ≤ left
-      → r ≡ getD ids (lo + q - 1) 0 → x ≡ cond (ltZ (toZ w32 r) a) q 0
-      → s ≡ getD ids (lo + 2 * q - 1) 0 → y ≡ cond (ltZ (toZ w32 s) a) q 0
-      → t ≡ getD ids (lo + 3 * q - 1) 0 → z ≡ cond (ltZ (toZ w32 t) a) q 0
-      → Bounds ids a (lo + x + y + z) (lo + x + y + z + (left - 3 * q))
-  bounds-narrowed lo left q b m four e p e2 p2 e3 p3 =
-      narrowed (idBelow a) ids 0 (F .falls) q b m four (stepped q (lo + q - 1) e p) (stepped q (lo + 2 * q - 1) e2 p2) (stepped q (lo + 3 * q - 1) e3 p3)
-
-  pub counts-more : {k found x y : ℕ} → Counted (idBelow a) ids 0 k found → k < 1024 → y ≡ getD ids k 0 → x ≡ cond (ltZ (toZ w32 y) a) 1 0 → Counted (idBelow a) ids 0 (k + 1) (found + x)
-  counts-more {k} c l e p = counted-more (idBelow a) ids 0 (F .falls) c (omega (arith, F .long)) (stepped 1 k e p)
+module _ {keys : List ℕ} (K : Keyed keys) {key : ℕ} (below : key < 18446744073709551615) where
+  keyed-falls : Falls (keyBelow key) keys 0
+  keyed-falls = record { before = λ i j l h e. by i j e h (eq-or-lt-of-le {n = i} {m = j} l) }
+    where
+      by : (i j : ℕ) → keyBelow key (getD keys j 0) ≡ true → j < length keys → (i ≡ j) ⊎ (i < j) → keyBelow key (getD keys i 0) ≡ true
+      by i j e h (inl q) = subst (λ (x : ℕ). keyBelow key (getD keys x 0) ≡ true) (sym q) e
+      by i j e h (inr q) =
+          let less = ltb-true (getD keys j 0) key e in
+          lt-ltb (getD keys i 0) key (omega (arith, K .rising i j q (omega (arith, K .long)) (omega arith)))
 
   -- the last is not less
-  pub bounds-inside : {lo : ℕ} → Bounds ids a lo lo → lo < 1024
-  bounds-inside {lo} b = ⊎-elim (λ e. ltb-true lo 1024 e) (λ e. both-ways (b .below 1023 (omega (arith, ltb-false lo 1024 e))) (F .last)) (true-or-false (ltb lo 1024))
+  last-not : keyBelow key (getD keys 1023 0) ≡ false
+  last-not = not-passed (ltb (getD keys 1023 0) key) (λ e. omega (arith, ltb-true (getD keys 1023 0) key e, K .last))
 
--- ---- adding
+  pub bounds-start : Bounds keys key 0 (0 + 1024 - 1)
+  bounds-start =
+      record {
+        within = omega arith;
+        inside = omega (arith, K .long);
+        below = λ i h. absurd (omega arith);
+        above = λ i h m. subst (λ (x : ℕ). keyBelow key (getD keys x 0) ≡ false) (let e : 1023 ≡ i = omega (arith, K .long) in e) last-not;
+      }
 
--- the id that was read at the place is the one sought
-pub added-by : (ids sums : List ℕ) (a : ℤ) (m : ℕ) {at x : ℕ} {y : ℤ} → Bounds ids a at at → at < 1024 → SFits w32 a → SFits w32 y → y ≡ toZ w32 (getD ids at 0) → x ≡ cond (eqb (ofZ w32 y) (ofZ w32 a)) m 0
-    → Added ids a m sums (set sums at (getD sums at 0 + x))
-added-by ids sums a m {at} {x} {y} b h f g e p =
+  wider : {lo hi : ℕ} → Bounds keys key lo hi → (low high : ℕ) → low ≤ lo → hi ≤ high → high ≤ 1024 → Bounds keys key low high
+  wider b low high l h i =
+      record {
+        within = omega (arith, b .within);
+        inside = omega (arith, K .long);
+        below = λ j k. b .below j (omega arith);
+        above = λ j k m. b .above j (omega arith) m;
+      }
+
+  -- the end of the first half was tested
+  module _ (lo left half : ℕ) (b : Bounds keys key lo (lo + left - 1)) (some : 0 < half) (two : 2 * half ≤ left) where
+    halved-by : (t : Bool) → keyBelow key (getD keys (lo + half - 1) 0) ≡ t → Bounds keys key (lo + cond t half 0) (lo + cond t half 0 + (left - half) - 1)
+    halved-by true e =
+        wider (between-up (keyBelow key) keys 0 keyed-falls b (lo + half - 1) (omega arith) (omega arith) e) _ _ (omega arith) (omega arith) (omega (arith, b .inside, K .long))
+    halved-by false e =
+        wider (between-down (keyBelow key) keys 0 keyed-falls b (lo + half - 1) (omega arith) (omega arith) e) _ _ (omega arith) (omega arith) (omega (arith, b .inside, K .long))
+
+    pub bounds-halved : {x : ℕ} → x ≡ cond (keyBelow key (getD keys (lo + half - 1) 0)) half 0 → Bounds keys key (lo + x) (lo + x + (left - half) - 1)
+    bounds-halved e = rw e (halved-by (keyBelow key (getD keys (lo + half - 1) 0)) refl)
+
+  pub bounds-one : {lo left : ℕ} → Bounds keys key lo (lo + left - 1) → left ≤ 1 → Bounds keys key lo lo
+  bounds-one b l = between-end (keyBelow key) keys 0 b (omega arith)
+
+  pub bounds-inside : {lo : ℕ} → Bounds keys key lo lo → lo < 1024
+  bounds-inside {lo} b = ⊎-elim (λ e. ltb-true lo 1024 e) (λ e. both-ways (b .below 1023 (omega (arith, ltb-false lo 1024 e))) last-not) (true-or-false (ltb lo 1024))
+
+  -- ---- adding
+
+  -- at the first key that is not less, where it is this one: all others are not
+  pub added-by : (sums : List ℕ) (m : ℕ) {at x : ℕ} → Bounds keys key at at → at < 1024 → x ≡ cond (eqb (getD keys at 0) key) m 0 → Added keys key m sums (set sums at (getD sums at 0 + x))
+  added-by sums m {at} {x} b inside e =
+      record {
+        long = λ l. length-set sums at (getD sums at 0 + x) ∙ l;
+        is = λ j l h. by j l h (true-or-false (eqb at j));
+      }
+    where
+      apart : (j : ℕ) → j < 1024 → (at ≡ j → ⊥) → getD keys j 0 ≡ key → ⊥
+      apart j h n q = ⊎-elim (λ t. omega (arith, ltb-true (getD keys j 0) key (b .below j (ltb-true j at t)), q)) (λ t. later (ltb-false j at t)) (true-or-false (ltb j at))
+        where
+          later : at ≤ j → ⊥
+          later l = go (eq-or-lt-of-le {n = at} {m = j} l)
+            where
+              go : (at ≡ j) ⊎ (at < j) → ⊥
+              go (inl s) = n s
+              go (inr s) =
+                  omega (arith, K .rising at j s h (omega (arith, q, below)), q, ltb-false (getD keys at 0) key (b .above at (omega arith) (omega (arith, K .long))))
+
+      by : (j : ℕ) → length sums ≡ 1024 → j < 1024 → (eqb at j ≡ true) ⊎ (eqb at j ≡ false)
+          → getD (set sums at (getD sums at 0 + x)) j 0 ≡ getD sums j 0 + cond (eqb (getD keys j 0) key) m 0
+      by j l h (inl t) =
+          subst (λ (y : ℕ). getD (set sums at (getD sums at 0 + x)) y 0 ≡ getD sums y 0 + cond (eqb (getD keys y 0) key) m 0) (eqb-true at j t)
+          (getD-set-same sums at (getD sums at 0 + x) 0 (omega (arith, l)) ∙ ap (λ (y : ℕ). getD sums at 0 + y) e)
+      by j l h (inr t) =
+          getD-set-other sums at j (getD sums at 0 + x) 0 (λ s. eqb-false at j t (sym s)) ∙ sym (add-zero (getD sums j 0))
+          ∙ ap (λ (s : Bool). getD sums j 0 + cond s m 0) (sym (ne-eqb (getD keys j 0) key (apart j h (eqb-false at j t))))
+
+-- no line has this key
+pub added-none : {keys : List ℕ} {key : ℕ} (sums : List ℕ) (m : ℕ) → ((j : ℕ) → j < 1024 → eqb (getD keys j 0) key ≡ false) → Added keys key m sums sums
+added-none sums m n =
     record {
-      at = at;
-      here = b;
-      inside = h;
-      is = ap (λ (n : ℕ). set sums at (getD sums at 0 + n)) (p ∙ ap (λ (t : Bool). cond t m 0) (eqZ-bits y a g f ∙ ap (λ (z : ℤ). eqZ z a) e));
+      long = λ l. l;
+      is = λ j l h. sym (add-zero (getD sums j 0)) ∙ ap (λ (s : Bool). getD sums j 0 + cond s m 0) (sym (n j h));
     }
 
-module _ {ids : List ℕ} {a : ℤ} {m : ℕ} {sums after : List ℕ} (A : Added ids a m sums after) (long : length sums ≡ 1024) where
-  abbrev put : ℕ
-  put = getD sums (A .at) 0 + cond (eqZ (signed (getD ids (A .at) 0)) a) m 0
+-- ---- the lines that count an object
 
-  added-long : length after ≡ 1024
-  added-long = ap length (A .is) ∙ length-set sums (A .at) put ∙ long
+-- what is added where one key is another
+abbrev plus : ℕ → ℕ → ℕ → ℕ
+plus m x key = cond (eqb x key) m 0
 
-  added-here : getD after (A .at) 0 ≡ put
-  added-here = ap (λ (l : List ℕ). getD l (A .at) 0) (A .is) ∙ getD-set-same sums (A .at) put 0 (omega (arith, A .inside, long))
+plus-few : (m x key : ℕ) → plus m x key ≤ m
+plus-few m x key = by (eqb x key)
+  where
+    by : (s : Bool) → cond s m 0 ≤ m
+    by true = omega arith
+    by false = omega arith
 
-  added-else : (j : ℕ) → (j ≡ A .at → ⊥) → getD after j 0 ≡ getD sums j 0
-  added-else j n = ap (λ (l : List ℕ). getD l j 0) (A .is) ∙ getD-set-other sums (A .at) j put 0 n
+pub added-small : {keys : List ℕ} {key m : ℕ} {sums after : List ℕ} → Added keys key m sums after → length sums ≡ 1024 → (j : ℕ) → j < 1024 → getD after j 0 ≤ getD sums j 0 + m
+added-small {keys} {key} {m} A l j h = omega (arith, A .is j l h, plus-few m (getD keys j 0) key)
 
-  more-small : (t : Bool) → cond t m 0 ≤ m
-  more-small true = omega arith
-  more-small false = omega arith
+hit : (m kind : ℕ) (a b : ℤ) → SFits w32 a → SFits w32 b → plus m (lineKey kind a) (lineKey kind b) ≡ cond (eqZ b a) m 0
+hit m kind a b f h = ap (λ (s : Bool). cond s m 0) (key-same kind a b f h ∙ eqZ-sym a b)
 
-  added-small : (j : ℕ) → getD after j 0 ≤ getD sums j 0 + m
-  added-small j = by (eqb (A .at) j) refl
+miss : (m k l : ℕ) (a b : ℤ) → SFits w32 a → SFits w32 b → (k ≡ l → ⊥) → plus m (lineKey k a) (lineKey l b) ≡ 0
+miss m k l a b f h n = ap (λ (s : Bool). cond s m 0) (key-apart k l a b f h n)
+
+module _ (o : Item) (t : SFits w32 (o .«type_id»)) (g : SFits w32 (o .«group_id»)) (m : ℕ) where
+  -- what is added to the line with key x for an object
+  abbrev all : ℕ → ℕ
+  all x = plus m x (lineKey 0 (o .«type_id»)) + plus m x (lineKey 1 (o .«group_id»)) + plus m x (lineKey 2 (o .«group_id»))
+
+  -- a key is of one kind
+  one : (x : ℕ) → all x ≤ m
+  one x = by (eqb x (lineKey 0 (o .«type_id»))) (eqb x (lineKey 1 (o .«group_id»))) (eqb x (lineKey 2 (o .«group_id»))) refl refl refl
     where
-      by : (t : Bool) → eqb (A .at) j ≡ t → getD after j 0 ≤ getD sums j 0 + m
-      by true e = subst (λ (x : ℕ). getD after x 0 ≤ getD sums x 0 + m) (eqb-true (A .at) j e) (omega (arith, added-here, more-small (eqZ (signed (getD ids (A .at) 0)) a)))
-      by false e = omega (arith, added-else j (λ s. eqb-false (A .at) j e (sym s)))
+      by : (p c n : Bool) → eqb x (lineKey 0 (o .«type_id»)) ≡ p → eqb x (lineKey 1 (o .«group_id»)) ≡ c → eqb x (lineKey 2 (o .«group_id»)) ≡ n → cond p m 0 + cond c m 0 + cond n m 0 ≤ m
+      by false false true e f h = omega arith
+      by false false false e f h = omega arith
+      by true false false e f h = omega arith
+      by false true false e f h = omega arith
+      by true true n e f h = absurd (omega (arith, eqb-true x (lineKey 0 (o .«type_id»)) e, eqb-true x (lineKey 1 (o .«group_id»)) f, rank-few (o .«type_id») t))
+      by true false true e f h = absurd (omega (arith, eqb-true x (lineKey 0 (o .«type_id»)) e, eqb-true x (lineKey 2 (o .«group_id»)) h, rank-few (o .«type_id») t))
+      by false true true e f h = absurd (omega (arith, eqb-true x (lineKey 1 (o .«group_id»)) f, eqb-true x (lineKey 2 (o .«group_id»)) h, rank-few (o .«group_id») g))
 
-  -- at every line: to the one with that id alone
-  added-at : (K : Keyed ids) (j : ℕ) → j < K .n → getD after j 0 ≡ getD sums j 0 + cond (eqZ (signed (getD ids j 0)) a) m 0
-  added-at K j h = by (eqb (A .at) j) refl
+  by-kind : (kind : ℕ) (a : ℤ) → kind ≤ 2 → SFits w32 a → all (lineKey kind a) ≡ cond (eqZ (keyOf kind o) a) m 0
+  by-kind zero a l f = omega (arith, hit m 0 a (o .«type_id») f t, miss m 0 1 a (o .«group_id») f g (λ e. omega (arith, e)), miss m 0 2 a (o .«group_id») f g (λ e. omega (arith, e)))
+  by-kind (suc zero) a l f = omega (arith, miss m 1 0 a (o .«type_id») f t (λ e. omega (arith, e)), hit m 1 a (o .«group_id») f g, miss m 1 2 a (o .«group_id») f g (λ e. omega (arith, e)))
+  by-kind (suc (suc zero)) a l f = omega (arith, miss m 2 0 a (o .«type_id») f t (λ e. omega (arith, e)), miss m 2 1 a (o .«group_id») f g (λ e. omega (arith, e)), hit m 2 a (o .«group_id») f g)
+  by-kind (suc (suc (suc kind))) a l f = absurd (omega arith)
+
+  module _ {keys s₀ s₁ s₂ s₃ : List ℕ} (A : Added keys (lineKey 0 (o .«type_id»)) m s₀ s₁) (B : Added keys (lineKey 1 (o .«group_id»)) m s₁ s₂) (C : Added keys (lineKey 2 (o .«group_id»)) m s₂ s₃) where
+    three : (j : ℕ) → length s₀ ≡ 1024 → j < 1024 → getD s₃ j 0 ≡ getD s₀ j 0 + all (getD keys j 0)
+    three j l h = omega (arith, A .is j l h, B .is j (A .long l) h, C .is j (B .long (A .long l)) h)
+
+    counted-all : Counted keys o m s₀ s₃
+    counted-all =
+        record {
+          long = λ l. C .long (B .long (A .long l));
+          small = λ j l h. omega (arith, three j l h, one (getD keys j 0));
+          is = λ j kind a l h k f e. three j l h ∙ ap (λ (x : ℕ). getD s₀ j 0 + x) (ap all e ∙ by-kind kind a k f);
+        }
+
+  -- by the keys as they were worked out
+  pub counted-by : {keys s₀ s₁ s₂ s₃ : List ℕ} {p c n : ℕ} → p ≡ lineKey 0 (o .«type_id») → c ≡ lineKey 1 (o .«group_id») → n ≡ lineKey 2 (o .«group_id»)
+      → Added keys p m s₀ s₁ → Added keys c m s₁ s₂ → Added keys n m s₂ s₃ → Counted keys o m s₀ s₃
+  counted-by {keys} {s₀} {s₁} {s₂} {s₃} e f h A B C =
+      counted-all (subst (λ (x : ℕ). Added keys x m s₀ s₁) e A) (subst (λ (x : ℕ). Added keys x m s₁ s₂) f B) (subst (λ (x : ℕ). Added keys x m s₂ s₃) h C)
+
+-- no line is of a kind outside the span: prices, caps, forbidden groups
+module _ {keys : List ℕ} {least most : ℕ} (S : Spanned keys least most) (a : ℤ) (f : SFits w32 a) {key : ℕ} where
+  before : (kind : ℕ) → key ≡ lineKey kind a → kind < least → (j : ℕ) → j < 1024 → eqb (getD keys j 0) key ≡ false
+  before kind q l j h = ne-eqb (getD keys j 0) key (λ e. omega (arith, e, q, S .from j h, rank-few a f))
+
+  behind : (kind : ℕ) → key ≡ lineKey kind a → kind ≤ 2 → most < kind → (j : ℕ) → j < 1024 → eqb (getD keys j 0) key ≡ false
+  behind kind q k l j h = ne-eqb (getD keys j 0) key (λ e. omega (arith, e, q, S .to j h (omega (arith, e, q, rank-few a f))))
+
+  pub no-price : key ≡ lineKey 0 a → leb least 0 ≡ false → (j : ℕ) → j < 1024 → eqb (getD keys j 0) key ≡ false
+  no-price q e = before 0 q (leb-false least 0 e)
+
+  pub no-cap : key ≡ lineKey 1 a → leb least 1 && leb 1 most ≡ false → (j : ℕ) → j < 1024 → eqb (getD keys j 0) key ≡ false
+  no-cap q e = by (true-or-false (leb least 1))
     where
-      apart : (A .at ≡ j → ⊥) → eqZ (signed (getD ids j 0)) a ≡ false
-      apart n = ⊎-elim (λ e. ltZ-apart (signed (getD ids j 0)) a (A .here .below j (ltb-true j (A .at) e))) (λ e. later (ltb-false j (A .at) e)) (true-or-false (ltb j (A .at)))
-        where
-          later : A .at ≤ j → eqZ (signed (getD ids j 0)) a ≡ false
-          later l = go (eq-or-lt-of-le {n = A .at} {m = j} l)
-            where
-              go : (A .at ≡ j) ⊎ (A .at < j) → eqZ (signed (getD ids j 0)) a ≡ false
-              go (inl q) = absurd (n q)
-              go (inr q) =
-                  let id = signed (getD ids (A .at) 0) in
-                  let own = signed (getD ids j 0) in
-                  eqZ-sym own a ∙ ltZ-apart a own (leZ-ltZ-trans a id own (ltZ-false id a (A .here .above (A .at) (omega arith) (omega (arith, A .inside, K .long)))) (K .rising (A .at) j q h))
+      by : (leb least 1 ≡ true) ⊎ (leb least 1 ≡ false) → (j : ℕ) → j < 1024 → eqb (getD keys j 0) key ≡ false
+      by (inl t) = behind 1 q (omega arith) (leb-false 1 most (sym (ap (λ (s : Bool). s && leb 1 most) t) ∙ e))
+      by (inr t) = before 1 q (leb-false least 1 t)
 
-      by : (t : Bool) → eqb (A .at) j ≡ t → getD after j 0 ≡ getD sums j 0 + cond (eqZ (signed (getD ids j 0)) a) m 0
-      by true e = subst (λ (x : ℕ). getD after x 0 ≡ getD sums x 0 + cond (eqZ (signed (getD ids x 0)) a) m 0) (eqb-true (A .at) j e) added-here
-      by false e =
-          added-else j (λ s. eqb-false (A .at) j e (sym s)) ∙ sym (add-zero (getD sums j 0))
-          ∙ ap (λ (t : Bool). getD sums j 0 + cond t m 0) (sym (apart (λ s. eqb-false (A .at) j e s)))
+  pub no-forbidden : key ≡ lineKey 2 a → leb 2 most ≡ false → (j : ℕ) → j < 1024 → eqb (getD keys j 0) key ≡ false
+  no-forbidden q e = behind 2 q (omega arith) (leb-false 2 most e)
+
+  pub key-below : (kind : ℕ) → key ≡ lineKey kind a → kind ≤ 3 → key < 18446744073709551615
+  key-below kind q l = omega (arith, q, rank-few a f)
 
 -- ---- summing
 
--- what an object is counted by, of a line that gives points and of any other
-pub key-type : (kind : ℕ) (o : Item) → kind ≡ 0 → o .«type_id» ≡ keyOf kind o
-key-type kind o e = sym (ap (λ (b : Bool). cond b (o .«type_id») (o .«group_id»)) (eq-eqb kind 0 e))
+module _ (k : Book) (f : Fit) (keys : List ℕ) where
+  -- whether a line of this kind and id counts an object
+  abbrev own : ℕ → ℤ → Item → Bool
+  own kind a o = counts k o && eqZ (keyOf kind o) a
 
-pub key-group : (kind : ℕ) (o : Item) → (kind ≡ 0 → ⊥) → o .«group_id» ≡ keyOf kind o
-key-group kind o e = sym (ap (λ (b : Bool). cond b (o .«type_id») (o .«group_id»)) (ne-eqb kind 0 e))
-
-module _ (k : Book) (f : Fit) (kind : ℕ) (ids : List ℕ) where
-  abbrev own : ℤ → Item → Bool
-  own a o = counts k o && eqZ (keyOf kind o) a
-
-  pub summed-none : Summed k f kind ids 0 (replicate 1024 0)
+  summed-none : Summed k f keys 0 (replicate 1024 0)
   summed-none =
       record {
         long = length-replicate {A = ℕ} 1024 0;
         small = λ j h. omega (arith, getD-replicate {A = ℕ} 1024 j 0 0 h);
         all = omega arith;
-        is = λ K j h. getD-replicate {A = ℕ} 1024 j 0 0 (omega (arith, K .few));
+        is = λ j kind a h l g e. getD-replicate {A = ℕ} 1024 j 0 0 h;
       }
 
-  module _ {i : ℕ} {sums : List ℕ} (S : Summed k f kind ids i sums) (h : i < length (f .objects)) {o : Item} (e : o ≡ object f i) {w : ℕ} (v : w ≡ cond (counts k o) (o .quantity) 0) (few : w ≤ 4294967295) where
+  pub summed-start : {sums : List ℕ} → sums ≡ replicate 1024 0 → Summed k f keys 0 sums
+  summed-start e = subst (Summed k f keys 0) (sym e) summed-none
+
+  module _ {i : ℕ} {sums : List ℕ} (S : Summed k f keys i sums) (h : i < length (f .objects)) {o : Item} (e : o ≡ object f i) {w : ℕ} (v : w ≡ cond (counts k o) (o .quantity) 0) (few : w ≤ 4294967295) where
     next : (p : Item → Bool) → total (λ o. o .quantity) (keep p (take (i + 1) (f .objects))) ≡ total (λ o. o .quantity) (keep p (take i (f .objects))) + cond (p o) (o .quantity) 0
     next p =
         total-next (λ o. o .quantity) p (f .objects) i noItem h
@@ -269,84 +422,61 @@ module _ (k : Book) (f : Fit) (kind : ℕ) (ids : List ℕ) where
     both false true q = refl
     both false false q = refl
 
-    own-next : (a : ℤ) → total (λ o. o .quantity) (keep (own a) (take (i + 1) (f .objects))) ≡ total (λ o. o .quantity) (keep (own a) (take i (f .objects))) + cond (eqZ (keyOf kind o) a) w 0
-    own-next a =
-        next (own a)
-        ∙ ap (λ (n : ℕ). total (λ o. o .quantity) (keep (own a) (take i (f .objects))) + n) (both (counts k o) (eqZ (keyOf kind o) a) (o .quantity) ∙ ap (λ (n : ℕ). cond (eqZ (keyOf kind o) a) n 0) (sym v))
+    own-next : (kind : ℕ) (a : ℤ) → total (λ o. o .quantity) (keep (own kind a) (take (i + 1) (f .objects))) ≡ total (λ o. o .quantity) (keep (own kind a) (take i (f .objects))) + cond (eqZ (keyOf kind o) a) w 0
+    own-next kind a =
+        next (own kind a)
+        ∙ ap (λ (n : ℕ). total (λ o. o .quantity) (keep (own kind a) (take i (f .objects))) + n) (both (counts k o) (eqZ (keyOf kind o) a) (o .quantity) ∙ ap (λ (n : ℕ). cond (eqZ (keyOf kind o) a) n 0) (sym v))
 
     none : (s : Bool) → w ≤ 0 → cond s w 0 ≡ 0
     none true z = omega arith
     none false z = refl
 
     -- one without pieces
-    pub summed-skip : w ≤ 0 → Summed k f kind ids (i + 1) sums
+    pub summed-skip : w ≤ 0 → Summed k f keys (i + 1) sums
     summed-skip z =
         record {
           long = S .long;
           small = λ j l. omega (arith, S .small j l);
           all = all-few;
-          is = λ K j l. S .is K j l ∙ sym (own-next (signed (getD ids j 0))
-              ∙ ap (λ (n : ℕ). total (λ o. o .quantity) (keep (own (signed (getD ids j 0))) (take i (f .objects))) + n) (none (eqZ (keyOf kind o) (signed (getD ids j 0))) z)
-              ∙ add-zero (total (λ o. o .quantity) (keep (own (signed (getD ids j 0))) (take i (f .objects)))));
+          is = λ j kind a l m g q. S .is j kind a l m g q ∙ sym (own-next kind a
+              ∙ ap (λ (n : ℕ). total (λ o. o .quantity) (keep (own kind a) (take i (f .objects))) + n) (none (eqZ (keyOf kind o) a) z)
+              ∙ add-zero (total (λ o. o .quantity) (keep (own kind a) (take i (f .objects)))));
         }
 
-    pub summed-more : {a : ℤ} {after : List ℕ} → a ≡ keyOf kind o → Added ids a w sums after → Summed k f kind ids (i + 1) after
-    summed-more {a} {after} q A =
+    pub summed-more : {after : List ℕ} → Counted keys o w sums after → Summed k f keys (i + 1) after
+    summed-more {after} C =
         record {
-          long = added-long A (S .long);
-          small = λ j l. omega (arith, S .small j l, added-small A (S .long) j, few);
+          long = C .long (S .long);
+          small = λ j l. omega (arith, S .small j l, C .small j (S .long) l, few);
           all = all-few;
-          is = λ K j l. added-at A (S .long) K j l ∙ ap (λ (n : ℕ). n + cond (eqZ (signed (getD ids j 0)) a) w 0) (S .is K j l)
-              ∙ ap (λ (s : Bool). total (λ o. o .quantity) (keep (own (signed (getD ids j 0))) (take i (f .objects))) + cond s w 0) (same (signed (getD ids j 0)))
-              ∙ sym (own-next (signed (getD ids j 0)));
+          is = λ j kind a l m g q. C .is j kind a (S .long) l m g q ∙ ap (λ (n : ℕ). n + cond (eqZ (keyOf kind o) a) w 0) (S .is j kind a l m g q) ∙ sym (own-next kind a);
         }
-      where
-        same : (z : ℤ) → eqZ z a ≡ eqZ (keyOf kind o) z
-        same z = eqZ-sym z a ∙ ap (λ (x : ℤ). eqZ x z) q
-
-pub summed-start : (k : Book) (f : Fit) (kind : ℕ) (ids : List ℕ) {sums : List ℕ} → sums ≡ replicate 1024 0 → Summed k f kind ids 0 sums
-summed-start k f kind ids e = subst (Summed k f kind ids 0) (sym e) (summed-none k f kind ids)
 
 -- ---- the sums of a block
 
-module _ (k : Book) (f : Fit) (ls : List Line) {first n : ℕ} {ids : List ℕ} (L : Laid ls first n ids) (some : 0 < n) where
-  abbrev Of : ℕ → Line
-  Of j = getD ls (first + j) (lineOf [])
+pub told-by : (k : Book) (f : Fit) (rows : List (List ℕ)) {first n : ℕ} {keys : List ℕ} → Laid (map lineOf rows) first n keys → 0 < n → Ordered (map lineOf rows)
+    → {m : ℕ} {sums : List ℕ} → length (f .objects) ≡ m → m ≤ 1024 → Summed k f keys m sums → Told (map lineOf rows) (counted k f) first n sums
+told-by k f rows {first} {n} {keys} L some O {m} {sums} l few S =
+    record {
+      some = some;
+      few = L .few;
+      inside = L .inside;
+      long = S .long;
+      small = λ j h. omega (arith, S .small j h);
+      all = λ j h q. omega (arith, S .all, whole (counts k));
+      told = λ j h q. S .is j (Of j .kind) (Of j .id) (omega (arith, L .few)) (counting j h q) (fits-at rows (inside rows L j h)) (L .are j h) ∙ whole (own k f keys (Of j .kind) (Of j .id))
+          ∙ ap (total (λ o. o .quantity)) (sym (keep-keep (λ o. eqZ (keyOf (Of j .kind) o) (Of j .id)) (counts k) (f .objects)));
+    }
+  where
+    Of : ℕ → Line
+    Of j = getD (map lineOf rows) (first + j) (lineOf [])
 
-  pub told-by : Ordered ls → {m kind : ℕ} {sums : List ℕ} → length (f .objects) ≡ m → m ≤ 1024 → kind ≡ getD ls first (lineOf []) .kind → Summed k f kind ids m sums → Told ls (counted k f) first n sums
-  unfolding laid-keyed
-  told-by O {m} {kind} {sums} l few e S =
-      record {
-        some = some;
-        few = L .few;
-        inside = L .inside;
-        long = S .long;
-        small = λ j h. omega (arith, S .small j h);
-        all = λ j h q. omega (arith, S .all, whole (counts k));
-        told = λ j h q. S .is (laid-keyed ls O L) j h ∙ whole (own k f kind ids (signed (getD ids j 0)))
-            ∙ ap (total (λ o. o .quantity)) (sym (keep-keep (λ o. eqZ (keyOf kind o) (signed (getD ids j 0))) (counts k) (f .objects)))
-            ∙ ap (piecesBy kind (counted k f)) (L .are j h) ∙ ap (λ (x : ℕ). piecesBy x (counted k f) (Of j .id)) (e ∙ sym (L .alike j h));
-      }
-    where
-      whole : (p : Item → Bool) → total (λ o. o .quantity) (keep p (take m (f .objects))) ≡ total (λ o. o .quantity) (keep p (f .objects))
-      whole p = ap (λ (xs : List Item). total (λ o. o .quantity) (keep p xs)) (take-all m (f .objects) (omega (arith, l)))
+    counting : (j : ℕ) → j < n → eqb (Of j .kind) 3 ≡ false → Of j .kind ≤ 2
+    counting j h q = by (eq-or-lt-of-le {n = Of j .kind} {m = 3} (O .known (first + j) (omega (arith, L .inside))))
+      where
+        by : (Of j .kind ≡ 3) ⊎ (Of j .kind < 3) → Of j .kind ≤ 2
+        by (inl e) = absurd (eqb-false (Of j .kind) 3 q e)
+        by (inr e) = omega arith
 
-  -- a total has none
-  pub told-none : {sums : List ℕ} → sums ≡ replicate 1024 0 → getD ls first (lineOf []) .kind ≡ 3 → Told ls (counted k f) first n sums
-  told-none {sums} z e =
-      record {
-        some = some;
-        few = L .few;
-        inside = L .inside;
-        long = ap length z ∙ length-replicate {A = ℕ} 1024 0;
-        small = λ j h. omega (arith, ap (λ (l : List ℕ). getD l j 0) z ∙ getD-replicate {A = ℕ} 1024 j 0 0 h);
-        all = λ j h q. both-ways (is-total j h) q;
-        told = λ j h q. both-ways (is-total j h) q;
-      }
-    where
-      is-total : (j : ℕ) → j < n → eqb (Of j .kind) 3 ≡ true
-      is-total j h = eq-eqb (Of j .kind) 3 (L .alike j h ∙ e)
-
--- a row's kind, as it was read
-pub kind-at : (rows : List (List ℕ)) {i : ℕ} → i < length rows → getD (getD rows i []) 0 0 ≡ getD (map lineOf rows) i (lineOf []) .kind
-kind-at rows {i} h = sym (ap (λ (x : Line). x .kind) (map-at lineOf rows i [] (lineOf []) h))
+    whole : (p : Item → Bool) → total (λ o. o .quantity) (keep p (take m (f .objects))) ≡ total (λ o. o .quantity) (keep p (f .objects))
+    whole p = ap (λ (xs : List Item). total (λ o. o .quantity) (keep p xs)) (take-all m (f .objects) (omega (arith, l)))

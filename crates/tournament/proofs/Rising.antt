@@ -1,4 +1,4 @@
--- A table without a bad line: its lines ascend strictly, and its points are at most 65,535.
+-- A table without a bad line: its lines ascend strictly, are of the four kinds, and its points are at most 65,535.
 use Prim.Native.Nat.{ℕ, zero, suc, _+_, _≤_, _<_}
 use native.Mathlib.Nat.{not-suc-le-zero, le-of-suc-le-suc}
 use native.Mathlib.Omega.{arith}
@@ -47,6 +47,14 @@ rises-on : (last : Option Line) (b c : Line) → standsAfter last b ≡ true →
 rises-on none b c h q = refl
 rises-on (some a) b c h q = of-rise a c (rise-on a b c (rise-of a b h) (rise-of b c q))
 
+-- the kind of a good line
+known-line : (l : Line) → lineGood l ≡ true → l .kind ≤ 3
+known-line l g =
+    let known = leb (l .kind) 3 in
+    let priced = not (eqb (l .kind) 0) || leb (l .number) 65535 in
+    let one = not (eqb (l .kind) 3) || eqZ (l .id) (pos 0) in
+    leb-true (l .kind) 3 (and-left known priced (and-left (known && priced) one g))
+
 -- points of a good line
 cheap-line : (l : Line) → lineGood l ≡ true → l .kind ≡ 0 → l .number ≤ 65535
 cheap-line l g e =
@@ -78,7 +86,7 @@ module _ (i : ℕ) (last : Option Line) (l : Line) (r : List Line) where
   one-more g A =
       record {
         after = after;
-        ordered = record { rising = rising; cheap = cheap };
+        ordered = record { rising = rising; known = known; cheap = cheap };
       }
     where
       stands : standsAfter last l ≡ true
@@ -93,6 +101,10 @@ module _ (i : ℕ) (last : Option Line) (l : Line) (r : List Line) where
       rising zero (suc j) h k = A .after j (le-of-suc-le-suc k)
       rising (suc m) (suc j) h k = A .ordered .rising m j (le-of-suc-le-suc h) (le-of-suc-le-suc k)
 
+      known : (j : ℕ) → j < suc (length r) → getD (l ∷ r) j (lineOf []) .kind ≤ 3
+      known zero h = known-line l (and-right (standsAfter last l) (lineGood l) g)
+      known (suc j) h = A .ordered .known j (le-of-suc-le-suc h)
+
       cheap : (j : ℕ) → j < suc (length r) → getD (l ∷ r) j (lineOf []) .kind ≡ 0 → getD (l ∷ r) j (lineOf []) .number ≤ 65535
       cheap zero h e = cheap-line l (and-right (standsAfter last l) (lineGood l) g) e
       cheap (suc j) h e = A .ordered .cheap j (le-of-suc-le-suc h) e
@@ -101,7 +113,7 @@ good-after : (i : ℕ) (last : Option Line) (r : List Line) → badFrom i last r
 good-after i last [] n =
     record {
       after = λ j h. absurd (not-suc-le-zero h);
-      ordered = record { rising = λ m j h k. absurd (not-suc-le-zero k); cheap = λ j h e. absurd (not-suc-le-zero h) };
+      ordered = record { rising = λ m j h k. absurd (not-suc-le-zero k); known = λ j h. absurd (not-suc-le-zero h); cheap = λ j h e. absurd (not-suc-le-zero h) };
     }
 good-after i last (l ∷ r) n =
     let g = good-one i last l r n in

@@ -7,6 +7,7 @@ use numbers::integers::signed;
 use shape::Shaped;
 use shape::shape;
 use tallies::PLACES;
+use tallies::RULE_FORBIDDEN;
 use tallies::RULE_ID;
 use tallies::RULE_KIND;
 use tallies::RULE_NUMBER;
@@ -30,9 +31,6 @@ ghost use Rattle.tallies.specs.Tallies as tallied;
 ghost use Rattle.tallies.specs.Blocks.{Ordered, Told};
 ghost use Rattle.tournament.specs.Tournament as rule;
 ghost use Rattle.tournament.specs.Answered.{badLine, verdictOf, answerOf, lineBefore, Reached, Passed};
-
-// The kind of a line that forbids a group.
-const RULE_FORBIDDEN: u32 = 2;
 
 // The most points of one piece.
 const MOST_POINTS: u32 = 65535;

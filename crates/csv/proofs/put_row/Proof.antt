@@ -6,7 +6,7 @@ use Rattle.csv.proofs.put_row.Tie as tie
 use Rattle.csv.proofs.put_row.Reads as reads
 use Rattle.csv.proofs.put_row.Lts as lts
 use Rattle.csv.proofs.fields.put_record.Reads as put-record-reads
-use Rattle.csv.proofs.labels.part_of.Reads as part-of-reads
+use Rattle.csv.proofs.labels.part_at.Reads as part-at-reads
 use Rattle.csv.proofs.put_fitting.Reads as put-fitting-reads
 use Rattle.numbers.proofs.integers.signed.Reads as signed-reads
 use native.Mathlib.Omega.{arith}
@@ -26,8 +26,8 @@ array-read-signed c = search needs
 signed-requires : tie.Need-signed-requires
 signed-requires c κs = search needs
 
-part-of-requires : tie.Need-part-of-requires
-part-of-requires c κs = c .before .before .before .before .pre .1 .1
+part-at-requires : tie.Need-part-at-requires
+part-at-requires c κs = c .before .before .before .before .pre .1 .1
 
 add-end : tie.Need-add-end
 add-end c = search needs
@@ -63,7 +63,7 @@ same-length-2 : tie.Need-same-length-2
 same-length-2 c = search needs
 
 returns : tie.Need-returns
-returns c = added-as (c .before .before .put-fitting .result) (c .before .before .before .before .before .before .before .before .before .before .before .before .before .before .before .before .args .text .now) (c .before .before .put-fitting .last .0) (c .before .before .before .before .before .before .before .before .before .before .before .before .before .before .before .before .args .at) ((begun _ (c .before .before .before .before .before .before .before .before .before .before .before .before .before .before .before .before .args .line .now) (omega (arith, c .before .before .before .before .before .before .before .put-record .ensures .1, c .before .before .before .before .before .before .before .before .before .before .before .before .before .before .before .before .pre .1 .0)) (c .before .before .before .before .before .before .before .put-record .ensures .0)) .first ∙ row-as (labelsOf (c .before .before .before .before .before .before .before .before .before .before .before .before .before .before .before .before .args .label-bytes .now) (c .before .before .before .before .before .before .before .before .before .before .before .before .before .before .before .before .args .labels .now)) (getD (c .before .before .before .before .before .before .before .before .before .before .before .before .before .before .before .before .args .t4) 0 0) (c .before .before .before .before .before .before .before .before .before .before .before .before .before .before .before .before .args .value) (ap (toZ w32) (c .before .before .before .before .before .before .before .before .before .before .before .before .signed .ensures .1)) (span-read (c .before .before .before .before .before .before .before .before .before .before .before .part-of .result .first) (c .before .before .before .before .before .before .before .before .before .before .before .part-of .result .count) (c .before .before .before .before .before .before .before .before .before .before .before .before .before .before .before .before .args .label-bytes .now) ∙ c .before .before .before .before .before .before .before .before .before .before .before .part-of .ensures .0)) (c .before .before .put-fitting .ensures)
+returns c = added-as (c .before .before .put-fitting .result) (c .before .before .before .before .before .before .before .before .before .before .before .before .before .before .before .before .args .text .now) (c .before .before .put-fitting .last .0) (c .before .before .before .before .before .before .before .before .before .before .before .before .before .before .before .before .args .at) ((begun _ (c .before .before .before .before .before .before .before .before .before .before .before .before .before .before .before .before .args .line .now) (omega (arith, c .before .before .before .before .before .before .before .put-record .ensures .1, c .before .before .before .before .before .before .before .before .before .before .before .before .before .before .before .before .pre .1 .0)) (c .before .before .before .before .before .before .before .put-record .ensures .0)) .first ∙ row-as (labelsOf (c .before .before .before .before .before .before .before .before .before .before .before .before .before .before .before .before .args .label-bytes .now) (c .before .before .before .before .before .before .before .before .before .before .before .before .before .before .before .before .args .labels .now)) (getD (c .before .before .before .before .before .before .before .before .before .before .before .before .before .before .before .before .args .t4) 0 0) (c .before .before .before .before .before .before .before .before .before .before .before .before .before .before .before .before .args .value) (ap (toZ w32) (c .before .before .before .before .before .before .before .before .before .before .before .before .signed .ensures .1)) (span-read (c .before .before .before .before .before .before .before .before .before .before .before .part-at .result .first) (c .before .before .before .before .before .before .before .before .before .before .before .part-at .result .count) (c .before .before .before .before .before .before .before .before .before .before .before .before .before .before .before .before .args .label-bytes .now) ∙ c .before .before .before .before .before .before .before .before .before .before .before .part-at .ensures .0)) (c .before .before .put-fitting .ensures)
 
 pub put-row-spec : {M : Type 1} → statement M
 put-row-spec =
@@ -71,7 +71,7 @@ put-row-spec =
     (tie.spec
     array-read-signed
     signed-requires
-    part-of-requires
+    part-at-requires
     add-end
     array-read-put-record
     sub-put-record

@@ -11,7 +11,7 @@ use native.Mathlib.Omega.{arith}
 use mathlib.Core.Path.{_≡_, sym, ap, _∙_}
 use Rattle.laws.specs.Lists.{every?}
 use Rattle.csv.specs.Labels.{allowed}
-use Rattle.csv.proofs.Judging.{too-long, outside, by-bytes, bytes-read}
+use Rattle.csv.proofs.Judging.{too-long, outside, by-bytes, bytes-read, all-clean}
 
 array-read-index : tie.Need-array-read-index
 array-read-index c = search needs
@@ -34,6 +34,9 @@ add-end c = search needs
 returns-2 : tie.Need-returns-2
 returns-2 c = outside (c .before .before .before .before .before .args .bytes .now) (c .before .before .before .before .before .args .t1) (omega (arith, c .before .if1 .left, c .before .before .index2 .ensures .0)) (omega (arith, c .if2 .taken, c .before .before .before .index .ensures .0, c .before .before .index2 .ensures .0))
 
+returns-3 : tie.Need-returns-3
+returns-3 c = by-bytes (c .before .before .before .before .before .before .args .bytes .now) (c .before .before .before .before .before .before .args .t1) (omega (arith, c .before .before .if1 .left, c .before .before .before .index2 .ensures .0)) (omega (arith, c .before .if2 .left, c .before .before .before .before .index .ensures .0, c .before .before .before .index2 .ensures .0)) (all-clean (c .before .before .before .before .before .before .args .bytes .now) (c .before .before .before .before .before .before .args .t1) (c .before .before .before .before .before .before .pre (c .if3 .taken)))
+
 sub-all-allowed : tie.Need-sub-all-allowed
 sub-all-allowed c = search needs
 
@@ -46,8 +49,8 @@ part-all-allowed-end c = search needs
 all-allowed-requires : tie.Need-all-allowed-requires
 all-allowed-requires c κs = search needs
 
-returns-3 : tie.Need-returns-3
-returns-3 c = by-bytes (c .before .before .before .before .before .before .before .args .bytes .now) (c .before .before .before .before .before .before .before .args .t1) (omega (arith, c .before .before .before .if1 .left, c .before .before .before .before .index2 .ensures .0)) (omega (arith, c .before .before .if2 .left, c .before .before .before .before .before .index .ensures .0, c .before .before .before .before .index2 .ensures .0)) (c .all-allowed .ensures ∙ ap (every? allowed) (bytes-read (c .before .before .before .before .before .before .before .args .bytes .now) (c .before .before .before .before .before .before .before .args .t1) (c .before .before .before .before .before .index .ensures .0) (c .before .before .before .before .index2 .ensures .0)))
+returns-4 : tie.Need-returns-4
+returns-4 c = by-bytes (c .before .before .before .before .before .before .before .before .args .bytes .now) (c .before .before .before .before .before .before .before .before .args .t1) (omega (arith, c .before .before .before .before .if1 .left, c .before .before .before .before .before .index2 .ensures .0)) (omega (arith, c .before .before .before .if2 .left, c .before .before .before .before .before .before .index .ensures .0, c .before .before .before .before .before .index2 .ensures .0)) (c .all-allowed .ensures ∙ ap (every? allowed) (bytes-read (c .before .before .before .before .before .before .before .before .args .bytes .now) (c .before .before .before .before .before .before .before .before .args .t1) (c .before .before .before .before .before .before .index .ensures .0) (c .before .before .before .before .before .index2 .ensures .0)))
 
 pub label-good-spec : {M : Type 1} → statement M
 label-good-spec =
@@ -60,8 +63,9 @@ label-good-spec =
     returns
     add-end
     returns-2
+    returns-3
     sub-all-allowed
     part-all-allowed-start
     part-all-allowed-end
     all-allowed-requires
-    returns-3)
+    returns-4)
