@@ -1,5 +1,5 @@
 // The effects of an object: its type's own, then its base's (pass_2.rs, the inside of collection).
-use super::collecting::collect_modifiers;
+use super::collecting::collect_own;
 use super::uses::is_used;
 use columns::CollectedRow;
 use columns::EffectPlaces;
@@ -12,7 +12,6 @@ use item::CategoryFound;
 use item::codes::category_at;
 use item::kinds::mutated;
 use item::states::category_on;
-use modifier::causes::Cause;
 use modifier::codes::Owner;
 use modifier::moves::CollectedRooms;
 use modifier::moves::Counted;
@@ -67,8 +66,7 @@ fn collect_found(
                 if e.modifiers == 0 {
                     return push_plain(plain, rooms, used, used_plain, o.number, e.id);
                 }
-                let cause = Cause::Own(w, e, on);
-                return collect_modifiers(
+                return collect_own(
                     collected,
                     collected_values,
                     book,
@@ -76,9 +74,9 @@ fn collect_found(
                     rooms,
                     used,
                     used_plain,
-                    cause,
-                    e.first_modifier,
-                    e.modifiers,
+                    w,
+                    e,
+                    on,
                 );
             }
             Counted::At(used, used_plain)

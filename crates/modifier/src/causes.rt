@@ -84,7 +84,7 @@ fn effect_of(
 }
 
 // An own modifier: func, operation, item without charge, ship domain skipped, target domain.
-fn own_move(w: Owner, e: DogmaEffect, category: EffectCategory, m: DogmaModifier) -> Moved
+pub fn own_move(w: Owner, e: DogmaEffect, category: EffectCategory, m: DogmaModifier) -> Moved
     ensures defined { λ r. ⌜ ((k : Book) (f : Fit) → OwnerOf f w → movesOf r ≡ modifierMoves k f (w .item) e category m) ⌝ }
 {
     let o = w.item;

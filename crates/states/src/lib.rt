@@ -13,6 +13,7 @@ use info::look_ups::TypeEffects;
 use info::look_ups::get_base;
 use info::look_ups::get_dogma_effect;
 use info::look_ups::get_dogma_effects;
+use info::records::effect;
 use info::records::object;
 use info::records::type_effect;
 use item::categories::categories_of;
@@ -23,16 +24,18 @@ use item::kinds::mutated;
 use item::locations::Categories;
 use item::locations::is_on_char;
 use item::locations::is_passed;
+use item::locations::is_rig;
 use item::locations::is_subsystem;
 use item::states::raises_to;
+use numbers::integers::bits;
 use rules::ATTRIBUTE_CAPACITOR_NEED_ID;
 use rules::CATEGORY_STRUCTURE;
 use rules::Item;
 use rules::TypeDogmaEffect;
 ghost use mathlib.Core.Path.{_≡_};
-ghost use mathlib.Core.Bool.{_&&_, _||_, cond};
+ghost use mathlib.Core.Bool.{true, _&&_, _||_, cond};
 ghost use mathlib.Core.List.{[]};
-ghost use lib.ListN.{getD};
+ghost use lib.ListN.{length, getD};
 ghost use Prim.Native.Nat.{_+_, _-_, _≤_, _<_, max, min};
 ghost use Rattle.laws.specs.Lists.{span};
 ghost use Rattle.rules.specs.Bytes.{countOf};
@@ -45,7 +48,13 @@ ghost use Rattle.info.specs.LookUps.{Stretch};
 ghost use Rattle.info.specs.declared.look_ups.TypeEffects.{TypeEffects};
 ghost use Rattle.info.specs.Sound.{HeldBook, HeldFit, SoundBook, SoundFit};
 ghost use Rattle.item.specs.Categories.{CategoriesOf};
+ghost use Rattle.states.specs.Marked.{EffectsMarked, TypesMarked};
 ghost use Rattle.states.specs.Raised.{among, both, reachOn, Turn, turnsAt, reachedOf, ableOf, ObjectOf, rowsOf};
+
+// Marks by ids modulo 1,024: of effects that can raise a max state, of types that have one.
+const RAISE_MARKS: usize = 1024;
+
+type RaiseMarks = [u8; RAISE_MARKS];
 
 // The higher of two states.
 pub fn higher(a: u32, b: u32) -> u32
@@ -223,11 +232,78 @@ pub fn is_doubled(
     has_effect(book, pairs, own.first, own.count, t)
 }
 
+// Marks the effects that can raise the max state of an object that is no rig.
+fn mark_effects(marks: &mut RaiseMarks, book: &[u8], pairs: &TablePairs)
+    requires even { ⌜ length (now marks) ≡ 1024 ⌝ }
+    requires held_book { ⌜ HeldBook (now book) (now pairs) ⌝ }
+    ensures marked { λ _. ⌜ EffectsMarked (bookAt book pairs) (now (marks .exit)) ⌝ }
+{
+    let n = count_of(pairs, 2);
+    let mut i = 0;
+    while i < n {
+        let e = effect(book, pairs, i);
+        let at = index(bits(e.id) % 1024);
+        i += 1;
+        // Online, Active, Overload
+        if e.category != 0 {
+            if e.category < 4 {
+                marks[at] = 1;
+            }
+        }
+    }
+}
+
+// Marks the types that have such an effect.
+fn mark_types(marks: &mut RaiseMarks, raising: &RaiseMarks, book: &[u8], pairs: &TablePairs)
+    requires even { ⌜ length (now marks) ≡ 1024 ⌝ }
+    requires held_book { ⌜ HeldBook (now book) (now pairs) ⌝ }
+    requires raising { ⌜ EffectsMarked (bookOf (now book) (now pairs)) (now raising) ⌝ }
+    ensures marked { λ _. ⌜ TypesMarked (bookAt book pairs) (now (marks .exit)) ⌝ }
+{
+    let n = count_of(pairs, 4);
+    let mut i = 0;
+    while i < n {
+        let t = type_effect(book, pairs, i);
+        let by = index(bits(t.effect_id) % 1024);
+        let at = index(bits(t.type_id) % 1024);
+        let raises = raising[by];
+        i += 1;
+        if raises != 0 {
+            marks[at] = 1;
+        }
+    }
+}
+
+// Whether no effect of an object can raise it: its type is not marked, it was not mutated, and it is no rig.
+fn is_settled(marks: &RaiseMarks, o: Item) -> bool
+    ensures settled { λ r. ⌜ ((k : Book) → TypesMarked k (now (marks .entry)) → r ≡ true → reachedOf k o ≡ o .«max_state») ⌝ }
+{
+    if mutated(o) {
+        return false;
+    }
+    if is_rig(o) {
+        return false;
+    }
+    let mark = marks[index(bits(o.type_id) % 1024)];
+    mark == 0
+}
+
 // The max state that all its effects raise an object to: its own type's, then its base's that the type lacks.
-fn reached(book: &[u8], pairs: &TablePairs, places: &EffectPlaces, o: Item) -> u32
+fn reached(
+    book: &[u8],
+    pairs: &TablePairs,
+    places: &EffectPlaces,
+    marks: &RaiseMarks,
+    o: Item,
+) -> u32
     requires sound_book { ⌜ SoundBook (now book) (now pairs) ⌝ }
+    requires marked { ⌜ TypesMarked (bookOf (now book) (now pairs)) (now marks) ⌝ }
     ensures defined { λ r. ⌜ r ≡ reachedOf (bookAt book pairs) o ⌝ }
 {
+    let settled = is_settled(marks, o);
+    if settled {
+        return o.max_state;
+    }
     let own = get_dogma_effects(book, pairs, places, o.type_id);
     let base = base_effects(book, pairs, places, mutated(o), o.mutation_base);
     let total = own.count + base.count;
@@ -246,13 +322,21 @@ fn reached(book: &[u8], pairs: &TablePairs, places: &EffectPlaces, o: Item) -> u
 }
 
 // With attribute 6 it can be Active.
-fn able(book: &[u8], fit: &[u8], pairs: &TablePairs, places: &EffectPlaces, o: Item) -> u32
+fn able(
+    book: &[u8],
+    fit: &[u8],
+    pairs: &TablePairs,
+    places: &EffectPlaces,
+    marks: &RaiseMarks,
+    o: Item,
+) -> u32
     requires sound_book { ⌜ SoundBook (now book) (now pairs) ⌝ }
     requires sound_fit { ⌜ SoundFit (now fit) (now pairs) ⌝ }
+    requires marked { ⌜ TypesMarked (bookOf (now book) (now pairs)) (now marks) ⌝ }
     requires an_object { ⌜ ObjectOf (fitOf (now fit) (now pairs)) o ⌝ }
     ensures defined { λ r. ⌜ r ≡ ableOf (bookAt book pairs) (fitAt fit pairs) o ⌝ }
 {
-    let top = reached(book, pairs, places, o);
+    let top = reached(book, pairs, places, marks, o);
     let found = get_base(fit, pairs, o, ATTRIBUTE_CAPACITOR_NEED_ID);
     match found {
         FoundBase::At(_) => higher(top, 2),
@@ -266,12 +350,14 @@ fn states_of(
     fit: &[u8],
     pairs: &TablePairs,
     places: &EffectPlaces,
+    marks: &RaiseMarks,
     c: Categories,
     structure: bool,
     o: Item,
 ) -> StateRow
     requires sound_book { ⌜ SoundBook (now book) (now pairs) ⌝ }
     requires sound_fit { ⌜ SoundFit (now fit) (now pairs) ⌝ }
+    requires marked { ⌜ TypesMarked (bookOf (now book) (now pairs)) (now marks) ⌝ }
     requires the_categories { ⌜ CategoriesOf (bookOf (now book) (now pairs)) c ⌝ }
     requires structure { ⌜ structure ≡ structureFit (fitOf (now fit) (now pairs)) ⌝ }
     requires an_object { ⌜ ObjectOf (fitOf (now fit) (now pairs)) o ⌝ }
@@ -286,7 +372,7 @@ fn states_of(
     if is_passed_over(fit, pairs, c, structure, o) {
         return [o.state, o.max_state];
     }
-    let top = able(book, fit, pairs, places, o);
+    let top = able(book, fit, pairs, places, marks, o);
     collected_states(o, top)
 }
 
@@ -304,6 +390,10 @@ pub fn correct_states(
 {
     let c = categories_of(book, pairs);
     let structure = is_structure_fit(fit, pairs);
+    let mut raising = [0u8; RAISE_MARKS];
+    mark_effects(&mut raising, book, pairs);
+    let mut marks = [0u8; RAISE_MARKS];
+    mark_types(&mut marks, &raising, book, pairs);
     let n = count_of(pairs, 6);
     let zeros = [0u32; STATE_WIDTH];
     let blank = [zeros; OBJECTS];
@@ -311,7 +401,7 @@ pub fn correct_states(
     let mut i = 0;
     while i < n {
         let o = object(fit, pairs, i);
-        let row = states_of(book, fit, pairs, places, c, structure, o);
+        let row = states_of(book, fit, pairs, places, &marks, c, structure, o);
         states[i] = row;
         i += 1;
     }

@@ -15,10 +15,10 @@ use Rattle.info.proofs.Bases.{based}
 use Rattle.rules.specs.Sheet.{bookOf, fitOf}
 
 reached-requires : tie.Need-reached-requires
-reached-requires c κs = search needs
+reached-requires c κs = (c .before .before .pre .0, c .before .before .pre .1 .1 .0)
 
 get-base-requires : tie.Need-get-base-requires
-get-base-requires c κs = (c .before .before .before .pre .1 .0 .held, based (c .before .before .before .args .fit .now) (c .before .before .before .args .pairs .now) (c .before .before .before .args .o) (c .before .before .before .args .o .number) (c .before .before .before .pre .1 .0) (number-inside (c .before .before .before .args .fit .now) (c .before .before .before .args .pairs .now) (c .before .before .before .args .o) (c .before .before .before .pre .1 .1)) (c .before .before .before .pre .1 .1 .at))
+get-base-requires c κs = (c .before .before .before .pre .1 .0 .held, based (c .before .before .before .args .fit .now) (c .before .before .before .args .pairs .now) (c .before .before .before .args .o) (c .before .before .before .args .o .number) (c .before .before .before .pre .1 .0) (number-inside (c .before .before .before .args .fit .now) (c .before .before .before .args .pairs .now) (c .before .before .before .args .o) (c .before .before .before .pre .1 .1 .1)) (c .before .before .before .pre .1 .1 .1 .at))
 
 enum-told : tie.Need-enum-told
 enum-told c = search needs

@@ -28,22 +28,22 @@ is-on-char-requires : tie.Need-is-on-char-requires
 is-on-char-requires c κs = search needs
 
 returns-2 : tie.Need-returns-2
-returns-2 c = stands-off (bookOf (c .before .before .before .before .before .before .before .args .book .now) (c .before .before .before .before .before .before .before .args .pairs .now)) (fitOf (c .before .before .before .before .before .before .before .args .fit .now) (c .before .before .before .before .before .before .before .args .pairs .now)) (c .before .before .before .before .before .before .before .args .o) (sym (c .before .before .before .before .is-projected .ensures) ∙ c .before .before .before .if1 .left) (sym (three (c .before .before .is-item .ensures) (c .before .before .before .before .before .before .before .pre .1 .1 .1 .0) (c .before .is-on-char .ensures)) ∙ c .if2 .taken)
+returns-2 c = stands-off (bookOf (c .before .before .before .before .before .before .before .args .book .now) (c .before .before .before .before .before .before .before .args .pairs .now)) (fitOf (c .before .before .before .before .before .before .before .args .fit .now) (c .before .before .before .before .before .before .before .args .pairs .now)) (c .before .before .before .before .before .before .before .args .o) (sym (c .before .before .before .before .is-projected .ensures) ∙ c .before .before .before .if1 .left) (sym (three (c .before .before .is-item .ensures) (c .before .before .before .before .before .before .before .pre .1 .1 .1 .1 .0) (c .before .is-on-char .ensures)) ∙ c .if2 .taken)
 
 is-passed-over-requires : tie.Need-is-passed-over-requires
-is-passed-over-requires c κs = (c .before .before .before .before .before .before .before .pre .1 .0 .held, (number-inside _ _ _ (c .before .before .before .before .before .before .before .pre .1 .1 .1 .1), c .before .before .before .before .before .before .before .pre .1 .1 .1 .0))
+is-passed-over-requires c κs = (c .before .before .before .before .before .before .before .pre .1 .0 .held, (number-inside _ _ _ (c .before .before .before .before .before .before .before .pre .1 .1 .1 .1 .1), c .before .before .before .before .before .before .before .pre .1 .1 .1 .1 .0))
 
 returns-3 : tie.Need-returns-3
-returns-3 c = stands-over (bookOf (c .before .before .before .before .before .before .before .before .before .args .book .now) (c .before .before .before .before .before .before .before .before .before .args .pairs .now)) (fitOf (c .before .before .before .before .before .before .before .before .before .args .fit .now) (c .before .before .before .before .before .before .before .before .before .args .pairs .now)) (c .before .before .before .before .before .before .before .before .before .args .o) (sym (c .before .before .before .before .before .before .is-projected .ensures) ∙ c .before .before .before .before .before .if1 .left) (sym (three (c .before .before .before .before .is-item .ensures) (c .before .before .before .before .before .before .before .before .before .pre .1 .1 .1 .0) (c .before .before .before .is-on-char .ensures)) ∙ c .before .before .if2 .left) (sym (c .before .is-passed-over .ensures (bookOf (c .before .before .before .before .before .before .before .before .before .args .book .now) (c .before .before .before .before .before .before .before .before .before .args .pairs .now)) (c .before .before .before .before .before .before .before .before .before .pre .1 .1 .0)) ∙ c .if3 .taken)
+returns-3 c = stands-over (bookOf (c .before .before .before .before .before .before .before .before .before .args .book .now) (c .before .before .before .before .before .before .before .before .before .args .pairs .now)) (fitOf (c .before .before .before .before .before .before .before .before .before .args .fit .now) (c .before .before .before .before .before .before .before .before .before .args .pairs .now)) (c .before .before .before .before .before .before .before .before .before .args .o) (sym (c .before .before .before .before .before .before .is-projected .ensures) ∙ c .before .before .before .before .before .if1 .left) (sym (three (c .before .before .before .before .is-item .ensures) (c .before .before .before .before .before .before .before .before .before .pre .1 .1 .1 .1 .0) (c .before .before .before .is-on-char .ensures)) ∙ c .before .before .if2 .left) (sym (c .before .is-passed-over .ensures (bookOf (c .before .before .before .before .before .before .before .before .before .args .book .now) (c .before .before .before .before .before .before .before .before .before .args .pairs .now)) (c .before .before .before .before .before .before .before .before .before .pre .1 .1 .1 .0)) ∙ c .if3 .taken)
 
 able-requires : tie.Need-able-requires
-able-requires c κs = (c .before .before .before .before .before .before .before .before .before .pre .0, (c .before .before .before .before .before .before .before .before .before .pre .1 .0, c .before .before .before .before .before .before .before .before .before .pre .1 .1 .1 .1))
+able-requires c κs = (c .before .before .before .before .before .before .before .before .before .pre .0, (c .before .before .before .before .before .before .before .before .before .pre .1 .0, (c .before .before .before .before .before .before .before .before .before .pre .1 .1 .0, c .before .before .before .before .before .before .before .before .before .pre .1 .1 .1 .1 .1)))
 
 collected-states-requires : tie.Need-collected-states-requires
 collected-states-requires c κs = search needs
 
 returns-4 : tie.Need-returns-4
-returns-4 c = stands-collected (bookOf (c .before .before .before .before .before .before .before .before .before .before .before .args .book .now) (c .before .before .before .before .before .before .before .before .before .before .before .args .pairs .now)) (fitOf (c .before .before .before .before .before .before .before .before .before .before .before .args .fit .now) (c .before .before .before .before .before .before .before .before .before .before .before .args .pairs .now)) (c .before .before .before .before .before .before .before .before .before .before .before .args .o) (sym (c .before .before .before .before .before .before .before .before .is-projected .ensures) ∙ c .before .before .before .before .before .before .before .if1 .left) (sym (three (c .before .before .before .before .before .before .is-item .ensures) (c .before .before .before .before .before .before .before .before .before .before .before .pre .1 .1 .1 .0) (c .before .before .before .before .before .is-on-char .ensures)) ∙ c .before .before .before .before .if2 .left) (sym (c .before .before .before .is-passed-over .ensures (bookOf (c .before .before .before .before .before .before .before .before .before .before .before .args .book .now) (c .before .before .before .before .before .before .before .before .before .before .before .args .pairs .now)) (c .before .before .before .before .before .before .before .before .before .before .before .pre .1 .1 .0)) ∙ c .before .before .if3 .left) (c .collected-states .ensures (bookOf (c .before .before .before .before .before .before .before .before .before .before .before .args .book .now) (c .before .before .before .before .before .before .before .before .before .before .before .args .pairs .now)) (fitOf (c .before .before .before .before .before .before .before .before .before .before .before .args .fit .now) (c .before .before .before .before .before .before .before .before .before .before .before .args .pairs .now)) (c .before .able .ensures))
+returns-4 c = stands-collected (bookOf (c .before .before .before .before .before .before .before .before .before .before .before .args .book .now) (c .before .before .before .before .before .before .before .before .before .before .before .args .pairs .now)) (fitOf (c .before .before .before .before .before .before .before .before .before .before .before .args .fit .now) (c .before .before .before .before .before .before .before .before .before .before .before .args .pairs .now)) (c .before .before .before .before .before .before .before .before .before .before .before .args .o) (sym (c .before .before .before .before .before .before .before .before .is-projected .ensures) ∙ c .before .before .before .before .before .before .before .if1 .left) (sym (three (c .before .before .before .before .before .before .is-item .ensures) (c .before .before .before .before .before .before .before .before .before .before .before .pre .1 .1 .1 .1 .0) (c .before .before .before .before .before .is-on-char .ensures)) ∙ c .before .before .before .before .if2 .left) (sym (c .before .before .before .is-passed-over .ensures (bookOf (c .before .before .before .before .before .before .before .before .before .before .before .args .book .now) (c .before .before .before .before .before .before .before .before .before .before .before .args .pairs .now)) (c .before .before .before .before .before .before .before .before .before .before .before .pre .1 .1 .1 .0)) ∙ c .before .before .if3 .left) (c .collected-states .ensures (bookOf (c .before .before .before .before .before .before .before .before .before .before .before .args .book .now) (c .before .before .before .before .before .before .before .before .before .before .before .args .pairs .now)) (fitOf (c .before .before .before .before .before .before .before .before .before .before .before .args .fit .now) (c .before .before .before .before .before .before .before .before .before .before .before .args .pairs .now)) (c .before .able .ensures))
 
 pub states-of-spec : {M : Type 1} → statement M
 states-of-spec =
