@@ -6,7 +6,7 @@ use mathlib.Core.Bool.{Bool, true, false, not, _&&_, _||_, cond}
 use mathlib.Core.List.{List}
 use lib.Dec.{eqb, leb, ltb}
 use lib.ListN.{length, getD}
-use borrow.Author.Tests.{eqb-true, eq-eqb, ne-eqb, leb-true, ltb-true, le-leb, lt-ltb, le-ltb}
+use borrow.Author.Tests.{eqb-true, eqb-false, eq-eqb, ne-eqb, leb-true, ltb-true, le-leb, lt-ltb, le-ltb}
 use Rattle.laws.proofs.Bools.{either, and-left, and-right, and-both, and-assoc, and-false-right, or-none-right, or-true-right, same-test}
 use Rattle.rules.specs.Sheet.{Book, Fit}
 use Rattle.rules.specs.Item.{object, isShip, isChar, isItem, isCharge, isSkill, isInShip, isOnChar, isOwnerModifiable, charOf}
@@ -30,8 +30,12 @@ ranged : (w g q : Bool) (c : ℕ) → c ≡ yes1 g → (g ≡ true → w ≡ tru
 ranged w true q c e h = rw (e, h refl) refl
 ranged w false q c e h = rw e (sym (and-false-right w))
 
+told : (g : Bool) (c : ℕ) → c ≡ yes1 g → eqb c 0 ≡ false → g ≡ true
+told true c e n = refl
+told false c e n = absurd (eqb-false c 0 n e)
+
 pub aims-same : {p p′ : Item → Bool} {k : Book} {f : Fit} {a : Aim} → ((i : ℕ) → i < length (f .objects) → p′ (object f i) ≡ p (object f i)) → Aims p k f a → Aims p′ k f a
-aims-same e A = record { ordered = A .ordered; inside = A .inside; column = A .column; exact = λ i h. e i h ∙ A .exact i h }
+aims-same e A = record { ordered = A .ordered; inside = A .inside; column = A .column; tight = A .tight; exact = λ i h. e i h ∙ A .exact i h }
 
 pub aims-is : {p : Item → Bool} {k : Book} {f : Fit} {a b : Aim} → a ≡ b → Aims p k f b → Aims p k f a
 aims-is {p} {k} {f} e A = subst (λ (a : Aim). Aims p k f a) (sym e) A
@@ -45,6 +49,7 @@ module _ (p : Item → Bool) (k : Book) (f : Fit) where
         ordered = o;
         inside = l;
         column = c;
+        tight = λ x i h n. w i h (told (g (object f i)) (getD (reachOf k f (object f i)) (a .column) 0) (col (object f i)) n);
         exact = λ i h. e i h ∙ ranged (within a i) (g (object f i)) (askedOf (a .test) k f (object f i)) (getD (reachOf k f (object f i)) (a .column) 0) (col (object f i)) (w i h);
       }
 
@@ -61,6 +66,7 @@ module _ (p : Item → Bool) (k : Book) (f : Fit) where
         ordered = omega arith;
         inside = omega arith;
         column = omega arith;
+        tight = λ x i h m. absurd (omega (arith, x));
         exact = λ i h. e i h ∙ ap (λ (t : Bool). t && askedOf q k f (object f i)) (sym (only n i));
       }
 
@@ -70,6 +76,7 @@ module _ (p : Item → Bool) (k : Book) (f : Fit) where
         ordered = omega arith;
         inside = omega arith;
         column = omega arith;
+        tight = λ x i h m. absurd (omega (arith, x));
         exact = λ i h. e i h ∙ sym (ap (λ (b : Bool). b && meets k f nobody (object f i)) (ap (λ (b : Bool). leb 0 i && b) (le-ltb i 0 (omega arith)) ∙ and-false-right (leb 0 i)));
       }
 

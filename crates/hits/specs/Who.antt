@@ -38,11 +38,12 @@ meets k f a o = passes a (reachOf k f o) (requiredBits f o)
 abbrev pub within : Aim → ℕ → Bool
 within a i = leb (a .«from») i && ltb i (a .end)
 
--- an aim is at the objects that pass the test p, and at no others
+-- an aim is at the objects that pass the test p, and at no others; a location's column is 1 only in its range
 pub record Aims (p : Item → Bool) (k : Book) (f : Fit) (a : Aim) : Type 0 where
   pub ordered : a .«from» ≤ a .end
   pub inside : a .end ≤ length (f .objects)
   pub column : a .column < 8
+  pub tight : a .column < 6 → (i : ℕ) → i < length (f .objects) → eqb (getD (reachOf k f (object f i)) (a .column) 0) 0 ≡ false → within a i ≡ true
   pub exact : (i : ℕ) → i < length (f .objects) → p (object f i) ≡ within a i && meets k f a (object f i)
 
 -- the numbers that an aim hits, in order

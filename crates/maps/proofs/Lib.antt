@@ -1,0 +1,9 @@
+pub mod Bits
+pub mod Cuts
+pub mod Zeros
+pub mod Index
+pub mod Making
+pub mod Rows
+pub mod Building
+pub mod Cutting
+pub mod Matching
