@@ -33,6 +33,14 @@
 //!     Err(refusal) => println!("{refusal}"),
 //! }
 //! ```
+//! Another planner's figures of a sheet, each held to what the rules give from the others:
+//!
+//! ```ignore
+//! match engine.check(&bytes, &listing) {
+//!     Ok(_) => println!("accepted"),
+//!     Err(refusal) => println!("{refusal}"),
+//! }
+//! ```
 //! The library to link is the one whose path `library/build` prints.
 #![allow(dead_code)]
 
@@ -84,6 +92,8 @@ struct Checked {
 
 // A line of an organiser's table: kind, id and number.
 type Line = [u32; 3];
+// A line of a listing: object, attribute, low and high half of the value's bits.
+type ListedLine = [u32; 4];
 
 impl Answer {
     fn counts(&self) -> [usize; LISTS] {
@@ -178,6 +188,32 @@ unsafe extern "C" {
         count: u32,
         pilot: u32,
     ) -> Seat;
+
+    fn dogma_check(
+        states: *mut States,
+        collected: *mut [u32; 14],
+        collected_count: usize,
+        collected_values: *mut f64,
+        collected_value_count: usize,
+        rows: *mut [u32; 6],
+        row_count: usize,
+        bases: *mut f64,
+        base_count: usize,
+        values: *mut f64,
+        value_count: usize,
+        work: *mut [u32; 4],
+        work_count: usize,
+        entries: *mut [u32; 12],
+        entry_count: usize,
+        entry_values: *mut f64,
+        entry_value_count: usize,
+        plain: *mut [u32; 2],
+        plain_count: usize,
+        sheet: *const u8,
+        sheet_length: usize,
+        listing: *const ListedLine,
+        line_count: usize,
+    ) -> Answer;
 
     fn dogma_check_rules(lines: *const Line, line_count: usize, sheet: *const u8, sheet_length: usize) -> Checked;
 
@@ -419,6 +455,8 @@ impl Rooms {
 pub struct Engine {
     states: Box<States>,
     columns: Columns,
+    // as long as the rows; a check works in it
+    work: Vec<[u32; 4]>,
 }
 
 struct Columns {
@@ -471,7 +509,7 @@ impl Columns {
 
 impl Engine {
     pub fn new(rooms: Rooms) -> Engine {
-        Engine { states: Box::new([[0; 2]; OBJECTS]), columns: Columns::new(rooms) }
+        Engine { states: Box::new([[0; 2]; OBJECTS]), columns: Columns::new(rooms), work: vec![[0; 4]; rooms.rows] }
     }
 
     pub fn calculate(&mut self, sheet: &[u8]) -> Result<Fit<'_>, Refusal> {
@@ -505,13 +543,109 @@ impl Engine {
                 sheet.len(),
             )
         };
-        let used = answer.counts().map(|count| 0..count);
         match answer.number {
-            0 => Ok(Fit { lists: self.columns.part(&self.states, used), answer }),
+            0 => Ok(self.fit(answer)),
             number => Err(Refusal::new(number, answer.place as u32)),
         }
     }
+
+    /// Holds another planner's listing against the rules: every row once, in list 2's order, and each value what the rules give from
+    /// the other listed values, bit for bit. Asks, depth and recorded source rows play no part; an accepted listing is that of every run.
+    pub fn check(&mut self, sheet: &[u8], listing: &[Listed]) -> Result<Fit<'_>, ListingRefusal> {
+        let lines: Vec<ListedLine> = listing.iter().map(|listed| listed.line()).collect();
+        let lists = &mut self.columns;
+        // SAFETY: as in `calculate`; the lines are a Vec of this call, borrowed apart from `self` as well.
+        let answer = unsafe {
+            dogma_check(
+                &mut *self.states,
+                lists.collected.as_mut_ptr(),
+                lists.collected.len(),
+                lists.collected_values.as_mut_ptr(),
+                lists.collected_values.len(),
+                lists.rows.as_mut_ptr(),
+                lists.rows.len(),
+                lists.bases.as_mut_ptr(),
+                lists.bases.len(),
+                lists.values.as_mut_ptr(),
+                lists.values.len(),
+                self.work.as_mut_ptr(),
+                self.work.len(),
+                lists.entries.as_mut_ptr(),
+                lists.entries.len(),
+                lists.entry_values.as_mut_ptr(),
+                lists.entry_values.len(),
+                lists.plain.as_mut_ptr(),
+                lists.plain.len(),
+                sheet.as_ptr(),
+                sheet.len(),
+                lines.as_ptr(),
+                lines.len(),
+            )
+        };
+        match answer.number {
+            0 => Ok(self.fit(answer)),
+            10 => Err(ListingRefusal::Loop { object: answer.place as u32 }),
+            15 => Err(ListingRefusal::Listing { line: answer.place as usize }),
+            number => Err(ListingRefusal::Run(Refusal::new(number, answer.place as u32))),
+        }
+    }
+
+    fn fit(&self, answer: Answer) -> Fit<'_> {
+        Fit { lists: self.columns.part(&self.states, answer.counts().map(|count| 0..count)), answer }
+    }
 }
+
+/// A line of another planner's listing.
+#[derive(Debug, Copy, Clone, PartialEq)]
+pub struct Listed {
+    pub object: u32,
+    pub attribute: i32,
+    pub value: f64,
+}
+
+impl Listed {
+    fn line(self) -> ListedLine {
+        let bits = self.value.to_bits();
+        [self.object, self.attribute as u32, bits as u32, (bits >> 32) as u32]
+    }
+}
+
+/// Why a listing is not accepted.
+#[derive(Debug, Copy, Clone, PartialEq, Eq)]
+pub enum ListingRefusal {
+    /// An attribute leads back to itself: the lowest object that has such a one. Then the rules do not decide the figures.
+    Loop { object: u32 },
+    /// The first wrong line, from 0, rows before values; the number of lines where rows are missing.
+    Listing { line: usize },
+    /// The engine's own: never `Number` or `Depth`, and of `Room` never the sources.
+    Run(Refusal),
+}
+
+impl ListingRefusal {
+    /// The library's number and place.
+    pub fn number_and_place(self) -> (u32, u64) {
+        match self {
+            ListingRefusal::Loop { object } => (10, object.into()),
+            ListingRefusal::Listing { line } => (15, line as u64),
+            ListingRefusal::Run(refusal) => {
+                let (number, place) = refusal.number_and_place();
+                (number, place.into())
+            }
+        }
+    }
+}
+
+impl fmt::Display for ListingRefusal {
+    fn fmt(&self, f: &mut fmt::Formatter) -> fmt::Result {
+        match self {
+            ListingRefusal::Loop { object } => write!(f, "an attribute of object {object} leads back to itself"),
+            ListingRefusal::Listing { line } => write!(f, "line {line} is wrong or missing"),
+            ListingRefusal::Run(refusal) => write!(f, "{refusal:?}"),
+        }
+    }
+}
+
+impl std::error::Error for ListingRefusal {}
 
 /// Why a pilot has no result.
 #[derive(Debug, Copy, Clone, PartialEq, Eq)]
@@ -1261,6 +1395,23 @@ mod tests {
         assert_eq!(engine.export(sheet, &[(20, "\u{7f}")]), Err(ExportRefusal::Label { label: 0 }));
         assert_eq!(engine.export(&sheet[..99], &[(20, "\u{7f}")]), Err(ExportRefusal::Run(Refusal::Shape { table: 0 })));
         assert_eq!(Engine::new(Rooms::all(0)).export(sheet, &[]).unwrap_err().number_and_place(), (7, 2));
+    }
+
+    #[test]
+    fn another_planners_figures() {
+        let (sheet, looped): (&[u8], &[u8]) = (include_bytes!("../../cases/L.sheet"), include_bytes!("../../cases/loop-walked.sheet"));
+        let mut engine = Engine::new(Rooms::all(16));
+        let own: Vec<Listed> =
+            engine.calculate(sheet).unwrap().rows().map(|row| Listed { object: row.object, attribute: row.attribute, value: row.value }).collect();
+        assert_eq!(engine.check(sheet, &own).unwrap().row_count(), 3);
+        assert_eq!(engine.check(sheet, &own[..2]).err(), Some(ListingRefusal::Listing { line: 2 }));
+        let mut wrong = own.clone();
+        wrong[1].value = f64::NAN;
+        assert_eq!(engine.check(sheet, &wrong).err(), Some(ListingRefusal::Listing { line: 0 }));
+        assert_eq!(engine.check(looped, &own).err(), Some(ListingRefusal::Loop { object: 0 }));
+        assert_eq!(engine.check(&sheet[1..], &own).err(), Some(ListingRefusal::Run(Refusal::Shape { table: 0 })));
+        assert_eq!(Engine::new(Rooms::all(2)).check(sheet, &own).err(), Some(ListingRefusal::Run(Refusal::Room { list: List::Rows })));
+        assert_eq!(ListingRefusal::Listing { line: 7 }.number_and_place(), (15, 7));
     }
 
     #[test]
