@@ -9,6 +9,7 @@
  * dogma_write_sheet makes a sheet's bytes of tables, dogma_write_book and dogma_write_fit the two parts: see "writing sheets" below.
  * dogma_check_rules holds a sheet against an organiser's table of rules: see "tournament rules" below.
  * dogma_export gives a run's rows as comma-separated text for a spreadsheet: see "spreadsheets" below.
+ * dogma_check holds another planner's listing against the rules, line by line: see "another planner's figures" below.
  * The engine allocates nothing, keeps nothing between calls, and may be called from several threads with lists of their own.
  * Any bytes are taken: a damaged sheet is refused with a number and a place. What is demanded of the caller, since the
  * engine cannot test it, stands at DOGMA_DEMANDS below; dogma_calculate_checked tests it, and DOGMA_LEND counts arrays
@@ -59,6 +60,8 @@ enum dogma_number {
     DOGMA_TABLE = 18,    /* of an admission or a leaving, 0: what is lent is no state of the pool */
     DOGMA_RULES = 11,    /* a line of a table of rules, from 0 */
     DOGMA_LABEL = 16,    /* of an export: a label, from 0 */
+    DOGMA_LOOP = 10,     /* of a check: the lowest object with an attribute that leads back to itself */
+    DOGMA_LISTING = 15,  /* of a check: the first wrong line, from 0, rows before values; the number of lines where rows are missing */
     DOGMA_MISUSED = 256  /* not the engine's: a checked form found a demand broken; enum dogma_argument, dogma_pilot_argument */
 };
 
@@ -555,6 +558,21 @@ static inline int dogma_apart_(struct dogma_part_ a, struct dogma_part_ b)
     return a.count == 0 || b.count == 0 || a.at + a.count * a.width <= b.at || b.at + b.count * b.width <= a.at;
 }
 
+/* The first part that breaks a demand, or how many there are: those that are written, then those that are only read. */
+static inline unsigned dogma_broken_(
+    const struct dogma_part_ *written, unsigned written_count, const struct dogma_part_ *read, unsigned read_count)
+{
+    for (unsigned i = 0; i < written_count + read_count; i++) {
+        const struct dogma_part_ part = i < written_count ? written[i] : read[i - written_count];
+        if (!dogma_sound_(part))
+            return i;
+        for (unsigned k = 0; k < i && k < written_count; k++)
+            if (!dogma_apart_(written[k], part))
+                return i;
+    }
+    return written_count + read_count;
+}
+
 /* The first argument that breaks a demand, or how many there are: eleven that are written, then those that are only read. */
 static inline unsigned dogma_misused_(
     const struct dogma_lent *lent, size_t state_count, const struct dogma_part_ *read, unsigned read_count)
@@ -575,15 +593,7 @@ static inline unsigned dogma_misused_(
     };
     if (lent->state_count != state_count)
         return DOGMA_ARGUMENT_STATES;
-    for (unsigned i = 0; i < WRITTEN + read_count; i++) {
-        const struct dogma_part_ part = i < WRITTEN ? parts[i] : read[i - WRITTEN];
-        if (!dogma_sound_(part))
-            return i;
-        for (unsigned k = 0; k < i && k < WRITTEN; k++)
-            if (!dogma_apart_(parts[k], part))
-                return i;
-    }
-    return WRITTEN + read_count;
+    return dogma_broken_(parts, WRITTEN, read, read_count);
 }
 
 /* The first argument that breaks a demand, or DOGMA_ARGUMENTS. That memory is there behind a pointer cannot be tested. */
@@ -968,6 +978,77 @@ static inline struct dogma_exported dogma_export_checked(
         lent->entries, lent->entry_count, lent->entry_values, lent->entry_value_count, lent->plain, lent->plain_count,
         lent->sources, lent->source_count, lent->source_values, lent->source_value_count,
         labels, label_count, label_bytes, label_byte_count, sheet, sheet_length);
+
+/* ---- another planner's figures
+ *
+ * A listing is another planner's value of every row of list 2, in its order: a line for each, object, attribute and the value's 64 bits.
+ * On a little-endian machine an array of struct { uint32_t object; int32_t attribute; double value; } is just that. dogma_check says
+ * whether it is ours to the last bit, without calculating any attribute by descent: each value is to be what the rules give from the
+ * other listed values. A listing that is accepted is the one that every run of the sheet gives that is done, and there is only one.
+ *
+ * Number and place: those of dogma_calculate up to dispatch (SHAPE; ROOM of lists 1 to 4; FUNC to OTHER), never NUMBER, DEPTH or ROOM 5;
+ * then DOGMA_LOOP; then DOGMA_LISTING. Rows are compared before values. -0.0 is not 0.0; bits that are no finite number are wrong, and
+ * so is what is made from them. Asks and depth play no part; where the sheet asks for recording, entries that do not run are to have a
+ * finite strength, as in a run.
+ * After DOGMA_DONE states and lists 1 to 4 are those of the sheet with recording 0, the values being the listed ones; sources is 0.
+ * After a refusal all lists, states and counts are zero. work is scratch, a column of list 2: too short a one is DOGMA_ROOM with
+ * DOGMA_LIST_ROWS. What it holds after the call is not said.
+ * Demands: as for dogma_calculate; and work and listing, aligned to 4 bytes, each lie apart from everything that is written.
+ */
+
+typedef uint32_t dogma_work[4];
+typedef uint32_t dogma_line[4];
+enum dogma_line_field {
+    DOGMA_LINE_OBJECT = 0,
+    DOGMA_LINE_ATTRIBUTE = 1, /* signed */
+    DOGMA_LINE_LOW = 2,       /* of the value's 64 bits the low half, then the high one */
+    DOGMA_LINE_HIGH = 3
+};
+
+struct dogma_answer dogma_check(
+    dogma_state *states, dogma_collected *collected, size_t collected_count, double *collected_values, size_t collected_value_count,
+    dogma_row *rows, size_t row_count, double *bases, size_t base_count, double *values, size_t value_count, dogma_work *work,
+    size_t work_count, dogma_entry *entries, size_t entry_count, double *entry_values, size_t entry_value_count, dogma_plain *plain,
+    size_t plain_count, const uint8_t *sheet, size_t sheet_length, const dogma_line *listing, size_t line_count);
+
+/* the arguments, as MISUSED's place has them; the first six are those of enum dogma_argument */
+enum dogma_check_argument {
+    DOGMA_CHECK_ARGUMENT_WORK = 6, DOGMA_CHECK_ARGUMENT_ENTRIES = 7, DOGMA_CHECK_ARGUMENT_ENTRY_VALUES = 8,
+    DOGMA_CHECK_ARGUMENT_PLAIN = 9, DOGMA_CHECK_ARGUMENT_SHEET = 10, DOGMA_CHECK_ARGUMENT_LISTING = 11, DOGMA_CHECK_ARGUMENTS = 12
+};
+
+/* dogma_check, or DOGMA_MISUSED with the argument (enum dogma_check_argument) that breaks a demand; then nothing was written.
+ * Of what is lent list 5 is not looked at. */
+static inline struct dogma_answer dogma_check_checked(
+    const struct dogma_lent *lent, dogma_work *work, size_t work_count, const uint8_t *sheet, size_t sheet_length,
+    const dogma_line *listing, size_t line_count)
+{
+    const struct dogma_part_ written[DOGMA_CHECK_ARGUMENT_SHEET] = {
+        { (uintptr_t)lent->states, lent->state_count, sizeof(dogma_state), 4 },
+        { (uintptr_t)lent->collected, lent->collected_count, sizeof(dogma_collected), 4 },
+        { (uintptr_t)lent->collected_values, lent->collected_value_count, 8, 8 },
+        { (uintptr_t)lent->rows, lent->row_count, sizeof(dogma_row), 4 },
+        { (uintptr_t)lent->bases, lent->base_count, 8, 8 },
+        { (uintptr_t)lent->values, lent->value_count, 8, 8 },
+        { (uintptr_t)work, work_count, sizeof(dogma_work), 4 },
+        { (uintptr_t)lent->entries, lent->entry_count, sizeof(dogma_entry), 4 },
+        { (uintptr_t)lent->entry_values, lent->entry_value_count, 8, 8 },
+        { (uintptr_t)lent->plain, lent->plain_count, sizeof(dogma_plain), 4 },
+    };
+    const struct dogma_part_ read[] = {
+        { (uintptr_t)sheet, sheet_length, 1, 1 }, { (uintptr_t)listing, line_count, sizeof(dogma_line), 4 }
+    };
+    const unsigned broken = dogma_broken_(written, DOGMA_CHECK_ARGUMENT_SHEET, read, 2);
+    const unsigned misused = lent->state_count == DOGMA_OBJECTS ? broken : 0;
+    if (misused != DOGMA_CHECK_ARGUMENTS) {
+        const struct dogma_answer answer = { DOGMA_MISUSED, misused, 0, 0, 0, 0, 0 };
+        return answer;
+    }
+    return dogma_check(
+        lent->states, lent->collected, lent->collected_count, lent->collected_values, lent->collected_value_count,
+        lent->rows, lent->row_count, lent->bases, lent->base_count, lent->values, lent->value_count, work, work_count,
+        lent->entries, lent->entry_count, lent->entry_values, lent->entry_value_count, lent->plain, lent->plain_count,
+        sheet, sheet_length, listing, line_count);
 }
 
 #ifdef __cplusplus

@@ -194,3 +194,24 @@ struct dogma_exported dogma_export(
         source_count, source_values, source_value_count, labels, label_count, label_bytes, label_byte_count, sheet, sheet_length);
     return exported;
 }
+
+extern void dogma_check_into(
+    struct dogma_answer *answer, dogma_state *states, dogma_collected *collected, size_t collected_count, double *collected_values,
+    size_t collected_value_count, dogma_row *rows, size_t row_count, double *bases, size_t base_count, double *values,
+    size_t value_count, dogma_work *work, size_t work_count, dogma_entry *entries, size_t entry_count, double *entry_values,
+    size_t entry_value_count, dogma_plain *plain, size_t plain_count, const uint8_t *sheet, size_t sheet_length,
+    const dogma_line *listing, size_t line_count);
+
+struct dogma_answer dogma_check(
+    dogma_state *states, dogma_collected *collected, size_t collected_count, double *collected_values, size_t collected_value_count,
+    dogma_row *rows, size_t row_count, double *bases, size_t base_count, double *values, size_t value_count, dogma_work *work,
+    size_t work_count, dogma_entry *entries, size_t entry_count, double *entry_values, size_t entry_value_count, dogma_plain *plain,
+    size_t plain_count, const uint8_t *sheet, size_t sheet_length, const dogma_line *listing, size_t line_count)
+{
+    struct dogma_answer answer;
+    dogma_check_into(
+        &answer, states, collected, collected_count, collected_values, collected_value_count, rows, row_count, bases, base_count,
+        values, value_count, work, work_count, entries, entry_count, entry_values, entry_value_count, plain, plain_count, sheet,
+        sheet_length, listing, line_count);
+    return answer;
+}

@@ -2,5 +2,8 @@ pub mod NoLoops
 pub mod Awaiting
 pub mod Judges
 pub mod Promises
+pub mod Entering
+pub mod Giving
+pub mod Results
 pub mod All
 pub mod Examples

@@ -23,7 +23,7 @@ use Rattle.checks.specs.declared.verdict.Verdict.the-variants.{Accepted,
 use Rattle.checks.proofs.NoLoops.{no-loop}
 
 -- the parts of an acceptance
-is-accepted : (w : World) (ls : List Line) → checkedIn w ls ≡ Accepted → (loopAt w ≡ none) × (none ≡ firstBad w ls)
+pub is-accepted : (w : World) (ls : List Line) → checkedIn w ls ≡ Accepted → (loopAt w ≡ none) × (none ≡ firstBad w ls)
 unfolding checkedIn
 is-accepted w ls = by (loopAt w) (firstBad w ls)
   where
@@ -36,7 +36,7 @@ module _ (k : Book) (f : Fit) (sound : Sound f) where
   abbrev world : World
   world = worldOf k f 0
 
-  each-found : (i : ℕ) → i < length (world .rows) → findRow (keyAt world i .object) (keyAt world i .id) 0 (world .rows) ≡ some (record { index = i; row = getD (world .rows) i noRow })
+  pub each-found : (i : ℕ) → i < length (world .rows) → findRow (keyAt world i .object) (keyAt world i .id) 0 (world .rows) ≡ some (record { index = i; row = getD (world .rows) i noRow })
   unfolding worldOf rowsIn
   each-found i h = found-there 0 (world .rows) i (rows-distinct k f (collectedIn k f) sound) h ∙ ap (λ (m : ℕ). some (record { index = m; row = getD (world .rows) i noRow })) (omega arith)
 

@@ -1,17 +1,21 @@
--- M-111, "Test another planner's figures": what is answered, and what the lists hold. Definitions only.
-use Prim.Native.Nat.{ℕ}
+-- M-111, "Test another planner's figures": what is answered, and what comes back. Definitions only.
+use Prim.Native.Nat.{ℕ, min}
+use mathlib.Core.Path.{_≡_}
 use mathlib.Core.List.{List, []}
 use mathlib.Core.Option.{none, some}
 use Rattle.rules.specs.Answer.{Res, ok, refused, number, place}
 use Rattle.rules.specs.Bytes.{pairsOf}
 use Rattle.rules.specs.Collect.{moves, plainOf}
-use Rattle.rules.specs.Outcome.{Rooms, Done, collectedIn, worldOf}
+use Rattle.rules.specs.Columns.{countsOf, collectedColumn, collectedValueColumn, rowColumn, baseColumn, valueColumn, entryColumn, entryValueColumn, plainColumn, stateColumn}
+use Rattle.rules.specs.Outcome.{Lent, Rooms, Done, counted, collectedIn, worldOf}
 use Rattle.rules.specs.Shape.{badShape}
 use Rattle.rules.specs.Sheet.{Book, Fit, bookOf, fitOf}
 use Rattle.rules.specs.Value.{World}
 use Rattle.rules.specs.declared.Refusal.{Refusal}
 use Rattle.rules.specs.declared.Refusal.the-variants.{Shape}
 use Rattle.rules.specs.declared.Answer.the-variants.{Refused}
+use Rattle.promises.specs.NoMemory.{bookIn, fitIn}
+use Rattle.promises.specs.Result.{Result}
 use Rattle.settled.specs.Lines.{Line, valuesOf, firstBad}
 use Rattle.loops.specs.Loop.{loopAt}
 use Rattle.run.specs.Listing.{listsIn}
@@ -49,6 +53,17 @@ checkedFor k f q ls = checkedAfter (listsIn k f q) (worldOf k f 0) ls
 unfoldable pub checked : List ℕ → Rooms → List Line → Verdict
 checked b q ls = elim (badShape b) [ some t ↦ Engine (Shape t) | none ↦ checkedFor (bookOf b (pairsOf b)) (fitOf b (pairsOf b)) q ls ]
 
+-- "a list's room is its shortest column": the lent scratch is a column of list 2; list 5 is not lent
+abbrev pub checkRooms : Lent → ℕ → Rooms
+checkRooms l work =
+    record {
+      collected = counted (min (l .collected) (l .collectedValues));
+      rows = counted (min (l .rows) (min (l .bases) (min (l .values) work)));
+      entries = counted (min (l .entries) (l .entryValues));
+      plain = counted (l .plain);
+      sources = 0;
+    }
+
 -- what an accepted listing leaves in the lists: the sheet's own, with the listed values and no source rows
 abbrev pub listedDone : Book → Fit → List Line → Done
 listedDone k f ls =
@@ -61,3 +76,22 @@ keptBy Accepted d = ok d
 keptBy (Engine x) d = refused x
 keptBy (Loop o) d = refused (Shape 0)
 keptBy (Listing i) d = refused (Shape 0)
+
+-- r is what the verdict v and what is left give, with these lists lent
+pub record ChecksAs (v : Verdict) (left : Res Done) (l : Lent) (r : Result) : Type 0 where
+  pub by-number : r .number ≡ numberOf v
+  pub by-place : r .place ≡ placeOf v
+  pub by-counts : r .counts ≡ countsOf left
+  pub by-states : r .states ≡ stateColumn left
+  pub by-collected : r .collected ≡ collectedColumn left (l .collected)
+  pub by-collectedValues : r .collectedValues ≡ collectedValueColumn left (l .collectedValues)
+  pub by-rows : r .rows ≡ rowColumn left (l .rows)
+  pub by-bases : r .bases ≡ baseColumn left (l .bases)
+  pub by-values : r .values ≡ valueColumn left (l .values)
+  pub by-entries : r .entries ≡ entryColumn left (l .entries)
+  pub by-entryValues : r .entryValues ≡ entryValueColumn left (l .entryValues)
+  pub by-plain : r .plain ≡ plainColumn left (l .plain)
+
+-- r is what the definition gives for the bytes, the lists and scratch lent, and the listing
+abbrev pub Checks : List ℕ → Lent → ℕ → List Line → Result → Type 0
+Checks b l work ls r = let v = checked b (checkRooms l work) ls in ChecksAs v (keptBy v (listedDone (bookIn b) (fitIn b) ls)) l r

@@ -3,6 +3,7 @@
 use Prim.Native.Nat.{ℕ, zero, suc, _<_}
 use native.Mathlib.Omega.{arith}
 use mathlib.Core.Path.{_≡_, refl, sym, ap, subst, _∙_}
+use mathlib.Core.Bool.{true}
 use mathlib.Core.List.{List, [], _∷_, map}
 use mathlib.Core.Logic.{_⊎_, inl, inr}
 use mathlib.Core.Option.{Option, none, some}
@@ -34,7 +35,7 @@ the-same v x e = cc
 
 -- what the run may be refused for, and what makes it deep enough
 pub record Enough (w : World) (Wanted : Refusal → Type 0) (Deep : ℕ → Key → Type 0) : Type 0 where
-  pub no-room : Wanted (Room 5)
+  pub no-room : w .recording ≡ true → Wanted (Room 5)
   pub at-end : (a : Key) (f : Found) → Deep zero a → findRow (a .object) (a .id) 0 (w .rows) ≡ some f → Wanted (Depth (a .object))
   pub below : (d : ℕ) (a b : Key) → Deep (suc d) a → Needs w a b → Deep d b
 
@@ -108,15 +109,15 @@ module _ (w : World) (vs : List (Option Float)) (free : NoLoop w) (all : Accepte
     reads-started read x m′ g h =
         let p = parts w vs (f .index) (f .row) x (right-found w vs free all a f found x g) in
         rests _ (p .read) _ (calculate w read (f .index) (f .row) m) (p .first)
-        (calculate-tends Wanted w (λ t. enough .no-room) (f .index) (f .row) Inside forgets read (blank (w .rows)) m (p .quiet) each (inside-start (f .row .base)))
+        (calculate-tends Wanted w (enough .no-room) (f .index) (f .row) Inside forgets read (blank (w .rows)) m (p .quiet) each (inside-start (f .row .base)))
         (λ q e. ended (p .read) q (p .value) e)
       where
-        each : Each (Agree Wanted w (λ t. enough .no-room) (f .index) (f .row) Inside forgets read) (needsOf (w .book) (f .row))
+        each : Each (Agree Wanted w (enough .no-room) (f .index) (f .row) Inside forgets read) (needsOf (w .book) (f .row))
         each =
-            each-of (Agree Wanted w (λ t. enough .no-room) (f .index) (f .row) Inside forgets read) (needsOf (w .book) (f .row))
+            each-of (Agree Wanted w (enough .no-room) (f .index) (f .row) Inside forgets read) (needsOf (w .book) (f .row))
             (λ b k n n′ v. weaker (h b (found-at w a f found .needed b k) n n′ v) (λ q p g. record { value = g .value; inv = (g .right, g .long) }))
 
-        ended : (p q : Read) → p .value ≡ x → Ended Wanted w (λ t. enough .no-room) (f .index) (f .row) Inside forgets read p q → Reading Busy (record { value = x; mem = m′ }) q
+        ended : (p q : Read) → p .value ≡ x → Ended Wanted w (enough .no-room) (f .index) (f .row) Inside forgets read p q → Reading Busy (record { value = x; mem = m′ }) q
         ended p q same e =
             let v : x ≡ q .value = sym same ∙ e .value in
             let l : f .index < length (e .before) = omega (arith, here, e .inv .1) in
@@ -233,14 +234,14 @@ pub data DepthOrRoom : Refusal → Type 0 where
   depth : (o : ℕ) → DepthOrRoom (Depth o)
   room : DepthOrRoom (Room 5)
 
-pub data OnlyRoom : Refusal → Type 0 where
-  room5 : OnlyRoom (Room 5)
+pub data OnlyRoom (w : World) : Refusal → Type 0 where
+  room5 : w .recording ≡ true → OnlyRoom w (Room 5)
 
 pub at-any : (w : World) → Enough w DepthOrRoom (λ d a. Unit {0})
-at-any w = record { no-room = room; at-end = λ a f t e. depth (a .object); below = λ d a b t n. tt }
+at-any w = record { no-room = λ t. room; at-end = λ a f t e. depth (a .object); below = λ d a b t n. tt }
 
-pub lifted : (w : World) → Enough w OnlyRoom (Within w)
-lifted w = record { no-room = room5; at-end = λ a f none-there e. nowhere f (sym none-there ∙ e); below = λ d a b h n. h b n }
+pub lifted : (w : World) → Enough w (OnlyRoom w) (Within w)
+lifted w = record { no-room = λ t. room5 t; at-end = λ a f none-there e. nowhere f (sym none-there ∙ e); below = λ d a b h n. h b n }
   where
     nowhere : {X : Type 0} (f : Found) → none ≡ some f → X
     nowhere f q = let z : _≡_ {A = ℕ} 0 1 = cc in absurd (omega arith)
@@ -250,7 +251,7 @@ pub accepted-tends : (w : World) (vs : List (Option Float)) (free : NoLoop w) (a
     → Tended w vs free all DepthOrRoom (λ d a. Unit {0}) (at-any w) (valued w d starts (blank (w .rows)))
 accepted-tends w vs free all d starts = values-tend w vs free all DepthOrRoom (λ d a. Unit {0}) (at-any w) d (λ a. tt) starts
 
--- "wholly ours, depth limit lifted": as deep as there are rows, only the room of list 5 can be short
+-- "wholly ours, depth limit lifted": as deep as there are rows, only the room of list 5 can be short, where source rows are recorded
 pub accepted-lifted : (w : World) (vs : List (Option Float)) (free : NoLoop w) (all : Accepted w vs) (starts : List Ask)
-    → Tended w vs free all OnlyRoom (Within w) (lifted w) (valued w (length (w .rows)) starts (blank (w .rows)))
-accepted-lifted w vs free all starts = values-tend w vs free all OnlyRoom (Within w) (lifted w) (length (w .rows)) (within-rows w free) starts
+    → Tended w vs free all (OnlyRoom w) (Within w) (lifted w) (valued w (length (w .rows)) starts (blank (w .rows)))
+accepted-lifted w vs free all starts = values-tend w vs free all (OnlyRoom w) (Within w) (lifted w) (length (w .rows)) (within-rows w free) starts

@@ -17,17 +17,45 @@ ghost use Rattle.rules.specs.Outcome.{counted};
 ghost use Rattle.rules.specs.Sheet.{bookOf, fitOf};
 ghost use Rattle.info.specs.Sound.{SoundBook, SoundFit};
 ghost use Rattle.states.specs.Raised.{rowsOf};
-ghost use Rattle.run.specs.Listing.{RoomsLent, ListsGive, RowsWithin, listsIn};
+ghost use Rattle.run.specs.Listing.{RoomsOf, RoomsLent, ListsGive, RowsWithin, listsIn};
+ghost use Rattle.checks.specs.Check.{checkRooms};
+ghost use Rattle.checks.specs.Checked.{lengths};
+
+// The lesser of two.
+fn least_of(a: usize, b: usize) -> usize
+    ensures defined { λ r. ⌜ r ≡ min a b ⌝ }
+{
+    if a < b { a } else { b }
+}
 
 // A list's room is its shortest column, at most what 32 bits count.
-pub fn room_of(a: usize, b: usize) -> usize
+fn room_of(a: usize, b: usize) -> usize
     ensures defined { λ r. ⌜ r ≡ counted (min a b) ⌝ }
 {
-    let least = if a < b { a } else { b };
-    if least < 4294967295 {
-        return least;
+    least_of(least_of(a, b), 4294967295)
+}
+
+// The rooms of lists 1 to 4 by the lengths of their columns; the lent scratch is a column of list 2.
+pub fn rooms_of(
+    collected: usize,
+    collected_values: usize,
+    rows: usize,
+    bases: usize,
+    values: usize,
+    work: usize,
+    entries: usize,
+    entry_values: usize,
+    plain: usize,
+) -> ListRooms
+    ensures defined { λ r. ⌜ RoomsOf (checkRooms (lengths collected «collected_values» rows bases values entries «entry_values» plain) work) r ⌝ }
+{
+    let least = least_of(bases, least_of(values, work));
+    ListRooms {
+        collected: room_of(collected, collected_values),
+        rows: room_of(rows, least),
+        entries: room_of(entries, entry_values),
+        plain: room_of(plain, plain),
     }
-    4294967295
 }
 
 // The states, then lists 1 to 4. After a refusal the columns may hold anything.
@@ -52,7 +80,8 @@ pub fn set_sheet(
         let f = fitOf (now (sheet .entry)) (now (pairs .entry)) in
         ⌜ ListsGive k f rooms collected «collected_values» rows bases entries «entry_values» plain r (listsIn k f) ⌝ }
     ensures within { λ r. ⌜ RowsWithin (rooms .rows) r ⌝ }
-    ensures states { λ _. ⌜ now (states .exit) ≡ rowsOf (bookOf (now (sheet .entry)) (now (pairs .entry))) (fitOf (now (sheet .entry)) (now (pairs .entry))) ⌝ }
+    ensures states { λ _.
+        ⌜ now (states .exit) ≡ rowsOf (bookOf (now (sheet .entry)) (now (pairs .entry))) (fitOf (now (sheet .entry)) (now (pairs .entry))) ⌝ }
 {
     let of_effects = effect_places(sheet, pairs);
     let of_attributes = attribute_places(sheet, pairs);
