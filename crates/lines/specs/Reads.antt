@@ -31,7 +31,7 @@ abbrev pub rowsOf : Read → List (List ℕ) → Rows
 rowsOf (read.Rows n) out = rows (take n out)
 rowsOf (read.Bad i) out = bad i
 
--- no more rows than there is room for
+-- no more rows than there is room for, and no line behind the first that has none
 abbrev pub ReadWithin : Read → ℕ → Type 0
 ReadWithin (read.Rows n) room = n ≤ room
-ReadWithin (read.Bad i) room = Unit
+ReadWithin (read.Bad i) room = i ≤ room + 1
