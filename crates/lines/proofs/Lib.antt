@@ -1,0 +1,4 @@
+pub mod Going
+pub mod Fielded
+pub mod Rowed
+pub mod Examples
