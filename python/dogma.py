@@ -148,10 +148,12 @@ class Number(enum.IntEnum):
     ROOM = 7
     NUMBER = 8
     DEPTH = 9
+    LOOP = 10
     RULES = 11
     POOL = 12
     PILOT = 13
     LENGTH = 14
+    LISTING = 15
     LABEL = 16
     TABLE = 18
 
@@ -214,8 +216,10 @@ _WORDS = {
     6: "table 3 (modifiers), record {0}: it means the other (OtherID) of a ship, mode, char or skill, which has none",
     8: "object {0}: a step of an attribute of it is infinite or NaN, so there is no finite figure",
     9: "object {0}: an attribute of it would be calculated deeper than the depth allows (at most 256)",
+    10: "object {0}: an attribute of it leads back to itself",
     11: "line {0} of the rules: its kind is above 3, it does not come after the line before, its points are above 65535, or a total has an id",
     14: "pilot {0} wants no row",
+    15: "line {0} of the listing: it is missing, or not what the rules give",
     16: "label {0}: it has over 64 bytes, one that is not printable ASCII, CR or LF, or its id does not ascend",
     18: "the stretches and the free rows are no state of the pool",
 }
@@ -287,6 +291,7 @@ _FUNCTIONS = {
     "dogma_write_sheet": (_Written, [*_COLUMN, _AT, *_COLUMN * 13]),
     "dogma_write_book": (_Written, [*_COLUMN, _AT, *_COLUMN * 6]),
     "dogma_write_fit": (_Written, [*_COLUMN, _AT, *_COLUMN * 7]),
+    "dogma_check": (_Answer, [_AT, *_COLUMN * 9, *_COLUMN * 2]),
     "dogma_check_rules": (_Checked, _COLUMN * 2),
     "dogma_check_rules_files": (_Checked, _COLUMN * 3),
     "dogma_export": (_Exported, [*_COLUMN, _AT, *_COLUMN * 10, *_COLUMN * 3]),
@@ -509,6 +514,14 @@ def _source(n: Tuple[int, ...], value: float, penalty: float) -> Source:
 # ---- one sheet at a time
 
 
+class Listed(NamedTuple):
+    """A line of another planner's listing; a value is judged by its bits, so that -0.0 is not 0.0."""
+
+    object: int
+    attribute: int
+    value: float
+
+
 Labels = Union[Mapping[int, str], Iterable[Tuple[int, str]]]
 
 
@@ -534,6 +547,23 @@ class Engine:
         data = _bytes(sheet)
         with self._lock:
             answer = self._until_it_fits(lambda lists: _call("dogma_calculate", lists.states, *lists.lent(), *_read(data)))
+            return self._lists.figures([getattr(answer, count) for count in _COUNTS])
+
+    def check(self, sheet: Bytes, listing: Iterable[Tuple[int, int, float]]) -> Figures:
+        """Holds another planner's listing against the rules: every row once, in order, each value what the rules give from the other listed.
+
+        Where it is accepted it is that of every run of the sheet; the figures are the listed ones, without source rows.
+        """
+        data, lines = _bytes(sheet), _packed("Iid", listing, "a line")
+
+        def call(lists: _Lists) -> Any:
+            lent = lists.lent()
+            # scratch, a column of list 2; list 5 is not lent
+            work = (ctypes.c_uint32 * (4 * max(lists.rooms.rows, 1)))()
+            return _call("dogma_check", lists.states, *lent[:10], work, lists.rooms.rows, *lent[10:16], *_read(data), *lines)
+
+        with self._lock:
+            answer = self._until_it_fits(call)
             return self._lists.figures([getattr(answer, count) for count in _COUNTS])
 
     def export(self, sheet: Bytes, labels: Labels = (), room: Optional[int] = None) -> str:
@@ -580,6 +610,11 @@ class Engine:
 def calculate(sheet: Bytes) -> Figures:
     """A sheet's figures by an engine of its own; who calculates many keeps an Engine."""
     return Engine().calculate(sheet)
+
+
+def check(sheet: Bytes, listing: Iterable[Tuple[int, int, float]]) -> Figures:
+    """Another planner's listing held against the rules by an engine of its own: Engine.check."""
+    return Engine().check(sheet, listing)
 
 
 def export(sheet: Bytes, labels: Labels = ()) -> str:

@@ -41,6 +41,11 @@ def numbers(call, *words, **more):
     return said.number, said.place
 
 
+def listing(sheet):
+    """A sheet's own rows, as another planner would list them."""
+    return [dogma.Listed(row.object, row.attribute, row.value) for row in dogma.calculate(sheet).rows]
+
+
 def fixed(rooms):
     return Engine(rooms, rooms)
 
@@ -107,6 +112,10 @@ class Refusals(unittest.TestCase):
         yield refusal(tables.write_sheet, 99)
         tables.depth = 0
         yield refusal(tables.write_fit)
+        lines = listing(SHEET)
+        yield refusal(dogma.check, case("loop-walked.sheet"), [])
+        yield refusal(dogma.check, SHEET, lines[:2])
+        yield refusal(dogma.check, SHEET, [lines[0], lines[0]])
         yield refusal(dogma.check_rules, [dogma.total(1)] * 2, SHEET)
         yield refusal(dogma.check_rules_files, [dogma.total(1)] * 2, BOOK, FIT[1:])
         yield refusal(dogma.export, SHEET, [(20, "a"), (20, "b")])
@@ -117,6 +126,10 @@ class Refusals(unittest.TestCase):
         said = list(self.all())
         self.assertEqual([f"{r.number} {r.place} {r}" for r in said], (CASES / "refusals.txt").read_text().splitlines())
         self.assertEqual({r.number for r in said}, {int(number) for number in dogma.Number})
+
+    def test_what_is_accepted(self):
+        figures = Engine(Rooms.all(0), Rooms.all(64)).check(SHEET, listing(SHEET))
+        self.assertEqual((figures.rows, figures.sources), (dogma.calculate(SHEET).rows, []))
 
     def test_a_number_that_is_new(self):
         self.assertEqual(str(dogma._refused(99, 3)), "refused 99 3, which this module does not know")

@@ -154,6 +154,23 @@ static void write_tables(void)
     say(shallow.number, shallow.place);
 }
 
+/* No line of a sheet with a loop; two lines of three, and the first of them twice. */
+static void listings(struct file sheet)
+{
+    static dogma_work work[ROOM];
+    const struct file loop = read_case("loop-walked.sheet"), sheets[] = { loop, sheet, sheet };
+    const size_t counts[] = { 0, 2, 2 };
+    dogma_line lines[2] = { { 0, 37, 0x50f2bada, 0x407ae5e3 }, { 2, 20, 0, 0x40490000 } };
+    for (int i = 0; i < 3; i++) {
+        if (i == 2)
+            memcpy(lines[1], lines[0], sizeof lines[0]);
+        const struct dogma_answer answer = dogma_check(
+            states, collected, ROOM, collected_values, ROOM, rows, ROOM, bases, ROOM, values, ROOM, work, ROOM, entries, ROOM,
+            entry_values, ROOM, plain, ROOM, sheets[i].bytes, sheets[i].length, (const dogma_line *)lines, counts[i]);
+        say(answer.number, answer.place);
+    }
+}
+
 static void rules_and_texts(struct file sheet, struct file book, struct file fit)
 {
     static const dogma_rule totals[] = { { DOGMA_RULE_TOTAL, 0, 1 }, { DOGMA_RULE_TOTAL, 0, 1 } };
@@ -201,6 +218,7 @@ int main(int count, char **words)
     pilots(book, fit);
     come_and_go();
     write_tables();
+    listings(sheet);
     rules_and_texts(sheet, book, fit);
     return 0;
 }

@@ -98,6 +98,32 @@ over_columns! {
 extern "C" {
     fn dogma_admit(free: *mut [u32; 2], free_room: usize, stretches: *mut Stretches, count: u32, pool: u32, pilot: u32, length: u32) -> Seat;
 
+    fn dogma_check(
+        states: *mut States,
+        collected: *mut [u32; 14],
+        collected_count: usize,
+        collected_values: *mut f64,
+        collected_value_count: usize,
+        rows: *mut [u32; 6],
+        row_count: usize,
+        bases: *mut f64,
+        base_count: usize,
+        values: *mut f64,
+        value_count: usize,
+        work: *mut [u32; 4],
+        work_count: usize,
+        entries: *mut [u32; 12],
+        entry_count: usize,
+        entry_values: *mut f64,
+        entry_value_count: usize,
+        plain: *mut [u32; 2],
+        plain_count: usize,
+        sheet: *const u8,
+        sheet_length: usize,
+        listing: *const [u32; 4],
+        line_count: usize,
+    ) -> Answer;
+
     fn dogma_check_rules(lines: *const [u32; 3], line_count: usize, sheet: *const u8, sheet_length: usize) -> Checked;
 
     fn dogma_check_rules_files(
@@ -160,6 +186,37 @@ pub(crate) fn leave(
 ) -> Seat {
     // SAFETY: as in `calculate_pilot` and `admit`.
     unsafe { with_columns!(dogma_leave, (states.as_mut_ptr()), columns, (free.as_mut_ptr(), FREE, stretches, count, pilot)) }
+}
+
+pub(crate) fn check(states: &mut States, columns: &mut Columns, work: &mut [[u32; 4]], sheet: &[u8], listing: &[[u32; 4]]) -> Answer {
+    // SAFETY: as in `calculate`; the scratch too is borrowed alone. List 5 is not lent.
+    unsafe {
+        dogma_check(
+            states,
+            columns.collected.as_mut_ptr(),
+            columns.collected.len(),
+            columns.collected_values.as_mut_ptr(),
+            columns.collected_values.len(),
+            columns.rows.as_mut_ptr(),
+            columns.rows.len(),
+            columns.bases.as_mut_ptr(),
+            columns.bases.len(),
+            columns.values.as_mut_ptr(),
+            columns.values.len(),
+            work.as_mut_ptr(),
+            work.len(),
+            columns.entries.as_mut_ptr(),
+            columns.entries.len(),
+            columns.entry_values.as_mut_ptr(),
+            columns.entry_values.len(),
+            columns.plain.as_mut_ptr(),
+            columns.plain.len(),
+            sheet.as_ptr(),
+            sheet.len(),
+            listing.as_ptr(),
+            listing.len(),
+        )
+    }
 }
 
 pub(crate) fn check_rules(lines: &[[u32; 3]], sheet: &[u8]) -> Checked {

@@ -31,6 +31,7 @@
 //! | calculate several pilots over one book | [`Pool`] |
 //! | let pilots come and go | [`Hall`] |
 //! | hold a fit against an organiser's rules | [`check_rules`], [`check_rules_files`] |
+//! | hold another planner's figures to the rules | [`Engine::check`], [`Listed`] |
 //! | give the rows to a spreadsheet | [`Engine::export`] |
 //!
 //! **The library.** build.rs links the libdogma that the variable DOGMA_LIBRARY names, else the one that `library/build` wrote, else the
@@ -43,6 +44,7 @@
 compile_error!("the library is for 64-bit machines");
 
 mod builder;
+mod check;
 mod codes;
 mod engine;
 mod export;
@@ -55,6 +57,7 @@ mod rules;
 mod tables;
 
 pub use builder::{Attribute, Book, Buff, Categories, Effect, Fit, Object, ObjectOf, Skill, Touches, Type, WriteError};
+pub use check::Listed;
 pub use codes::{Category, Domain, Operator, Slot, State};
 pub use engine::Engine;
 pub use ffi::Stretches;

@@ -113,6 +113,11 @@ pub enum Refusal {
         /// The object whose attribute was to be calculated.
         object: u64,
     },
+    /// 10 LOOP: an attribute leads back to itself.
+    Loop {
+        /// The lowest object that has such an attribute.
+        object: u64,
+    },
     /// 11 RULES: a line of an organiser's table is bad.
     Rules {
         /// The line.
@@ -152,6 +157,11 @@ pub enum Refusal {
     NoRows {
         /// The pilot.
         pilot: u64,
+    },
+    /// 15 LISTING: a line of a listing is not what the rules give, or is not there.
+    Listing {
+        /// The first such line; as many as there are lines where the next is missing.
+        line: u64,
     },
     /// 16 LABEL: a label of an export is bad.
     Label {
@@ -223,10 +233,12 @@ impl Refusal {
             Refusal::Room { list } => (7, list.number()),
             Refusal::Number { object } => (8, object),
             Refusal::Depth { object } => (9, object),
+            Refusal::Loop { object } => (10, object),
             Refusal::Rules { line } => (11, line),
             Refusal::NoStretch { pilot } | Refusal::Astray { pilot } | Refusal::NoRun { pilot } => (12, pilot),
             Refusal::NoPilot { pilot } | Refusal::IsIn { pilot } | Refusal::NotIn { pilot } => (13, pilot),
             Refusal::NoRows { pilot } => (14, pilot),
+            Refusal::Listing { line } => (15, line),
             Refusal::Label { label } => (16, label),
             Refusal::Table => (18, 0),
             Refusal::Unknown { number, place } => (number, place),
@@ -280,6 +292,7 @@ impl fmt::Display for Refusal {
             Refusal::Depth { object } => {
                 write!(f, "object {object}: an attribute of it would be calculated deeper than the depth allows (at most 256)")
             }
+            Refusal::Loop { object } => write!(f, "object {object}: an attribute of it leads back to itself"),
             Refusal::Rules { line } => {
                 write!(f, "line {line} of the rules: its kind is above 3, it does not come after the line before, its points are above 65535, or a total has an id")
             }
@@ -290,6 +303,7 @@ impl fmt::Display for Refusal {
             Refusal::IsIn { pilot } => write!(f, "pilot {pilot} is in already"),
             Refusal::NotIn { pilot } => write!(f, "pilot {pilot} is not in"),
             Refusal::NoRows { pilot } => write!(f, "pilot {pilot} wants no row"),
+            Refusal::Listing { line } => write!(f, "line {line} of the listing: it is missing, or not what the rules give"),
             Refusal::Label { label } => {
                 write!(f, "label {label}: it has over 64 bytes, one that is not printable ASCII, CR or LF, or its id does not ascend")
             }

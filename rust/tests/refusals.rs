@@ -2,10 +2,29 @@
 mod cases;
 
 use cases::{case, damaged_hall, long_label, sheet_of, BOOK, FIT};
-use dogma::{check_rules, check_rules_files, Engine, Hall, List, Part, Pool, Refusal, Rooms, Rule, Tables};
+use dogma::{check_rules, check_rules_files, Engine, Hall, List, Listed, Part, Pool, Refusal, Rooms, Row, Rule, Tables};
 
 fn refused(sheet: &[u8]) -> Refusal {
     Engine::with_rooms(Rooms::all(4096)).calculate(sheet).map(|_| ()).unwrap_err()
+}
+
+/// A sheet's own rows, as another planner would list them.
+fn listing(sheet: &[u8]) -> Vec<Listed> {
+    let rows: Vec<Row> = Engine::new().calculate(sheet).unwrap().rows().collect();
+    rows.iter().map(|row| Listed { object: row.object, attribute: row.attribute, value: row.value }).collect()
+}
+
+fn engine_checks(sheet: &[u8], lines: &[Listed]) -> Refusal {
+    Engine::new().check(sheet, lines).map(|_| ()).unwrap_err()
+}
+
+#[test]
+fn what_is_accepted() {
+    let sheet = case("L.sheet");
+    let lines = listing(&sheet);
+    let mut engine = Engine::growing(Rooms::all(0), Rooms::all(64));
+    assert_eq!(engine.check(&sheet, &lines).unwrap().value(0, 37), Some(lines[0].value));
+    assert_eq!(engine_checks(&sheet, &[Listed { value: f64::NAN, ..lines[0] }, lines[1], lines[2]]), Refusal::Listing { line: 0 });
 }
 
 /// The refusals in the order of cases/refusals.txt.
@@ -55,6 +74,11 @@ fn all() -> Vec<Refusal> {
     said.push(tables.write_sheet_into(&mut [0; 99]).unwrap_err());
     said.push(Tables { header: [7, 0, 0, 0, 0], ..tables.clone() }.write_fit().unwrap_err());
 
+    let lines = listing(&sheet);
+    said.push(engine_checks(&case("loop-walked.sheet"), &[]));
+    said.push(engine_checks(&sheet, &lines[..2]));
+    said.push(engine_checks(&sheet, &[lines[0], lines[0]]));
+
     let totals = [Rule::Total { points: 1 }; 2];
     said.push(check_rules(&totals, &sheet).unwrap_err());
     said.push(check_rules_files(&totals, BOOK, &FIT[1..]).unwrap_err());
@@ -80,7 +104,7 @@ fn each_number_in_words() {
         panic!("said {said}\nwanted {wanted}");
     }
     assert_eq!(said, wanted);
-    for number in [1, 2, 3, 4, 5, 6, 7, 8, 9, 11, 12, 13, 14, 16, 18] {
+    for number in [1, 2, 3, 4, 5, 6, 7, 8, 9, 10, 11, 12, 13, 14, 15, 16, 18] {
         assert!(all().iter().any(|refusal| refusal.number_and_place().0 == number), "{number} was not seen");
     }
 }
