@@ -978,6 +978,7 @@ static inline struct dogma_exported dogma_export_checked(
         lent->entries, lent->entry_count, lent->entry_values, lent->entry_value_count, lent->plain, lent->plain_count,
         lent->sources, lent->source_count, lent->source_values, lent->source_value_count,
         labels, label_count, label_bytes, label_byte_count, sheet, sheet_length);
+}
 
 /* ---- another planner's figures
  *
