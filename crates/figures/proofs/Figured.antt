@@ -1,18 +1,19 @@
 -- Lines of figures, one after another from the front of a text.
 use Prim.Native.Nat.{ℕ, zero, suc, _+_, _-_, _*_, _^_, _≤_, _<_}
-use native.Mathlib.Nat.{not-suc-le-zero, le-of-suc-le-suc}
+use native.Mathlib.Nat.{not-suc-le-zero, le-of-suc-le-suc, pow-le-pow-right}
 use native.Mathlib.Numerals.{add-one}
 use native.Mathlib.Omega.{arith}
 use mathlib.Core.Path.{_≡_, refl, sym, ap, subst, _∙_}
-use mathlib.Core.Bool.{true}
+use mathlib.Core.Bool.{Bool, true, false}
 use mathlib.Core.List.{List, [], _∷_, _++_, append-assoc, append-nil}
-use lib.Dec.{T}
+use lib.Dec.{T, ltb}
 use lib.Ieee.{Float, nan, inf, fin, ne, eq, binary64, fits, toBits}
 use lib.Ieee.Compare.{differs-from-itself}
 use lib.IntN.{ℤ}
 use lib.ListN.{length, take, getD}
 use mir.Syntax.{w32}
 use mir.Val.{toZ}
+use borrow.Author.Tests.{ltb-true, ltb-false}
 use Rattle.io.specs.Digits.{digits, Fewest}
 use Rattle.laws.specs.Floats.{zeroF}
 use Rattle.rules.specs.Answer.{Res, ok, refused, number, place}
@@ -26,7 +27,7 @@ use Rattle.listing.specs.Pieces.{Shown, Tells}
 use Rattle.listing.specs.Put.{put, puts, Begins}
 use Rattle.listing.proofs.Puts.{grows, as-long}
 use Rattle.listing.proofs.Told.{no-number}
-use Rattle.figures.specs.Figures.{longest, bitsText, figure, figures, figured, figuresText}
+use Rattle.figures.specs.Figures.{longest, bitsText, fields, figure, figures, figured, figuresText}
 
 -- ---- the bits of a float
 
@@ -34,23 +35,29 @@ pub bits-of-nan : (x : Float) → ne x x ≡ true → 9221120237041090560 ≡ to
 unfolding toBits
 bits-of-nan x h = rw (differs-from-itself x (subst T (sym h) tt)) refl
 
--- sixteen digits of them
+-- 64 bits have sixteen digits
+module _ (n k : ℕ) (f : Fewest 16 16 n k) (h : n < 18446744073709551616) where
+  no-more : (t : Bool) → ltb 16 k ≡ t → k ≤ 16
+  no-more false e = omega (arith, ltb-false 16 k e)
+  no-more true e = absurd (omega (arith, h, f .2 (ltb-true 16 k e), pow-le-pow-right {n = 16} (omega arith) {i = 16} {j = k - 1} (omega (arith, ltb-true 16 k e))))
+
+  pub sixteen : k ≡ 16
+  sixteen = omega (arith, f .0, no-more (ltb 16 k) refl)
+
 pub bits-are : (n k : ℕ) {xs : List ℕ} → xs ≡ digits 16 k n → k ≡ 16 → xs ≡ bitsText n
 unfolding bitsText
 bits-are n k e h = e ∙ ap (λ (m : ℕ). digits 16 m n) h
 
 -- ---- a line, from each place where a piece of it begins
 
-abbrev pub ended : ℕ → List ℕ
-ended n = bitsText n ++ (10 ∷ [])
-
 abbrev pub id : ℤ → ℕ → List ℕ
-id i n = integer i ++ (32 ∷ ended n)
+id i n = integer i ++ (32 ∷ bitsText n)
 
-abbrev pub object : ℕ → ℤ → ℕ → List ℕ
-object o i n = natural o ++ (32 ∷ id i n)
+pub fields-are : (o n : ℕ) {i j : ℤ} → i ≡ j → natural o ++ (32 ∷ id i n) ≡ fields o j n
+unfolding fields
+fields-are o n e = rw e refl
 
-pub figure-is : (r : Row) (v : Float) {o : ℕ} {i : ℤ} {n : ℕ} → r .object ≡ o → r .id ≡ i → n ≡ toBits binary64 v → object o i n ≡ figure r v
+pub figure-is : (r : Row) (v : Float) {o : ℕ} {i : ℤ} {n : ℕ} → r .object ≡ o → r .id ≡ i → n ≡ toBits binary64 v → fields o i n ++ (10 ∷ []) ≡ figure r v
 unfolding figure
 figure-is r v a b c = rw (sym a, sym b, c) refl
 

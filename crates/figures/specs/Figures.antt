@@ -2,6 +2,7 @@
 use Prim.Native.Nat.{ℕ}
 use mathlib.Core.List.{List, [], _∷_, _++_}
 use lib.Ieee.{Float, binary64, toBits}
+use lib.IntN.{ℤ}
 use lib.ListN.{take}
 use Rattle.io.specs.Digits.{digits}
 use Rattle.rules.specs.Answer.{Res, ok, refused}
@@ -14,13 +15,20 @@ use Rattle.rules.specs.Outcome.{Done}
 abbrev pub longest : ℕ
 longest = 40
 
+abbrev pub longestFields : ℕ
+longestFields = 39
+
 -- "the float's 64 bits"
 unfoldable pub bitsText : ℕ → List ℕ
 bitsText n = digits 16 16 n
 
--- "object, attribute, 16 hexadecimal digits a line"
+-- "object, attribute, 16 hexadecimal digits"
+unfoldable pub fields : ℕ → ℤ → ℕ → List ℕ
+fields o i n = natural o ++ (ascii " " ++ (integer i ++ (ascii " " ++ bitsText n)))
+
+-- "a line"
 unfoldable pub figure : Row → Float → List ℕ
-figure r v = natural (r .object) ++ (ascii " " ++ (integer (r .id) ++ (ascii " " ++ (bitsText (toBits binary64 v) ++ ascii "\n"))))
+figure r v = fields (r .object) (r .id) (toBits binary64 v) ++ ascii "\n"
 
 unfoldable pub figures : List Row → List Float → List ℕ
 figures [] vs = []

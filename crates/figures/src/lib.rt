@@ -18,10 +18,10 @@ ghost use Rattle.rules.specs.Outcome.{Done};
 ghost use Rattle.listing.specs.Pieces.{longestRefusal, Shown, Tells};
 ghost use Rattle.listing.specs.Put.{Added, Begins};
 ghost use Rattle.figures.specs.Figures as rule;
-ghost use Rattle.figures.specs.Figures.{longest, bitsText, figuresText};
+ghost use Rattle.figures.specs.Figures.{longest, longestFields, bitsText, fields, figuresText};
 
 // A float's 64 bits.
-fn bits_of(x: f64) -> u64
+pub fn bits_of(x: f64) -> u64
     ensures defined { λ r. ⌜ r ≡ toBits binary64 x ⌝ }
 {
     if x != x {
@@ -31,7 +31,7 @@ fn bits_of(x: f64) -> u64
 }
 
 // 64 bits as hexadecimal digits.
-pub fn put_bits(out: &mut [u8], at: usize, bits: u64) -> usize
+fn put_bits(out: &mut [u8], at: usize, bits: u64) -> usize
     requires room { ⌜ at + 16 ≤ length (now out) ⌝ }
     ensures added { λ r. ⌜ Added out at r (bitsText bits) ⌝ }
     ensures within { λ r. ⌜ r ≤ at + 16 ⌝ }
@@ -39,6 +39,19 @@ pub fn put_bits(out: &mut [u8], at: usize, bits: u64) -> usize
     let mut digits = [0u8; 16];
     let n = io::hex(bits, 16, &mut digits);
     put_text(out, at, &digits[..n])
+}
+
+// A line without its end.
+pub fn put_fields(out: &mut [u8], at: usize, object: u32, id: i32, bits: u64) -> usize
+    requires room { ⌜ at + longestFields ≤ length (now out) ⌝ }
+    ensures added { λ r. ⌜ Added out at r (fields object id bits) ⌝ }
+    ensures within { λ r. ⌜ r ≤ at + longestFields ⌝ }
+{
+    let space = put_u32(out, at, object);
+    let attribute = put_byte(out, space, b' ');
+    let space = put_integer(out, attribute, id);
+    let number = put_byte(out, space, b' ');
+    put_bits(out, number, bits)
 }
 
 // A row's line.
@@ -49,11 +62,7 @@ fn figure(out: &mut [u8], at: usize, object: u32, id: i32, value: f64) -> usize
     ensures within { λ r. ⌜ r ≤ at + longest ⌝ }
 {
     let bits = bits_of(value);
-    let space = put_u32(out, at, object);
-    let attribute = put_byte(out, space, b' ');
-    let space = put_integer(out, attribute, id);
-    let number = put_byte(out, space, b' ');
-    let line_end = put_bits(out, number, bits);
+    let line_end = put_fields(out, at, object, id, bits);
     put_byte(out, line_end, b'\n')
 }
 
