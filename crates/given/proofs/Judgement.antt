@@ -26,6 +26,8 @@ use Rattle.memory.proofs.Holdings.{met, missed}
 use Rattle.memory.proofs.Nanned.{valued}
 use Rattle.memory.proofs.Nanned.{shown-length as shown-long}
 use Rattle.memory.proofs.Readings.{its-row, starting}
+use Rattle.values.specs.Starting.{Untouched}
+use Rattle.values.proofs.Settling.{settled-meets}
 use Rattle.values.proofs.PreparedBlankLaws.{own-none, held-at-first}
 use Rattle.given.specs.Judging.{off, Judged, calculatedFrom, GotIs, RestoredAs}
 use Rattle.given.proofs.Beside.{ownCalculation, taken-out, both, neither, put-back}
@@ -125,3 +127,11 @@ module _ {t : Tables} {v : List Float} (h : Judged t v) (i : ℕ) (inside : i < 
           let b = both (h .world) (h .values) (h .free) i inside-values (its-row (h .told .held) i within) mem (taken-out (h .world) (h .values) (h .free) i inside-values (its-row (h .told .held) i within)) (q .read) (sym asked ∙ q .is) in
           ap (λ (l : List Float). set l i (getD v i nan)) (q .holds .values) ∙ ap (λ (l : List Float). set (valueColumn (q .read .mem .values)) i (getD l i nan)) (h .column)
           ∙ put-back (h .world) (h .values) (h .free) i inside-values (its-row (h .told .held) i within) (q .read .mem .values) (b .rest) ∙ sym (h .column)
+
+  -- nothing is asked of a row that nothing touches: its value is its base
+  pub base-given : Untouched (t .rows) (t .limits) i 1 → GotIs (calculatedFrom (h .world) (h .values) i) (got.Value (getD (t .bases) i nan) 0)
+  unfolding eq
+  base-given u =
+      let none-there : eq (getD (set v i nan) i nan) (getD (set v i nan) i nan) ≡ false = ap (λ (x : Float). eq x x) (getD-set-same v i nan nan column-inside) in
+      is-given nan [] [] refl (set (set v i nan) i (getD (t .bases) i nan)) [] [] (got.Value (getD (t .bases) i nan) 0)
+      (settled-meets (ready nan [] [] refl) i inside none-there 1 u)

@@ -2,6 +2,8 @@
 use columns::AttributeRow;
 use columns::EntryRow;
 use columns::Limits;
+use columns::ROW_ATTRIBUTE;
+use columns::ROW_ENTRY_COUNT;
 use columns::SOURCE_FLOATS;
 use columns::SOURCE_WIDTH;
 use columns::States;
@@ -12,10 +14,13 @@ use lines::LineRow;
 use lines::first_other;
 use lines::set_listed;
 use memory::apply::Got;
+use numbers::integers::signed;
 use pass_3::calculate_value;
 use reading::rows::Found;
+use reading::stretches::is_limited;
 use sources::Recording;
 ghost use mathlib.Core.Path.{_≡_};
+ghost use mathlib.Core.Bool.{true};
 ghost use Prim.Native.Nat.{_<_};
 ghost use mathlib.Core.List.{map};
 ghost use mathlib.Core.Option.{none};
@@ -25,11 +30,27 @@ ghost use Rattle.laws.specs.Floats.{finite};
 ghost use Rattle.memory.specs.Steps.{rowAt};
 ghost use Rattle.pass_3.specs.Calls.{lent, read};
 ghost use Rattle.reading.specs.Held.{placed};
+ghost use Rattle.values.specs.Starting.{Untouched};
 ghost use Rattle.settled.specs.Given.{given};
 ghost use Rattle.settled.specs.Lines.{lineOf, sameFloat, isGiven, firstWrong, firstBad};
 ghost use Rattle.given.specs.Judging.{Judged, Awaits, LaidUnless, calculatedFrom, GotIs, Restored, KeptIf, KeptUnless};
 
-// A row's value from the other listed values: its own is taken out of the column meanwhile, so only its own calculation starts.
+// Whether a row's value is its base: it has no entries, and its attribute has no limit.
+fn is_untouched(rows: &[AttributeRow], limits: &Limits, row: usize) -> bool
+    requires within { ⌜ row < length (now rows) ⌝ }
+    ensures untouched { λ r. ⌜ (r ≡ true → Untouched (now (rows .entry)) (now (limits .entry)) row 1) ⌝ }
+{
+    let count = rows[row][ROW_ENTRY_COUNT];
+    if count != 0 {
+        return false;
+    }
+    let id = signed(rows[row][ROW_ATTRIBUTE]);
+    let limited = is_limited(limits, id);
+    !limited
+}
+
+// A row's value from the other listed values: its base where nothing touches it; else its own listed value is taken out of the column
+// meanwhile, so only its own calculation starts.
 fn given_at(
     values: &mut [f64],
     book: &[u8],
@@ -51,6 +72,11 @@ fn given_at(
         ⌜ ((h : Judged t (now (values .entry))) → GotIs (calculatedFrom (h .world) (h .values) row) r) ⌝ }
     ensures kept { λ r. ⌜ Restored r values ⌝ }
 {
+    let plain = is_untouched(rows, limits, row);
+    if plain {
+        let base = bases[row];
+        return Got::Value(base, 0);
+    }
     let listed = values[row];
     values[row] = 0.0 / 0.0;
     let mut sources = [[0u32; SOURCE_WIDTH]; 1];

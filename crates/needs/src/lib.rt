@@ -20,9 +20,10 @@ use reading::rows::Found;
 use reading::stretches::find;
 use reading::stretches::is_limited;
 ghost use mathlib.Core.Path.{_≡_};
+ghost use mathlib.Core.Bool.{true};
 ghost use mathlib.Core.List.{List, []};
 ghost use mathlib.Core.Option.{none};
-ghost use Prim.Native.Nat.{_+_, _*_, _%_, _<_};
+ghost use Prim.Native.Nat.{ℕ, _+_, _*_, _%_, _<_};
 ghost use lib.ListN.{length, getD};
 ghost use Rattle.rules.specs.Dispatch.{Row};
 ghost use Rattle.rules.specs.declared.Effect.{Effect};
@@ -98,6 +99,29 @@ fn held_need(
         return limit_need(rows, stretches, object, record.min_attribute_id);
     }
     limit_need(rows, stretches, object, record.max_attribute_id)
+}
+
+// Whether a row is sure to need nothing: it has no entries, and its attribute no limit.
+pub fn needs_nothing(
+    book: &[u8],
+    pairs: &TablePairs,
+    stretches: &Stretches,
+    limits: &Limits,
+    rows: &[AttributeRow],
+    entries: &[EntryRow],
+    row: usize,
+) -> bool
+    requires within { ⌜ row < length (now rows) ⌝ }
+    ensures nothing { λ r. ⌜ ((h : KnowsNeeds (needsRead book pairs stretches limits rows entries)) → r ≡ true
+        → (s : ℕ) → none ≡ needAt (h .world) row s) ⌝ }
+{
+    let count = rows[row][ROW_ENTRY_COUNT];
+    if count != 0 {
+        return false;
+    }
+    let id = signed(rows[row][ROW_ATTRIBUTE]);
+    let has_limits = is_limited(limits, id);
+    !has_limits
 }
 
 // How many slots a row has.

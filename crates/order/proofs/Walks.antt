@@ -11,7 +11,7 @@ use Rattle.needs.specs.Slots.{needAt}
 use Rattle.needs.specs.Telling.{NeedTables, KnowsNeeds}
 use Rattle.needs.proofs.Showing.{row-count, need-inside, need-slot}
 use Rattle.order.specs.Ranks.{num, Put, Unmet, Ranked}
-use Rattle.order.specs.Walks.{Placing, Walking, Pushable, Looking}
+use Rattle.order.specs.Walks.{Placing, Walking, Pushable, Looking, AllPlaced}
 use Rattle.order.specs.declared.Walk.{Walk}
 use Rattle.order.proofs.Puts.{beside, other}
 use Rattle.order.proofs.Placing.{Alike, alike-placing, next-placing, pass-placing, place-placing, all-placed}
@@ -112,12 +112,12 @@ module _ {t : NeedTables} {c : List (List ℕ)} where
         }
 
     -- all slots are done with
-    all-looked : 2 * getD (getD (t .rows) row []) 3 0 + 2 ≤ num c row 1 → (h : KnowsNeeds t) (s k : ℕ) → some k ≡ needAt (h .world) row s → num c k 0 ≡ 2
+    pub all-looked : 2 * getD (getD (t .rows) row []) 3 0 + 2 ≤ num c row 1 → AllPlaced t c row
     all-looked l h s k e = W .placing h .looked row s k (R .within) (R .unplaced) (omega (arith, l, row-count (h .told) row (R .within), need-slot (h .world) row s k e)) e
 
-    pub walking-place : {c₁ c₂ c₃ : List (List ℕ)} → 2 * getD (getD (t .rows) row []) 3 0 + 2 ≤ num c row 1 → walk .placed < length (t .rows) → Put c row 0 2 c₁ → Put c₁ row 1 (walk .placed) c₂ → Put c₂ (walk .placed) 3 row c₃
+    pub walking-place : {c₁ c₂ c₃ : List (List ℕ)} → AllPlaced t c row → walk .placed < length (t .rows) → Put c row 0 2 c₁ → Put c₁ row 1 (walk .placed) c₂ → Put c₂ (walk .placed) 3 row c₃
         → length c₃ ≡ length c → Walking t (record { next = walk .next; depth = walk .depth; placed = walk .placed + 1 }) c₃
-    walking-place {c₁} {c₂} {c₃} l room p q r same =
+    walking-place {c₁} {c₂} {c₃} all room p q r same =
         record {
           long = omega (arith, same, W .long);
           few = W .few;
@@ -130,8 +130,15 @@ module _ {t : NeedTables} {c : List (List ℕ)} where
               (λ j n. beside r j 1 tt tt ∙ other q j 1 tt n ∙ beside p j 1 tt tt)
               (λ j n. other r j 3 tt n ∙ beside q j 3 tt tt ∙ beside p j 3 tt tt)
               (beside r row 0 tt tt ∙ beside q row 0 tt tt ∙ p .here)
-              (beside r row 1 tt tt ∙ q .here) (r .here) (all-looked l h) (h .told .held .long);
+              (beside r row 1 tt tt ∙ q .here) (r .here) (all h) (h .told .held .long);
         }
+
+-- what needs nothing needs nothing but placed rows
+pub nothing-needed : {t : NeedTables} (c : List (List ℕ)) (row : ℕ) → ((h : KnowsNeeds t) (s : ℕ) → none ≡ needAt (h .world) row s) → AllPlaced t c row
+nothing-needed c row f h s k e =
+    let z : _≡_ {A = Option ℕ} none (some k) = f h s ∙ sym e in
+    let y : _≡_ {A = ℕ} 0 1 = cc in
+    absurd (omega arith)
 
 -- ---- what a look finds
 

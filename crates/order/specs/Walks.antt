@@ -43,6 +43,10 @@ pub record Pushable (rows c : List (List ℕ)) (row : ℕ) : Type 0 where
 abbrev pub Looking : NeedTables → List (List ℕ) → ℕ → Type 0
 Looking t c row = (h : KnowsNeeds t) (k : ℕ) → some k ≡ needAt (h .world) row (num c row 1) → num c k 0 ≡ 2
 
+-- all that a row needs is placed
+abbrev pub AllPlaced : NeedTables → List (List ℕ) → ℕ → Type 0
+AllPlaced t c row = (h : KnowsNeeds t) (s k : ℕ) → some k ≡ needAt (h .world) row s → num c k 0 ≡ 2
+
 abbrev pub TurnsTo : NeedTables → Turned → List (List ℕ) → Type 0
 TurnsTo t (turn.On walk) c = Walking t walk c
 TurnsTo t turn.Stop c = Unit {0}

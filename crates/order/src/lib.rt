@@ -6,6 +6,7 @@ use columns::Stretches;
 use columns::TablePairs;
 use info::little_endian::index;
 use needs::need_at;
+use needs::needs_nothing;
 use needs::slots_of;
 use reading::rows::Found;
 ghost use mathlib.Core.Path.{_≡_};
@@ -15,7 +16,7 @@ ghost use Prim.Native.Nat.{_+_, _*_, _≤_, _<_, _^_};
 ghost use lib.ListN.{length, getD};
 ghost use Rattle.needs.specs.Telling.{NeedTables, needTables, needsRead, KnowsNeeds};
 ghost use Rattle.order.specs.Ranks.{num, Put, Unmet, Ranked};
-ghost use Rattle.order.specs.Walks.{Walking, Pushable, Looking, TurnsTo};
+ghost use Rattle.order.specs.Walks.{Walking, Pushable, Looking, AllPlaced, TurnsTo};
 
 // What is kept of row j while rows are put in order: four numbers.
 pub type WorkRow = [u32; 4];
@@ -96,7 +97,7 @@ fn push(work: &mut [WorkRow], walk: Walk, row: usize) -> Turned
 fn place(work: &mut [WorkRow], n: usize, walk: Walk, row: usize) -> Turned
     requires inside { ⌜ (row < n) × ((n ≤ length (now work)) × (n < 2 ^ 32)) ⌝ }
     ensures walking { λ r. ⌜ ((t : NeedTables) → n ≡ length (t .rows) → Walking t walk (now (work .entry))
-        → Pushable (t .rows) (now (work .entry)) row → 2 * getD (getD (t .rows) row []) 3 0 + 2 ≤ num (now (work .entry)) row 1
+        → Pushable (t .rows) (now (work .entry)) row → AllPlaced t (now (work .entry)) row
         → TurnsTo t r (now (work .exit))) ⌝ }
 {
     if n <= walk.placed {
@@ -161,7 +162,7 @@ fn look(
     }
 }
 
-// One turn: the path's last row is placed, left or looked at; with no path the next row begins one.
+// One turn: the path's last row is placed, left or looked at; with no path the next row is placed, if it needs nothing, or begins one.
 fn turn(
     work: &mut [WorkRow],
     book: &[u8],
@@ -186,6 +187,10 @@ fn turn(
                 depth: 0,
                 placed: walk.placed,
             });
+        }
+        let needless = needs_nothing(book, pairs, stretches, limits, rows, entries, row);
+        if needless {
+            return place(work, rows.len(), walk, row);
         }
         return push(work, walk, row);
     }
