@@ -1,4 +1,4 @@
--- A run's rows as the listing that `check` reads: object, attribute, and the value's bits as 16 hexadecimal digits. Definitions only.
+-- A run's rows as the listing that `checker` reads: object, attribute, and the value's bits as 16 hexadecimal digits. Definitions only.
 use Prim.Native.Nat.{ℕ}
 use mathlib.Core.List.{List, [], _∷_, _++_}
 use lib.Ieee.{Float, binary64, toBits}

@@ -1,4 +1,4 @@
-// A run's rows as the listing that `check` reads: object, attribute, and the value's bits as 16 hexadecimal digits.
+// A run's rows as the listing that `checker` reads: object, attribute, and the value's bits as 16 hexadecimal digits.
 use columns::AttributeRow;
 use columns::ROW_ATTRIBUTE;
 use columns::ROW_OBJECT;

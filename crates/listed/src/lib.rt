@@ -1,4 +1,4 @@
-// The program `sheet`, from the bytes read to the bytes to be written: 01's listing, or the one that `check` reads.
+// The program `sheet`, from the bytes read to the bytes to be written: 01's listing, or the one that `checker` reads.
 use calculate::dogma_calculate;
 use columns::ENTRY_WIDTH;
 use columns::OBJECTS;
