@@ -26,10 +26,7 @@ use Rattle.listing.specs.Pieces.{Shown, Tells}
 use Rattle.listing.specs.Put.{Begins}
 use Rattle.listing.proofs.Told.{no-number}
 use Rattle.figures.specs.Figures.{fields}
-use Rattle.lines.specs.Lines.{Rows, rows, bad, figureLines}
-use Rattle.lines.specs.Reads.{rowsOf, ReadWithin}
-use Rattle.lines.specs.declared.Read.{Read}
-use Rattle.lines.specs.declared.Read.the-variants as read
+use Rattle.lines.specs.Lines.{Rows, figureLines}
 use Rattle.said.specs.Said.{Says}
 use Rattle.text.specs.SheetText.{rooms}
 use Rattle.checks.specs.Check.{numberOf, placeOf, checked}
@@ -167,18 +164,6 @@ pub begins-as : {text xs ys : List ℕ} {end : ℕ} → xs ≡ ys → Begins tex
 begins-as {text} {xs} {ys} {end} e g = subst (Begins text end) e g
 
 -- ---- what was read of the listing's lines
-
-pub bad-small : (n : ℕ) {r : Read} {i : ℕ} → r ≡ read.Bad i → ReadWithin r n → i ≤ n + 1
-bad-small n e w = subst (λ (x : Read). ReadWithin x n) e w
-
-pub rows-small : (n : ℕ) {r : Read} {i : ℕ} → r ≡ read.Rows i → ReadWithin r n → i ≤ n
-rows-small n e w = subst (λ (x : Read). ReadWithin x n) e w
-
-pub told-bad : (out : List (List ℕ)) {r : Read} {i : ℕ} {l : Rows} → r ≡ read.Bad i → rowsOf r out ≡ l → bad i ≡ l
-told-bad out e k = sym (ap (λ (x : Read). rowsOf x out) e) ∙ k
-
-pub told-rows : (out : List (List ℕ)) {r : Read} {i : ℕ} {l : Rows} → r ≡ read.Rows i → rowsOf r out ≡ l → rows (take i out) ≡ l
-told-rows out e k = sym (ap (λ (x : Read). rowsOf x out) e) ∙ k
 
 pub says-lines : (b text : List ℕ) {r : Rows} {s : Says} → r ≡ figureLines linesLent text → s ≡ withLines b r → s ≡ checkText b text
 unfolding checkText

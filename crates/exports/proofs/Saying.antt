@@ -27,10 +27,7 @@ use Rattle.csv.specs.Csv.{csv}
 use Rattle.csv.specs.Labels.{Export, text, engine, label, full, idOf, labelGood, standsAfter, badFrom, labelBad, labelsOf, records, fitted, labelled, exportOf, numberOf, placeOf, textOf}
 use Rattle.csv.specs.declared.Told.{Told}
 use Rattle.spreadsheet.specs.Exports.{ExportedAs}
-use Rattle.lines.specs.Lines.{Rows, rows, bad, labelLines}
-use Rattle.lines.specs.Reads.{rowsOf, ReadWithin}
-use Rattle.lines.specs.declared.Read.{Read}
-use Rattle.lines.specs.declared.Read.the-variants as read
+use Rattle.lines.specs.Lines.{Rows, labelLines}
 use Rattle.said.specs.Said.{Says, answer, refusal, badLine}
 use Rattle.text.specs.SheetText.{rooms}
 use Rattle.exports.specs.ExportText.{labelsLent, exportSays, withLabels, exportText}
@@ -175,18 +172,6 @@ module _ (o : Res Done) (ls : List (List ℕ)) (bytes : List ℕ) (n : ℕ) (tol
       (g .0, g .1)
 
 -- ---- what was read of the labels' lines
-
-pub bad-small : (n : ℕ) {r : Read} {i : ℕ} → r ≡ read.Bad i → ReadWithin r n → i ≤ n + 1
-bad-small n e w = subst (λ (x : Read). ReadWithin x n) e w
-
-pub rows-small : (n : ℕ) {r : Read} {i : ℕ} → r ≡ read.Rows i → ReadWithin r n → i ≤ n
-rows-small n e w = subst (λ (x : Read). ReadWithin x n) e w
-
-pub told-bad : (out : List (List ℕ)) {r : Read} {i : ℕ} {l : Rows} → r ≡ read.Bad i → rowsOf r out ≡ l → bad i ≡ l
-told-bad out e k = sym (ap (λ (x : Read). rowsOf x out) e) ∙ k
-
-pub told-rows : (out : List (List ℕ)) {r : Read} {i : ℕ} {l : Rows} → r ≡ read.Rows i → rowsOf r out ≡ l → rows (take i out) ≡ l
-told-rows out e k = sym (ap (λ (x : Read). rowsOf x out) e) ∙ k
 
 pub says-lines : (n : ℕ) (sheet labels : List ℕ) {r : Rows} {s : Says} → r ≡ labelLines labelsLent labels → s ≡ withLabels n sheet labels r → s ≡ exportText n sheet labels
 unfolding exportText

@@ -1,4 +1,5 @@
 pub mod Going
 pub mod Fielded
 pub mod Rowed
+pub mod Readings
 pub mod Examples

@@ -13,7 +13,8 @@ use mathlib.Core.Path.{sym, ap}
 use lib.ListN.{length}
 use lib.Seq.{length-take-le}
 use Rattle.said.specs.Said.{answer, refusal}
-use Rattle.compared.proofs.Saying.{bad-small, rows-small, told-bad, told-rows, says-lines}
+use Rattle.lines.proofs.Readings.{bad-small, rows-small, told-bad, told-rows}
+use Rattle.compared.proofs.Saying.{says-lines}
 
 slice-aggregate-figure-rows : tie.Need-slice-aggregate-figure-rows
 slice-aggregate-figure-rows c = search needs

@@ -13,7 +13,8 @@ use mathlib.Core.Path.{refl, sym, ap, _∙_}
 use lib.ListN.{length}
 use lib.Seq.{length-take-le}
 use Rattle.said.specs.Said.{refusal}
-use Rattle.exports.proofs.Saying.{bad-small, rows-small, told-bad, told-rows, says-lines}
+use Rattle.lines.proofs.Readings.{bad-small, rows-small, told-bad, told-rows}
+use Rattle.exports.proofs.Saying.{says-lines}
 
 slice-aggregate-label-rows : tie.Need-slice-aggregate-label-rows
 slice-aggregate-label-rows c = search needs
