@@ -1,4 +1,6 @@
 // The engine's entry: the bytes of a sheet and lent lists go in, every list, every state and the answer come out (calculate.rs).
+#![tactic(auto)]
+
 ghost use Rattle.std.specs.Prelude.{◌≡◌, ◌≤◌, length};
 ghost use Rattle.rules.specs.Bytes.{pairs_of};
 ghost use Rattle.rules.specs.Sheet.{book_of, fit_of};

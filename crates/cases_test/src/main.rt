@@ -1,5 +1,7 @@
 // Runs `sheet_text` on every sheet of cases/, and compares what it gives with the sheet's text.
 // Standard input is made by cases/make_texts.py, which says how it is read.
+#![tactic(auto)]
+
 use info::little_endian::{index, u32_at};
 use libc::{STDIN_FILENO, STDOUT_FILENO};
 use std::num::{wrapping_add_u64, wrapping_add_usize};

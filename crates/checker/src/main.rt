@@ -1,4 +1,6 @@
 // The program: `checker SHEET LISTING` says whether another planner's listing is ours to the last bit.
+#![tactic(auto)]
+
 ghost use Rattle.std.specs.Prelude.{◌≤◌, length};
 
 use compared::{LINE_BYTES, check_text};

@@ -1,4 +1,6 @@
 // M-111: another planner's listing beside a sheet: is it ours to the last bit, and if not, which line is the first that is not.
+#![tactic(auto)]
+
 ghost use Rattle.std.specs.Prelude.{◌≡◌, map, length};
 ghost use Rattle.promises.specs.NoMemory.{book_in, fit_in};
 ghost use Rattle.run.specs.Filled.{lent_of};

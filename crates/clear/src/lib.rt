@@ -1,4 +1,6 @@
 // Unused ends are zero: every column that is lent, and the states, cleared behind the counts in one pass. With counts of 0 all is zero.
+#![tactic(auto)]
+
 ghost use Rattle.std.specs.Prelude.{◌≡◌, length, replicate};
 ghost use Rattle.laws.specs.Floats.{zero_f};
 ghost use Rattle.clear.specs.Ends.{ClearedFrom};

@@ -1,4 +1,6 @@
 // Collection (pass_2.rs up to the dispatch): all objects' effects and the buffs, in order, into lists 1 and 4.
+#![tactic(auto)]
+
 use item::locations::Categories;
 
 // What of the fit all its objects go by: the categories of modules, whether the hull is a structure, the char.

@@ -1,4 +1,5 @@
 // What a row of each column is, and what each of its numbers says (01, "What comes back"). The names are those of include/dogma.h.
+#![tactic(auto)]
 
 // The most objects of a fit.
 pub const OBJECTS: usize = 1024;

@@ -1,4 +1,6 @@
 // The program for M-111, from the bytes of a sheet and of a listing's text to the line to be written.
+#![tactic(auto)]
+
 ghost use Rattle.std.specs.Prelude.{◌≡◌, map, ℕ, ◌+◌, ◌*◌, ◌≤◌, length};
 ghost use Rattle.rules.specs.Answer.{Res};
 ghost use Rattle.rules.specs.Outcome.{Done, outcome};

@@ -1,4 +1,6 @@
 // A run's rows as comma-separated text by RFC 4180, with lent labels for the attributes.
+#![tactic(auto)]
+
 ghost use Rattle.std.specs.Prelude.{◌≡◌, ◌≤◌, length, get_or, replicate};
 ghost use Rattle.std.proofs.Math.Option.{none};
 ghost use Rattle.clear.specs.Ends.{ClearedFrom};

@@ -1,4 +1,6 @@
 // Dispatch (pass_2.rs, second half): the rows and entries of all objects, or the list that is full first.
+#![tactic(auto)]
+
 ghost use Rattle.std.specs.Prelude.{List, ◌≤◌, ◌<◌, ◌^◌, length};
 ghost use Rattle.rules.specs.Bytes.{count_of};
 ghost use Rattle.rules.specs.Sheet.{fit_of};

@@ -1,4 +1,6 @@
 // Any list of calls of a club's evening: what one gives back is in specs/, what holds of them in proofs/.
+#![tactic(auto)]
+
 ghost use Rattle.std.specs.Prelude.{◌≡◌};
 
 // A crate has a function.

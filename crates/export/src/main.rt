@@ -1,4 +1,6 @@
 // The program: `export SHEET LABELS` writes the sheet's rows as comma-separated text to standard output.
+#![tactic(auto)]
+
 ghost use Rattle.std.specs.Prelude.{◌≤◌, length};
 
 use exports::{TEXT_BYTES, export_text};

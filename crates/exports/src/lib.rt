@@ -1,4 +1,6 @@
 // The program `export`, from the bytes of a sheet and of a text of labels to the bytes to be written.
+#![tactic(auto)]
+
 ghost use Rattle.std.specs.Prelude.{◌≡◌, ◌≤◌, length};
 ghost use Rattle.rules.specs.Outcome.{outcome};
 ghost use Rattle.csv.specs.Labels.{export_of};

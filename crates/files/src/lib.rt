@@ -1,4 +1,6 @@
 // A book and a fit as two files: their ten pairs, and 1 SHAPE of the book, then of the fit.
+#![tactic(auto)]
+
 ghost use Rattle.std.specs.Prelude.{◌≡◌, ◌++◌, ◌≤◌, length};
 ghost use Rattle.laws.specs.Lists.{from};
 ghost use Rattle.rules.specs.Files as rule;

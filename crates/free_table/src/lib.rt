@@ -1,4 +1,6 @@
 // A lent table of free stretches: its first seventeen, by value and back.
+#![tactic(auto)]
+
 ghost use Rattle.std.specs.Prelude.{◌≡◌, ◌≤◌, length};
 ghost use Rattle.free_table.specs.Table.{loaded, stored};
 

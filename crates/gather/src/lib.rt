@@ -1,4 +1,6 @@
 // What one operator gathers of a row's entries, entry by entry (pass_3.rs).
+#![tactic(auto)]
+
 ghost use Rattle.std.specs.Prelude.{◌≡◌, true, false, ◌+◌, ◌≤◌, ◌<◌, ◌^◌, min, T, Float, length};
 ghost use Rattle.std.specs.Float.Ieee.{lt};
 ghost use Rattle.laws.specs.Floats.{finite, zero_f};

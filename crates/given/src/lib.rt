@@ -1,4 +1,6 @@
 // A listed value beside what the rules give from the other listed values: no attribute is calculated by descent.
+#![tactic(auto)]
+
 ghost use Rattle.std.specs.Prelude.{◌≡◌, true, ◌<◌, map, T, length, get_or};
 ghost use Rattle.std.proofs.Math.Option.{none};
 ghost use Rattle.laws.specs.Floats.{finite};

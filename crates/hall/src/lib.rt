@@ -1,4 +1,6 @@
 // Pilots come and go: a pilot is admitted with as many rows of every list as it wants, and gives them back when it leaves.
+#![tactic(auto)]
+
 ghost use Rattle.std.specs.Prelude.{◌≡◌, ◌+◌, ◌≤◌, ◌<◌, min, length};
 ghost use Rattle.seats.specs.Told.{hall_of};
 ghost use Rattle.evenings.specs.Leaving.{AdmitMeets, LeaveMeets, LeavesSeats, lent_pool, pool_rows, cleared_of};

@@ -1,4 +1,6 @@
 // Whom the collected effects touch (pass_2.rs, second half): the aims of an effect, and the test of an object.
+#![tactic(auto)]
+
 ghost use Rattle.std.specs.Prelude.{◌≡◌, [], ◌<◌, eqb, ℤ, length, get_or};
 ghost use Rattle.std.specs.Int.{w32};
 ghost use Rattle.std.proofs.Common.{SFits};

@@ -1,4 +1,6 @@
 // The sheet (info.rs): header, records by value.
+#![tactic(auto)]
+
 pub mod header;
 pub mod little_endian;
 pub mod look_ups;

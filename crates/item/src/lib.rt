@@ -1,4 +1,6 @@
 // What objects are, what runs on them (item.rs), and the codes of the sheet.
+#![tactic(auto)]
+
 use rules::{EffectCategory, EffectOperator};
 
 pub mod categories;

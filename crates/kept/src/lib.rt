@@ -1,4 +1,6 @@
 // What was calculated stays, or all of it is made zero: for entries that may refuse after the engine is done.
+#![tactic(auto)]
+
 ghost use Rattle.run.specs.Filled.{lent_columns};
 ghost use Rattle.kept.specs.Kept.{Kept};
 

@@ -1,4 +1,6 @@
 // Definitions are in specs/, laws in proofs/; here is what the searches share.
+#![tactic(auto)]
+
 ghost use Rattle.std.specs.Prelude.{◌≡◌, cond, ◌≤◌};
 
 // The places between which a bound lies: so many, from low on.

@@ -1,4 +1,6 @@
 // 1 SHAPE over lent tables: the reader's verdict on their sheet, before a byte of it is written.
+#![tactic(auto)]
+
 ghost use Rattle.std.specs.Prelude.{◌≡◌, []};
 ghost use Rattle.shape.specs.Shaped.{shaped_of};
 ghost use Rattle.tables.specs.Tables.{together, tables_bad};

@@ -1,4 +1,6 @@
 // Texts of lines, read into rows: labels (`id label`), and another planner's listing (object, attribute, 16 hexadecimal digits).
+#![tactic(auto)]
+
 ghost use Rattle.std.specs.Prelude.{◌≡◌, ◌+◌, ◌≤◌, length, take};
 ghost use Rattle.lines.specs.Fields.{only};
 ghost use Rattle.lines.specs.Lines as rule;

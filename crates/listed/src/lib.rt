@@ -1,4 +1,6 @@
 // The program `sheet`, from the bytes read to the bytes to be written: 01's listing, or the one that `checker` reads.
+#![tactic(auto)]
+
 ghost use Rattle.std.specs.Prelude.{◌≡◌, ◌≤◌, length, take};
 ghost use Rattle.rules.specs.Outcome.{outcome};
 ghost use Rattle.listing.specs.Put.{Begins};

@@ -1,4 +1,6 @@
 // The text of a result, in pieces: each function writes at a place of a lent text and gives the place after it.
+#![tactic(auto)]
+
 ghost use Rattle.std.specs.Prelude.{◌≡◌, false, [], ◌∷◌, ◌+◌, ◌*◌, ◌≤◌, ◌<◌, length};
 ghost use Rattle.rules.specs.Listing as L;
 ghost use Rattle.rules.specs.Listing.{natural, integer, minus_if, decimals, listing};

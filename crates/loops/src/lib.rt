@@ -1,4 +1,6 @@
 // LOOP: whether an attribute leads back to itself, and the lowest object that has one.
+#![tactic(auto)]
+
 ghost use Rattle.std.specs.Prelude.{◌≡◌, true, ◌+◌, ◌≤◌, ◌<◌, ◌^◌, length};
 ghost use Rattle.needs.specs.Telling.{need_tables, needs_read, KnowsNeeds};
 ghost use Rattle.order.specs.Ranks.{num};

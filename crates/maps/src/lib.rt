@@ -1,4 +1,6 @@
 // Maps of who matches (M-108): bits over the objects, 64 to a word, one map for each location, for each required skill and for each group.
+#![tactic(auto)]
+
 ghost use Rattle.std.specs.Prelude.{◌≡◌, Bool, List, ℕ, ◌+◌, ◌*◌, ◌≤◌, ◌<◌, ◌^◌, length, replicate};
 ghost use Rattle.maps.specs.Words.{ones_cut};
 ghost use Rattle.maps.specs.Keys.{group_key, head_at, width_of};

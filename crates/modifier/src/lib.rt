@@ -1,4 +1,6 @@
 // modifier: codes, causes, moves.
+#![tactic(auto)]
+
 pub mod causes;
 pub mod codes;
 pub mod moves;

@@ -1,4 +1,6 @@
 // What a row needs, a slot at a time: of each entry its source and its resistance, then min and max. A slot may be empty.
+#![tactic(auto)]
+
 ghost use Rattle.std.specs.Prelude.{◌≡◌, true, List, [], ℕ, ◌+◌, ◌*◌, ◌%◌, ◌<◌, length, get_or};
 ghost use Rattle.std.proofs.Math.Option.{none};
 ghost use Rattle.rules.specs.Dispatch.{Row};

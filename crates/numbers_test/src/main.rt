@@ -1,5 +1,7 @@
 // Runs the values of standard input, which vectors/make.py made, through `numbers`: for each kind it prints
 // how many there are and how many of them came out otherwise.
+#![tactic(auto)]
+
 ghost use Rattle.std.specs.Prelude.{◌+◌, ◌<◌, ◌≤◌, length};
 
 use rules::{Hundredths, Step};

@@ -1,4 +1,6 @@
 // What one operator does to a value with the values that it gathers, one by one (pass_3.rs).
+#![tactic(auto)]
+
 ghost use Rattle.std.specs.Prelude.{◌≡◌, Bool, false, List, [], ◌++◌, ◌+◌, ◌*◌, ◌<◌, ◌^◌, T, Float, length};
 ghost use Rattle.laws.specs.Floats.{finite};
 ghost use Rattle.rules.specs.Number as N;

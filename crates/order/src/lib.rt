@@ -1,4 +1,6 @@
 // Rows of list 2 in an order in which each stands behind all that it needs: depth first, with a path of its own, a look at a time.
+#![tactic(auto)]
+
 ghost use Rattle.std.specs.Prelude.{◌≡◌, true, [], ◌+◌, ◌*◌, ◌≤◌, ◌<◌, ◌^◌, length, get_or};
 ghost use Rattle.needs.specs.Telling.{NeedTables, need_tables, needs_read, KnowsNeeds};
 ghost use Rattle.order.specs.Ranks.{num, Put, Unmet, Ranked};

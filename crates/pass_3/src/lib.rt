@@ -1,5 +1,7 @@
 // Values: an attribute's value from its base and its entries, with the memory of those already valued (pass_3.rs).
 // `calculate_value` and `calculated_value` call each other; each calculation that starts leaves one row fewer that is not started.
+#![tactic(auto)]
+
 ghost use Rattle.std.specs.Prelude.{◌≡◌, Bool, cond, List, [], ◌∷◌, ℕ, ◌≤◌, ◌<◌, T, Float, length};
 ghost use Rattle.laws.specs.Floats.{finite};
 ghost use Rattle.rules.specs.Codes.{operators};

@@ -1,4 +1,6 @@
 // One set of records, several pilots: a pilot's rows are calculated from book and fit into its stretches of one lent pool.
+#![tactic(auto)]
+
 ghost use Rattle.promises.specs.Pilots.{PilotMeets};
 ghost use Rattle.run.specs.Filled.{lent_columns};
 ghost use Rattle.pilots.specs.Given.{pool_of, told_of};

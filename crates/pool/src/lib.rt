@@ -1,4 +1,6 @@
 // 12 POOL: whether a pilot has a stretch, and whether every pilot's stretches lie in the pool and apart.
+#![tactic(auto)]
+
 ghost use Rattle.std.specs.Prelude.{◌≡◌, [], ◌∷◌, ◌+◌, ◌<◌, max, min};
 ghost use Rattle.laws.specs.Lists.{some?, from};
 ghost use Rattle.rules.specs.Pool.{pool_bad};

@@ -1,4 +1,6 @@
 // What programs share: a file, named by an argument or open already, read into a buffer; an argument; and what is said, written.
+#![tactic(auto)]
+
 ghost use Rattle.std.specs.Prelude.{◌≤◌, length};
 
 use libc::{STDERR_FILENO, STDOUT_FILENO};

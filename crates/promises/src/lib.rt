@@ -1,4 +1,6 @@
 // What the definition promises: the crate's theorems are in proofs/.
+#![tactic(auto)]
+
 ghost use Rattle.std.specs.Prelude.{◌≡◌};
 
 // A crate has a function.

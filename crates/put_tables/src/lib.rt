@@ -1,4 +1,6 @@
 // Tables as bytes: a sheet, a book's file, a fit's file, each at the front of lent bytes with room for it; what is given is its length.
+#![tactic(auto)]
+
 ghost use Rattle.std.specs.Prelude.{◌≡◌, [], ◌≤◌, length};
 ghost use Rattle.listing.specs.Put.{Added};
 ghost use Rattle.tables.specs.Tables.{together, sheet_of, book_file_of, fit_file_of};

@@ -1,4 +1,6 @@
 // Rows and entries as the calculation of values reads them out of the columns (pass_3.rs).
+#![tactic(auto)]
+
 pub mod entries;
 pub mod rows;
 pub mod stretches;

@@ -1,5 +1,7 @@
 // Calculates the kept sheets anew and compares every number of every list with the kept answer.
 // Standard input is cases/kept.bin; cases/make_kept.py says how it is read.
+#![tactic(auto)]
+
 ghost use Rattle.std.specs.Prelude.{◌<◌, ◌≤◌};
 
 use calculate::{Outcome, dogma_calculate};

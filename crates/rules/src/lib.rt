@@ -1,5 +1,6 @@
 // The types that code and definition share, by the Rust's names, and the constants of attribute_ids.rs, mod.rs and pass_2.rs that the code uses.
 // The crate's definitions, document 01, are in specs/; what is proved of them is in proofs/.
+#![tactic(auto)]
 
 // Attributes (attribute_ids.rs).
 pub const ATTRIBUTE_CAPACITOR_NEED_ID: i32 = 6;

@@ -1,4 +1,6 @@
 // A run over a sound sheet: states, lists 1 to 4, then values and source rows, into the lent columns (calculate.rs).
+#![tactic(auto)]
+
 ghost use Rattle.std.specs.Prelude.{◌≡◌, min};
 ghost use Rattle.rules.specs.Outcome as outcome;
 ghost use Rattle.rules.specs.Sheet.{book_of, fit_of};

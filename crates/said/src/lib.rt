@@ -1,4 +1,6 @@
 // What a program says, at the front of a lent text: an answer, or the line of a refusal.
+#![tactic(auto)]
+
 ghost use Rattle.std.specs.Prelude.{◌+◌, ◌≤◌, length};
 ghost use Rattle.listing.specs.Put.{Begins};
 ghost use Rattle.said.specs.Said.{bad_line};

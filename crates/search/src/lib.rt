@@ -1,4 +1,6 @@
 // An attribute sought among rows of list 2: one search for those who lay the rows and those who read them.
+#![tactic(auto)]
+
 ghost use Rattle.std.specs.Prelude.{◌+◌, ◌≤◌, length};
 ghost use Rattle.search.specs.Bounds.{Lower};
 

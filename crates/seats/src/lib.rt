@@ -1,4 +1,6 @@
 // Pilots come and go: what is decided of a hall, and what the free stretches become.
+#![tactic(auto)]
+
 ghost use Rattle.std.specs.Prelude.{◌≡◌, not, [], ◌∷◌, ◌++◌, map, ◌+◌, ◌-◌, ◌≤◌, ◌<◌, length, take, drop, get_or, replicate};
 ghost use Rattle.laws.specs.Lists.{every?, some?, from};
 ghost use Rattle.free_table.specs.Table.{empty};

@@ -1,4 +1,6 @@
 // 1 SHAPE: whether bytes are a sheet, and if not, which table is the first bad one, 0 for the header.
+#![tactic(auto)]
+
 ghost use Rattle.std.specs.Prelude.{◌≡◌, ◌&&◌, ◌≤◌, eqb, length};
 ghost use Rattle.laws.specs.Lists.{from, every?};
 ghost use Rattle.rules.specs.Bytes.{width_of, limit_of};

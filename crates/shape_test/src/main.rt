@@ -1,5 +1,7 @@
 // Judges the shape of kept sheets, sound and damaged, and counts the verdicts that are as expected.
 // Standard input has the steps that make them, from cases/make_damaged.py, which says how.
+#![tactic(auto)]
+
 ghost use Rattle.std.specs.Prelude.{◌+◌, ◌≤◌};
 
 use info::little_endian::{index, u32_at};

@@ -1,4 +1,6 @@
 // The program: a sheet on standard input, its listing on standard output (01, "The listing"); by `sheet figures` the one that is checked.
+#![tactic(auto)]
+
 use libc::STDIN_FILENO;
 use listed::asked_text;
 use program::{complain, is_word, read_whole, say};

@@ -1,4 +1,6 @@
 // Source rows: what entries leave in list 5, each at its place (`Source` of pass_3.rs).
+#![tactic(auto)]
+
 use rules::Refusal;
 
 // What a run goes by: the room of list 5, and whether source rows are recorded.

@@ -1,4 +1,6 @@
 // The exported function of a spreadsheet: one run, and its rows as comma-separated text with lent labels.
+#![tactic(auto)]
+
 ghost use Rattle.std.specs.Prelude.{◌≡◌};
 ghost use Rattle.run.specs.Filled.{lent_columns, lent_of};
 ghost use Rattle.spreadsheet.specs.Exports.{Exports, exported_of, result_of};

@@ -1,4 +1,6 @@
 // States and max states after collection (Item::collect_effects, PassTwo::pass).
+#![tactic(auto)]
+
 ghost use Rattle.std.specs.Prelude.{◌≡◌, true, ◌&&◌, ◌||◌, cond, [], length, get_or, ◌+◌, ◌-◌, ◌≤◌, ◌<◌, max, min};
 ghost use Rattle.laws.specs.Lists.{span};
 ghost use Rattle.rules.specs.Bytes.{count_of};

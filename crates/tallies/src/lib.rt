@@ -1,4 +1,6 @@
 // What a fit has of what an organiser's lines count: the pieces of a type, or in a group.
+#![tactic(auto)]
+
 ghost use Rattle.std.specs.Prelude.{◌≡◌, false, cond, map, ℕ, ◌≤◌, ◌<◌, eqb, length, get_or, replicate};
 ghost use Rattle.rules.specs.Sheet.{Book, book_of, fit_of};
 ghost use Rattle.info.specs.At.{book_at, fit_at, objects_at};

@@ -1,4 +1,6 @@
 // The text of a sheet: from the bytes that were read to the bytes that are to be written (01, "The listing").
+#![tactic(auto)]
+
 ghost use Rattle.std.specs.Prelude.{◌≡◌, ◌≤◌, length, take};
 ghost use Rattle.rules.specs.Listing.{listing};
 ghost use Rattle.rules.specs.Outcome.{outcome};

@@ -1,4 +1,6 @@
 // A fit checked against an organiser's lines: allowed, or the first broken line and the count that broke it.
+#![tactic(auto)]
+
 ghost use Rattle.std.specs.Prelude.{◌≡◌, cond, [], map, ◌*◌, ◌≤◌, ◌<◌, ◌^◌, eqb, length, get_or};
 ghost use Rattle.std.proofs.Math.Option.{none};
 ghost use Rattle.rules.specs.Sheet.{book_of, fit_of};

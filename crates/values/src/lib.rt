@@ -1,4 +1,6 @@
 // The values and the source rows of a sound sheet, once lists 1 to 4 are made (pass_3.rs).
+#![tactic(auto)]
+
 ghost use Rattle.std.specs.Prelude.{◌≡◌, List, ◌≤◌, ◌<◌, ◌^◌, length};
 ghost use Rattle.rules.specs.Sheet.{book_of, fit_of};
 ghost use Rattle.rules.specs.Dispatch.{Row};

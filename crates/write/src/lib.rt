@@ -1,4 +1,6 @@
 // The exported writers: a sheet's bytes from lent tables, or the refusal that reading them would have got; and a book's and a fit's file.
+#![tactic(auto)]
+
 ghost use Rattle.std.specs.Prelude.{◌≡◌, [], ◌≤◌, length, replicate};
 ghost use Rattle.std.proofs.Math.Option.{none};
 ghost use Rattle.clear.specs.Ends.{ClearedFrom};
