@@ -1,0 +1,11 @@
+-- `integers::optional_numbers` meets its contract. Assumes nothing.
+use Rattle.numbers.proofs.integers.optional_numbers.Goals as goal
+use Rattle.std.proofs.Common.{refl, rules}
+use Prim.Native.Nat.{◌<◌, ◌^◌}
+use lib.Signed.{mag}
+use Rattle.numbers.proofs.Signs.{stored}
+
+pub returns-in-Given : goal.returns-in-Given
+returns-in-Given c =
+    let fits : mag c.in-Given.id < 2 ^ 31 = search rules in
+    record { defined = rw (c.in-Given.is, c.bits.ensures.defined, stored _ fits) refl }
