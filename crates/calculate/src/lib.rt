@@ -23,7 +23,7 @@ use shape::{Shaped, shape};
 
 // What comes back of a call: 01's number and place, and how many rows each list has.
 #[repr(C)]
-#[derive(Drop)]
+#[derive(Clone, Copy)]
 pub struct Outcome {
     pub number: u64,
     pub place: u64,

@@ -8,7 +8,7 @@ use std::num::{wrapping_add_u64, wrapping_add_usize};
 use text::{TEXT_BYTES, sheet_text};
 
 // The place of the next sheet, how many there were, and how many texts were as expected.
-#[derive(Drop)]
+#[derive(Clone, Copy)]
 struct Tally {
     at: usize,
     texts: u64,

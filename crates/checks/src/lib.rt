@@ -26,7 +26,7 @@ use shape::{Shaped, shape};
 use verdict::{Verdict, verdict_number, verdict_place};
 
 // The verdict, and how many elements of each list stay.
-#[derive(Drop)]
+#[derive(Clone, Copy)]
 pub struct Checked {
     pub verdict: Verdict,
     pub counts: KeptCounts,

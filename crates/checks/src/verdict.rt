@@ -8,7 +8,7 @@ use reading::rows::Found;
 use rules::{Answer, Refusal};
 
 // It is ours; or a refusal of the engine up to dispatch; or the lowest object on a loop; or the first bad line.
-#[derive(Drop)]
+#[derive(Clone, Copy)]
 pub enum Verdict {
     Accepted,
     Engine(Refusal),

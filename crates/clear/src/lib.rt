@@ -110,7 +110,7 @@ fn zero_states(states: &mut States, from: usize)
 // ---- all columns
 
 // How many elements of each list stay.
-#[derive(Drop)]
+#[derive(Clone, Copy)]
 pub struct KeptCounts {
     pub objects: usize,
     pub collected: usize,

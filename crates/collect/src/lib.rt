@@ -4,7 +4,7 @@
 use item::locations::Categories;
 
 // What of the fit all its objects go by: the categories of modules, whether the hull is a structure, the char.
-#[derive(Drop)]
+#[derive(Clone, Copy)]
 pub struct Hull {
     pub categories: Categories,
     pub structure: bool,
@@ -12,7 +12,7 @@ pub struct Hull {
 }
 
 // The passes over the objects: ship, mode and char; projected; items each with its charge; skills.
-#[derive(Drop)]
+#[derive(Clone, Copy)]
 pub enum Phase {
     Front,
     Projected,

@@ -36,7 +36,7 @@ const LOOP: u64 = 10;
 const LISTING: u64 = 15;
 
 // Number and place.
-#[derive(Drop)]
+#[derive(Clone, Copy)]
 struct Verdicted {
     number: u64,
     place: u64,

@@ -27,14 +27,14 @@ pub const LABEL_COUNT: usize = 2;
 const LABEL_MOST: usize = 64;
 
 // The first bad label of a table.
-#[derive(Drop)]
+#[derive(Clone, Copy)]
 pub enum Table {
     Good,
     Bad(usize),
 }
 
 // A part of the lent bytes.
-#[derive(Drop)]
+#[derive(Clone, Copy)]
 pub struct Part {
     pub first: usize,
     pub count: usize,

@@ -32,14 +32,14 @@ const ROOM: u64 = 7;
 const TEXT: u64 = 8;
 
 // Where a text ends; or it does not fit.
-#[derive(Drop)]
+#[derive(Clone, Copy)]
 enum Filled {
     To(usize),
     Full,
 }
 
 // Number and place as document 01 has them; how many bytes the text has.
-#[derive(Drop)]
+#[derive(Clone, Copy)]
 pub struct Told {
     pub number: u64,
     pub place: u64,

@@ -20,7 +20,7 @@ use rows::rows::{HINTS, Laid};
 pub mod room;
 
 // How many rows and entries there are; or the list that is full first.
-#[derive(Drop)]
+#[derive(Clone, Copy)]
 pub enum Dispatched {
     Lists(usize, usize),
     Full(u32),

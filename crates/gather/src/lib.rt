@@ -24,7 +24,7 @@ use sources::rows::to_source;
 use sources::{Noted, Recording};
 
 // Why nothing more is gathered.
-#[derive(Drop)]
+#[derive(Clone, Copy)]
 pub enum Stop {
     No,
     Because(Refusal),
@@ -32,7 +32,7 @@ pub enum Stop {
 
 // What an operator has gathered: what its unpenalised values have made of the value that it found, the penalised copies,
 // how many source rows the row has and how many there are of all rows.
-#[derive(Drop)]
+#[derive(Clone, Copy)]
 pub struct Pile {
     pub running: Running,
     pub positive: Bucket,
@@ -43,7 +43,7 @@ pub struct Pile {
 }
 
 // The same while it grows: the copies lie in columns of eight that are lent, and how many were put in stands here.
-#[derive(Drop)]
+#[derive(Clone, Copy)]
 pub struct Growing {
     pub running: Running,
     pub positive: usize,

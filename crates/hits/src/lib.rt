@@ -26,7 +26,7 @@ use info::standing::Spans;
 use numbers::integers::bits;
 
 // What is asked of an object beside its column: nothing, a group, or a required skill, by their bits.
-#[derive(Drop)]
+#[derive(Clone, Copy)]
 pub enum Test {
     All,
     OfGroup(u32),
@@ -34,7 +34,7 @@ pub enum Test {
 }
 
 // Whom an effect touches: objects from one to another whose column is 1, and that pass the test.
-#[derive(Drop)]
+#[derive(Clone, Copy)]
 pub struct Aim {
     pub from: usize,
     pub end: usize,

@@ -15,32 +15,32 @@ use columns::{AttributePlaces, EffectPlaces, PLACE_EFFECT, PLACE_TYPE, TablePair
 use laws::{Window, step};
 use rules::{BaseAttribute, DbuffCollection, DogmaAttribute, DogmaEffect, Item};
 
-#[derive(Drop)]
+#[derive(Clone, Copy)]
 enum Found {
     At(usize),
     Nothing,
 }
 
-#[derive(Drop)]
+#[derive(Clone, Copy)]
 pub enum FoundEffect {
     At(DogmaEffect),
     Nothing,
 }
 
-#[derive(Drop)]
+#[derive(Clone, Copy)]
 pub enum FoundCollection {
     At(DbuffCollection),
     Nothing,
 }
 
 // Records that stand together.
-#[derive(Drop)]
+#[derive(Clone, Copy)]
 pub struct TypeEffects {
     pub first: usize,
     pub count: usize,
 }
 
-#[derive(Drop)]
+#[derive(Clone, Copy)]
 pub enum FoundBase {
     At(BaseAttribute),
     Nothing,

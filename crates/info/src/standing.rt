@@ -12,7 +12,7 @@ use columns::TablePairs;
 use rules::{CHAR, SKILL};
 
 // Where objects stand: the char, the items and charges from first to end, all objects.
-#[derive(Drop)]
+#[derive(Clone, Copy)]
 pub struct Spans {
     pub character: u32,
     pub first: usize,

@@ -10,13 +10,13 @@ pub mod locations;
 pub mod states;
 
 // What a code stands for, where it stands for something.
-#[derive(Drop)]
+#[derive(Clone, Copy)]
 pub enum CategoryFound {
     At(EffectCategory),
     Nothing,
 }
 
-#[derive(Drop)]
+#[derive(Clone, Copy)]
 pub enum OperatorFound {
     At(EffectOperator),
     Nothing,

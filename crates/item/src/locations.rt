@@ -10,7 +10,7 @@ use rules::{
 };
 
 // CATEGORY_MODULE, CATEGORY_SUBSYSTEM and CATEGORY_STRUCTURE_MODULE, which the header gives.
-#[derive(Drop)]
+#[derive(Clone, Copy)]
 pub struct Categories {
     pub modules: i32,
     pub subsystems: i32,

@@ -4,7 +4,7 @@
 ghost use Rattle.std.specs.Prelude.{◌≡◌, cond, ◌≤◌};
 
 // The places between which a bound lies: so many, from low on.
-#[derive(Drop)]
+#[derive(Clone, Copy)]
 pub struct Window {
     pub low: usize,
     pub left: usize,

@@ -4,14 +4,14 @@ ghost use Rattle.lines.specs.Fields as rule;
 ghost use Rattle.lines.specs.Reads.{largest, digits_of, field_of};
 
 // Digits from a place on: their number, and the place behind them.
-#[derive(Drop)]
+#[derive(Clone, Copy)]
 struct Number {
     value: u64,
     next: usize,
 }
 
 // A field from a place on: whether it is there, its value, and the place behind it.
-#[derive(Drop)]
+#[derive(Clone, Copy)]
 pub struct Field {
     pub good: bool,
     pub value: u32,

@@ -16,21 +16,21 @@ pub type LabelRow = [u32; 3];
 pub type FigureRow = [u32; 4];
 
 // So many rows; or the first line that is none, from 1.
-#[derive(Drop)]
+#[derive(Clone, Copy)]
 pub enum Read {
     Rows(usize),
     Bad(usize),
 }
 
 // A line of labels: whether it is one, and its row.
-#[derive(Drop)]
+#[derive(Clone, Copy)]
 struct LabelRead {
     good: bool,
     row: LabelRow,
 }
 
 // A line of a listing: whether it is one, and its row.
-#[derive(Drop)]
+#[derive(Clone, Copy)]
 struct FigureRead {
     good: bool,
     row: FigureRow,

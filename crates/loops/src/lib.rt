@@ -14,14 +14,14 @@ use order::{WORK_MARK, WORK_PLACED, WorkRow, ordered, put, unmet};
 use reading::rows::Found;
 
 // The lowest object with an attribute that leads back to itself, where there is one.
-#[derive(Drop)]
+#[derive(Clone, Copy)]
 pub enum Looped {
     Nothing,
     At(u32),
 }
 
 // How many rows are in the queue then, or that the row that is searched for is met.
-#[derive(Drop)]
+#[derive(Clone, Copy)]
 pub enum Met {
     Back,
     To(usize),

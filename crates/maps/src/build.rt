@@ -29,7 +29,7 @@ const KEY_WIDTH: usize = 7;
 type KeyRow = [u64; KEY_WIDTH];
 
 // How many maps there are; or that the words are too few for one more.
-#[derive(Drop)]
+#[derive(Clone, Copy)]
 pub enum Made {
     Maps(usize),
     Full,

@@ -55,7 +55,7 @@ pub fn find(words: &[u64], heads: &[u32], width: usize, key: u64) -> usize
 }
 
 // Two stretches of so many words: what a location lets in, and what passes a test.
-#[derive(Drop)]
+#[derive(Clone, Copy)]
 pub struct Cut {
     pub location: usize,
     pub test: usize,

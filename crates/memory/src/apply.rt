@@ -11,14 +11,14 @@ use sources::Recording;
 use sources::marks::set_penalties;
 
 // A value with the number of source rows so far, or the refusal.
-#[derive(Drop)]
+#[derive(Clone, Copy)]
 pub enum Got {
     Value(f64, u32),
     Refused(Refusal),
 }
 
 // The same after one operator, with the row's own source rows between.
-#[derive(Drop)]
+#[derive(Clone, Copy)]
 pub enum Part {
     At(f64, u32, u32),
     Refused(Refusal),

@@ -19,7 +19,7 @@ use rules::{
 };
 
 // What a modifier gives.
-#[derive(Drop)]
+#[derive(Clone, Copy)]
 pub enum Moved {
     Taken(Pass2Effect),
     Over,
@@ -27,7 +27,7 @@ pub enum Moved {
 }
 
 // What modifiers are collected for: an object's own effect, its projected effect, a buff.
-#[derive(Drop)]
+#[derive(Clone, Copy)]
 pub enum Cause {
     Own(Owner, DogmaEffect, EffectCategory),
     Projected(Owner, DogmaEffect, EffectCategory, OptionalId),

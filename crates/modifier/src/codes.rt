@@ -9,21 +9,21 @@ use item::codes::operator_at;
 use rules::{CHARGE, DogmaModifier, EffectOperator, ITEM, Item, Modifier, Refusal, SKILL};
 
 // A test of a code: go on with what it stands for, pass the modifier over, or refuse.
-#[derive(Drop)]
+#[derive(Clone, Copy)]
 pub enum FuncTest {
     Go(Modifier),
     Over,
     Bad(Refusal),
 }
 
-#[derive(Drop)]
+#[derive(Clone, Copy)]
 pub enum OperationTest {
     Go(EffectOperator),
     Over,
     Bad(Refusal),
 }
 
-#[derive(Drop)]
+#[derive(Clone, Copy)]
 pub enum TargetTest {
     Go(u32),
     Over,
@@ -31,7 +31,7 @@ pub enum TargetTest {
 }
 
 // An object, with what of the fit its modifiers go by: whether it has a charge, its charge or item, a structure fit, the char.
-#[derive(Drop)]
+#[derive(Clone, Copy)]
 pub struct Owner {
     pub item: Item,
     pub charged: bool,

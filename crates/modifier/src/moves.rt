@@ -20,14 +20,14 @@ type OriginNumbers = [u32; 6];
 type ModifierNumbers = [u32; 2];
 
 // The rooms of lists 1 and 4.
-#[derive(Drop)]
+#[derive(Clone, Copy)]
 pub struct CollectedRooms {
     pub collected: usize,
     pub plain: usize,
 }
 
 // How many rows stand in lists 1 and 4; or the refusal that ended collection.
-#[derive(Drop)]
+#[derive(Clone, Copy)]
 pub enum Counted {
     At(usize, usize),
     Refused(Refusal),

@@ -16,7 +16,7 @@ use rules::{EffectOperator, Step};
 
 // What an operator has made of its unpenalised values so far, whether that is finite, and whether there was one.
 // Yes is 1: flags of four bytes leave no gap that would be copied with each entry.
-#[derive(Drop)]
+#[derive(Clone, Copy)]
 pub struct Running {
     pub value: f64,
     pub finite: u32,

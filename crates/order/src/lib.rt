@@ -33,7 +33,7 @@ pub const ON_PATH: u32 = 1;
 pub const PLACED: u32 = 2;
 
 // The first row that may not be placed, how many rows the path has, and how many are placed.
-#[derive(Drop)]
+#[derive(Clone, Copy)]
 pub struct Walk {
     pub next: usize,
     pub depth: usize,
@@ -41,7 +41,7 @@ pub struct Walk {
 }
 
 // Where a turn leaves the walk, or that there is no order to be found.
-#[derive(Drop)]
+#[derive(Clone, Copy)]
 pub enum Turned {
     On(Walk),
     Stop,

@@ -8,7 +8,7 @@ use columns::{PoolRooms, PoolStretches};
 use pool::{Pooled, lesser, part_end, part_start, pool};
 
 // How long the pool's columns are.
-#[derive(Drop)]
+#[derive(Clone, Copy)]
 pub struct Lengths {
     pub collected: usize,
     pub collected_values: usize,
@@ -23,7 +23,7 @@ pub struct Lengths {
 }
 
 // Where a pilot's rows of each list begin, and where they end.
-#[derive(Drop)]
+#[derive(Clone, Copy)]
 pub struct Parts {
     pub collected: usize,
     pub collected_end: usize,
@@ -38,7 +38,7 @@ pub struct Parts {
 }
 
 // What is lent to a pilot's call: POOL's place, or its parts.
-#[derive(Drop)]
+#[derive(Clone, Copy)]
 pub enum Lending {
     Refused(u32),
     Lent(Parts),

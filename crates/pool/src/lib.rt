@@ -9,7 +9,7 @@ ghost use Rattle.pool.specs.Pooled.{pooled_of, start_of, part_end, stretch_at, a
 
 use columns::{LISTS, PILOTS, POOL_FIRST, POOL_LENGTH, PoolRooms, PoolStretches};
 
-#[derive(Drop)]
+#[derive(Clone, Copy)]
 pub enum Pooled {
     Lent,
     Refused(u32),

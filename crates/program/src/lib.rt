@@ -6,14 +6,14 @@ ghost use Rattle.std.specs.Prelude.{◌≤◌, length};
 use libc::{STDERR_FILENO, STDOUT_FILENO};
 
 // What was read: how many bytes, and whether a read failed.
-#[derive(Drop)]
+#[derive(Clone, Copy)]
 struct Input {
     bytes: usize,
     failed: bool,
 }
 
 // What a buffer got: how many bytes, whether there are more behind them, and whether a read failed.
-#[derive(Drop)]
+#[derive(Clone, Copy)]
 pub struct Whole {
     pub bytes: usize,
     pub more: bool,

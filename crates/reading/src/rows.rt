@@ -1,5 +1,5 @@
 // What a search for a row of list 2 finds.
-#[derive(Drop)]
+#[derive(Clone, Copy)]
 pub enum Found {
     At(usize),
     Nothing,

@@ -14,7 +14,7 @@ use info::standing::char_of;
 use rules::PROJECTED;
 
 // How many rows there are up to the ship's last, the char's last and the last projected one's.
-#[derive(Drop)]
+#[derive(Clone, Copy)]
 pub struct Turns {
     pub ship: usize,
     pub character: usize,

@@ -17,7 +17,7 @@ use std::num::{wrapping_add_u64, wrapping_add_usize};
 const RUBBISH: u32 = 0xa5c3_96e1;
 
 // The place in the kept numbers, how many were compared, and how many differ.
-#[derive(Drop)]
+#[derive(Clone, Copy)]
 struct Seen {
     at: usize,
     compared: u64,
@@ -25,7 +25,7 @@ struct Seen {
 }
 
 // How many sheets there are, how many of them differ, and the numbers compared.
-#[derive(Drop)]
+#[derive(Clone, Copy)]
 struct Tally {
     at: usize,
     sheets: u64,

@@ -59,7 +59,7 @@ pub const IMPLANT: u32 = 10;
 pub const BOOSTER: u32 = 11;
 
 // item.rs, in the order of the sheet's codes.
-#[derive(Drop)]
+#[derive(Clone, Copy)]
 pub enum EffectCategory {
     Passive,
     Online,
@@ -71,7 +71,7 @@ pub enum EffectCategory {
     System,
 }
 
-#[derive(Drop)]
+#[derive(Clone, Copy)]
 pub enum ItemState {
     Passive,
     Online,
@@ -81,7 +81,7 @@ pub enum ItemState {
 }
 
 // The order in which pass 3 applies them.
-#[derive(Drop)]
+#[derive(Clone, Copy)]
 pub enum EffectOperator {
     PreAssign,
     PreMul,
@@ -95,14 +95,14 @@ pub enum EffectOperator {
 }
 
 // An id that may be absent.
-#[derive(Drop)]
+#[derive(Clone, Copy)]
 pub enum OptionalId {
     Absent,
     Given(i32),
 }
 
 // Where a modifier comes from, and where its strength is read. Objects go by their number.
-#[derive(Drop)]
+#[derive(Clone, Copy)]
 pub enum Origin {
     Effect {
         effect_id: i32,
@@ -117,7 +117,7 @@ pub enum Origin {
 }
 
 // Whom a modifier touches.
-#[derive(Drop)]
+#[derive(Clone, Copy)]
 pub enum Modifier {
     LocationRequiredSkillModifier(i32),
     LocationGroupModifier(i32),
@@ -127,7 +127,7 @@ pub enum Modifier {
 }
 
 // A collected effect: a row of list 1.
-#[derive(Drop)]
+#[derive(Clone, Copy)]
 pub struct Pass2Effect {
     pub origin: Origin,
     pub modifier: Modifier,
@@ -139,7 +139,7 @@ pub struct Pass2Effect {
 }
 
 // An entry of an attribute row: a row of list 3. Its number is its effect's row in list 1, from 0.
-#[derive(Drop)]
+#[derive(Clone, Copy)]
 pub struct Effect {
     pub origin: Origin,
     pub operator: EffectOperator,
@@ -150,21 +150,21 @@ pub struct Effect {
 }
 
 // What a source row is from.
-#[derive(Drop)]
+#[derive(Clone, Copy)]
 pub enum SourceRef {
     Object { number: u32 },
     Buff { id: i32 },
 }
 
 // What `runs_at` answers: whether an effect runs in the state, and the lowest state that would do.
-#[derive(Drop)]
+#[derive(Clone, Copy)]
 pub struct RunsAt {
     pub runs: bool,
     pub lowest: ItemState,
 }
 
 // A source row, one record by value with its two floats: a row of list 5. Its state is the lowest of its source that would do.
-#[derive(Drop)]
+#[derive(Clone, Copy)]
 pub struct Source {
     pub from: SourceRef,
     pub effect_id: OptionalId,
@@ -179,21 +179,21 @@ pub struct Source {
 }
 
 // A float step's result.
-#[derive(Drop)]
+#[derive(Clone, Copy)]
 pub enum Step {
     Finite(f64),
     NotFinite,
 }
 
 // A value as the listing has it: how many hundredths, and whether a minus stands before them; or it is too large.
-#[derive(Drop)]
+#[derive(Clone, Copy)]
 pub enum Hundredths {
     Rounded { minus: bool, count: u64 },
     Star,
 }
 
 // Table 1.
-#[derive(Drop)]
+#[derive(Clone, Copy)]
 pub struct DogmaAttribute {
     pub id: i32,
     pub flags: u32,
@@ -203,7 +203,7 @@ pub struct DogmaAttribute {
 }
 
 // Table 2. A record that a refusal can name has its number.
-#[derive(Drop)]
+#[derive(Clone, Copy)]
 pub struct DogmaEffect {
     pub number: u32,
     pub id: i32,
@@ -215,7 +215,7 @@ pub struct DogmaEffect {
 }
 
 // Table 3.
-#[derive(Drop)]
+#[derive(Clone, Copy)]
 pub struct DogmaModifier {
     pub number: u32,
     pub func: u32,
@@ -228,7 +228,7 @@ pub struct DogmaModifier {
 }
 
 // Table 4.
-#[derive(Drop)]
+#[derive(Clone, Copy)]
 pub struct TypeDogmaEffect {
     pub type_id: i32,
     pub effect_id: i32,
@@ -236,7 +236,7 @@ pub struct TypeDogmaEffect {
 }
 
 // Table 5.
-#[derive(Drop)]
+#[derive(Clone, Copy)]
 pub struct DbuffCollection {
     pub number: u32,
     pub id: i32,
@@ -246,7 +246,7 @@ pub struct DbuffCollection {
 }
 
 // Table 6: an object as the sheet has it.
-#[derive(Drop)]
+#[derive(Clone, Copy)]
 pub struct Item {
     pub number: u32,
     pub kind: u32,
@@ -269,28 +269,28 @@ pub struct Item {
 }
 
 // Table 7.
-#[derive(Drop)]
+#[derive(Clone, Copy)]
 pub struct BaseAttribute {
     pub attribute_id: i32,
     pub value: f64,
 }
 
 // Table 9.
-#[derive(Drop)]
+#[derive(Clone, Copy)]
 pub struct ProjectedBuff {
     pub id: i32,
     pub value: f64,
 }
 
 // Table 10.
-#[derive(Drop)]
+#[derive(Clone, Copy)]
 pub struct Ask {
     pub object: u32,
     pub attribute_id: i32,
 }
 
 // The nine refusals, each with its place.
-#[derive(Drop)]
+#[derive(Clone, Copy)]
 pub enum Refusal {
     Shape(u32),
     Func(u32),
@@ -304,7 +304,7 @@ pub enum Refusal {
 }
 
 // What a run answers.
-#[derive(Drop)]
+#[derive(Clone, Copy)]
 pub enum Answer {
     Done,
     Refused(Refusal),

@@ -22,7 +22,7 @@ use values::set_values;
 use values::walk::Valued;
 
 // The counts of a run that is done; or why it is refused.
-#[derive(Drop)]
+#[derive(Clone, Copy)]
 pub enum Ran {
     Done(KeptCounts),
     Refused(Refusal),

@@ -14,7 +14,7 @@ use modifier::moves::Counted;
 use rules::Refusal;
 
 // The rooms of lists 1 to 4.
-#[derive(Drop)]
+#[derive(Clone, Copy)]
 pub struct ListRooms {
     pub collected: usize,
     pub rows: usize,
@@ -23,7 +23,7 @@ pub struct ListRooms {
 }
 
 // How many rows each of them has.
-#[derive(Drop)]
+#[derive(Clone, Copy)]
 pub struct ListCounts {
     pub collected: usize,
     pub rows: usize,
@@ -32,7 +32,7 @@ pub struct ListCounts {
 }
 
 // The counts; or the first refusal.
-#[derive(Drop)]
+#[derive(Clone, Copy)]
 pub enum Listed {
     Done(ListCounts),
     Refused(Refusal),

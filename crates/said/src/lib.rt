@@ -8,7 +8,7 @@ ghost use Rattle.said.specs.Said.{bad_line};
 use listing::{put_text, put_u32};
 
 // Where a text ends that is to be written: to standard output where it is an answer, else to standard error.
-#[derive(Drop)]
+#[derive(Clone, Copy)]
 pub struct Said {
     pub end: usize,
     pub good: bool,

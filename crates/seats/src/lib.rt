@@ -16,7 +16,7 @@ use pool::{end_of, leaves, overlaps};
 
 // What a caller is told: a number, its place, and how many free stretches there are now.
 #[repr(C)]
-#[derive(Drop)]
+#[derive(Clone, Copy)]
 pub struct Seat {
     pub number: u64,
     pub place: u64,
@@ -24,7 +24,7 @@ pub struct Seat {
 }
 
 // The same of a leaver, with the stretch that it had.
-#[derive(Drop)]
+#[derive(Clone, Copy)]
 pub struct Left {
     pub number: u64,
     pub place: u64,

@@ -16,7 +16,7 @@ use fit_tables::{asks_good, bases_good, buffs_good, objects_good};
 use info::header::{count_of, offset_of, pairs_of};
 use info::little_endian::u32_at;
 
-#[derive(Drop)]
+#[derive(Clone, Copy)]
 pub enum Shaped {
     Sound,
     Bad(u32),

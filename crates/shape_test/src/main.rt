@@ -12,7 +12,7 @@ use std::num::wrapping_add_u32;
 const SOUND: u32 = 255;
 
 // Whether a step was read, and how many verdicts were as expected, and how many not.
-#[derive(Drop)]
+#[derive(Clone, Copy)]
 struct Tally {
     more: bool,
     same: u32,

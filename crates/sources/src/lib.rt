@@ -4,14 +4,14 @@
 use rules::Refusal;
 
 // What a run goes by: the room of list 5, and whether source rows are recorded.
-#[derive(Drop)]
+#[derive(Clone, Copy)]
 pub struct Recording {
     pub room: u32,
     pub recording: bool,
 }
 
 // How many source rows a row has now, and how many there are of all rows; or a refusal.
-#[derive(Drop)]
+#[derive(Clone, Copy)]
 pub enum Noted {
     At(u32, u32),
     Refused(Refusal),

@@ -13,7 +13,7 @@ use kept::kept_if;
 
 // What comes back of a call: 01's number and place, how many rows each list has, and how many bytes the text.
 #[repr(C)]
-#[derive(Drop)]
+#[derive(Clone, Copy)]
 pub struct Exported {
     pub number: u64,
     pub place: u64,

@@ -26,21 +26,21 @@ use tallies::{
 const MOST_POINTS: u32 = 65535;
 
 // The first bad line of a table.
-#[derive(Drop)]
+#[derive(Clone, Copy)]
 enum Table {
     Good,
     Bad(usize),
 }
 
 // The first broken line of a block with its count; or the points up to its end, and where that is.
-#[derive(Drop)]
+#[derive(Clone, Copy)]
 enum Walked {
     Breaks(usize, u64),
     Holds(u64, usize),
 }
 
 // The first broken line with its count; or the bad table of the records, or the bad line.
-#[derive(Drop)]
+#[derive(Clone, Copy)]
 enum Verdict {
     Allowed,
     Breaks(usize, u64),
@@ -50,7 +50,7 @@ enum Verdict {
 
 // What comes back of a check.
 #[repr(C)]
-#[derive(Drop)]
+#[derive(Clone, Copy)]
 pub struct Checked {
     pub number: u64,
     pub place: u64,

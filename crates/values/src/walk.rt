@@ -24,7 +24,7 @@ use rules::Refusal;
 use sources::Recording;
 
 // How many source rows there are, or the refusal.
-#[derive(Drop)]
+#[derive(Clone, Copy)]
 pub enum Valued {
     At(u32),
     Refused(Refusal),

@@ -29,7 +29,7 @@ const SHEET: u64 = 6;
 
 // Number and place as document 01 has them; how many bytes were written.
 #[repr(C)]
-#[derive(Drop)]
+#[derive(Clone, Copy)]
 pub struct Written {
     pub number: u64,
     pub place: u64,
