@@ -1,6 +1,6 @@
 -- What an admission and a leaving give back, and what a leaving does to the pool's rows. 02, M-107. Definitions only.
 use Rattle.std.specs.Prelude.{ℕ, min, ◌≡◌, List, [], Float, length, set, replicate}
-use Rattle.std.specs.Borrow.{Bor}
+use Rattle.std.specs.Borrow.{MutBor}
 use denote.Triple.Both.{Both}
 use Rattle.columns.specs.Lending.{LentColumn}
 use Rattle.laws.specs.Columns.{within}
@@ -19,7 +19,7 @@ pub record AdmitMeets (h : Hall) (p w : ℕ) (r : Seat) (table : List Stretch) (
   pub by_seats : seats ≡ (admit h p w).hall.seats
 
 -- every pilot's states and the ten columns, as they were lent and as they come back
-abbrev pub lent_pool : Both (Bor (List (List (List ℕ)))) (Bor (List (List (List ℕ)))) → LentColumn (List ℕ) → LentColumn Float → LentColumn (List ℕ) → LentColumn Float → LentColumn Float → LentColumn (List ℕ) → LentColumn Float → LentColumn (List ℕ) → LentColumn (List ℕ) → LentColumn (List Float) → Both Pool Pool
+abbrev pub lent_pool : Both (MutBor (List (List (List ℕ)))) (MutBor (List (List (List ℕ)))) → LentColumn (List ℕ) → LentColumn Float → LentColumn (List ℕ) → LentColumn Float → LentColumn Float → LentColumn (List ℕ) → LentColumn Float → LentColumn (List ℕ) → LentColumn (List ℕ) → LentColumn (List Float) → Both Pool Pool
 lent_pool t c v r b x e w p s g =
     record {
       entry =

@@ -1,6 +1,6 @@
 -- Bytes put into a text that was lent, and the place after them.
 use Rattle.std.specs.Prelude.{ℕ, ◌+◌, ◌≤◌, ◌≡◌, List, [], ◌∷◌, length, set, take}
-use Rattle.std.specs.Borrow.{Bor}
+use Rattle.std.specs.Borrow.{MutBor}
 use denote.Triple.Both.{Both}
 
 -- a place, and the text as it is then
@@ -13,7 +13,7 @@ puts [] s = s
 puts (x ∷ xs) (put at out) = puts xs (put (at + 1) (set out at x))
 
 -- a call put these bytes into a lent text at a place, and gives the place after them
-abbrev pub Added : Both (Bor (List ℕ)) (Bor (List ℕ)) → ℕ → ℕ → List ℕ → Type 0
+abbrev pub Added : Both (MutBor (List ℕ)) (MutBor (List ℕ)) → ℕ → ℕ → List ℕ → Type 0
 Added out at r bytes = put r out.exit.now ≡ puts bytes (put at out.entry.now)
 
 -- a text begins with these bytes, which end at a place inside it
