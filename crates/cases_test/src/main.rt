@@ -3,7 +3,7 @@
 #![tactic(auto)]
 
 use info::little_endian::{index, u32_at};
-use libc::{STDIN_FILENO, STDOUT_FILENO};
+use program::{fill, put, put_number};
 use std::num::{wrapping_add_u64, wrapping_add_usize};
 use text::{TEXT_BYTES, sheet_text};
 
@@ -48,7 +48,7 @@ fn equal(text: &[u8; TEXT_BYTES], n: usize, expected: &[u8]) -> bool {
 
 // The text of a sheet, as the program has it: of its first 65,536 bytes, and whether there are more.
 fn given(text: &mut [u8; TEXT_BYTES], sheet: &[u8]) -> usize {
-    let n = io::count(65536, sheet);
+    let n = sheet.len().min(65536);
     sheet_text(text, &sheet[..n], n < sheet.len())
 }
 
@@ -69,19 +69,19 @@ fn right(input: &[u8], sheet: usize, expected: usize, end: usize) -> bool {
 }
 
 // Says which sheet has another text.
-fn differs(input: &[u8], name: usize, sheet: usize) {
+fn differs(rt: &HostRuntime, input: &[u8], name: usize, sheet: usize) {
     if sheet < name {
         return;
     }
     if input.len() < sheet {
         return;
     }
-    io::write_all(STDOUT_FILENO, &input[name..sheet]);
-    io::write_all(STDOUT_FILENO, b" has another text\n");
+    put(rt, &input[name..sheet]);
+    put(rt, b" has another text\n");
 }
 
 // One sheet more; behind one that is cut off there is none.
-fn next(input: &[u8], tally: Tally) -> Tally {
+fn next(rt: &HostRuntime, input: &[u8], tally: Tally) -> Tally {
     let at = tally.at;
     let name = wrapping_add_usize(at, 12);
     let sheet = wrapping_add_usize(name, number(input, at));
@@ -89,7 +89,7 @@ fn next(input: &[u8], tally: Tally) -> Tally {
     let end = wrapping_add_usize(expected, number(input, wrapping_add_usize(at, 8)));
     let same = right(input, sheet, expected, end);
     if !same {
-        differs(input, name, sheet);
+        differs(rt, input, name, sheet);
     }
     Tally {
         at: if end < name { input.len() } else { end },
@@ -99,7 +99,7 @@ fn next(input: &[u8], tally: Tally) -> Tally {
 }
 
 // Takes one sheet after the other. There are fewer than the turns.
-fn run(input: &[u8]) -> Tally {
+fn run(rt: &HostRuntime, input: &[u8]) -> Tally {
     let mut tally = Tally {
         at: 0,
         texts: 0,
@@ -111,18 +111,18 @@ fn run(input: &[u8]) -> Tally {
         if input.len() <= at {
             return tally;
         }
-        tally = next(input, tally);
+        tally = next(rt, input, tally);
         turns -= 1;
     }
     tally
 }
 
-fn main() {
+fn main(rt: HostRuntime) {
     let mut input = [0u8; 262144];
-    let n = io::read_full(STDIN_FILENO, &mut input);
-    let tally = run(&input[..n]);
-    io::print_decimal(STDOUT_FILENO, tally.same);
-    io::write_all(STDOUT_FILENO, b" of ");
-    io::print_decimal(STDOUT_FILENO, tally.texts);
-    io::write_all(STDOUT_FILENO, b" texts are as expected\n");
+    let n = fill(&mut input, &mut rt.reader());
+    let tally = run(&rt, &input[..n]);
+    put_number(&rt, tally.same);
+    put(&rt, b" of ");
+    put_number(&rt, tally.texts);
+    put(&rt, b" texts are as expected\n");
 }

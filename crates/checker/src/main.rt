@@ -4,50 +4,50 @@
 ghost use Rattle.std.specs.Prelude.{◌≤◌, length};
 
 use compared::{LINE_BYTES, check_text};
-use program::{complain, read_file, say};
+use program::{arg_count, complain, read_file, say};
 
 // The longest text of a listing that is read: 4,096 lines of 80 bytes.
 const LISTING_BYTES: usize = 327680;
 
 // Writes what is said of a sheet and a listing's text.
-fn say_check(sheet: &[u8], listing: &[u8])
+fn say_check(rt: &HostRuntime, sheet: &[u8], listing: &[u8])
     requires short { length listing.now ≤ 327680 }
 {
     let mut line = [0u8; LINE_BYTES];
     let said = check_text(&mut line, sheet, listing);
     let end = said.end;
-    say(&line[..end], said.good);
+    say(rt, &rt.stderr(), &line[..end], said.good);
 }
 
 // The listing read, and then the verdict.
-fn with_listing(sheet: &[u8]) {
+fn with_listing(rt: &HostRuntime, sheet: &[u8]) {
     let mut listing = [0u8; LISTING_BYTES];
-    let file = read_file(&mut listing, 2);
+    let file = read_file(&mut listing, rt, &rt.stderr(), 2);
     if file.failed {
         return;
     }
     if file.more {
-        complain(b"checker: the listing has more than 327,680 bytes\n");
+        complain(&rt.stderr(), b"checker: the listing has more than 327,680 bytes\n");
         return;
     }
     let n = file.bytes;
-    say_check(sheet, &listing[..n]);
+    say_check(rt, sheet, &listing[..n]);
 }
 
-fn main() {
-    if os::arg_count() != 3 {
-        complain(b"usage: checker SHEET LISTING\n");
+fn main(rt: HostRuntime) {
+    if arg_count(&rt) != 3 {
+        complain(&rt.stderr(), b"usage: checker SHEET LISTING\n");
         return;
     }
     let mut sheet = [0u8; 65536];
-    let file = read_file(&mut sheet, 1);
+    let file = read_file(&mut sheet, &rt, &rt.stderr(), 1);
     if file.failed {
         return;
     }
     if file.more {
-        complain(b"checker: the sheet has more than 65,536 bytes\n");
+        complain(&rt.stderr(), b"checker: the sheet has more than 65,536 bytes\n");
         return;
     }
     let n = file.bytes;
-    with_listing(&sheet[..n]);
+    with_listing(&rt, &sheet[..n]);
 }

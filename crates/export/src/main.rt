@@ -4,50 +4,50 @@
 ghost use Rattle.std.specs.Prelude.{◌≤◌, length};
 
 use exports::{TEXT_BYTES, export_text};
-use program::{complain, read_file, say};
+use program::{arg_count, complain, read_file, say};
 
 // The longest text of labels that is read: 4,096 lines of 80 bytes.
 const LABELS_BYTES: usize = 327680;
 
 // Writes what is said of a sheet and a text of labels.
-fn say_export(sheet: &[u8], labels: &[u8])
+fn say_export(rt: &HostRuntime, sheet: &[u8], labels: &[u8])
     requires short { length labels.now ≤ 327680 }
 {
     let mut text = [0u8; TEXT_BYTES];
     let said = export_text(&mut text, sheet, labels);
     let end = said.end;
-    say(&text[..end], said.good);
+    say(rt, &rt.stderr(), &text[..end], said.good);
 }
 
 // The labels read, and then the export.
-fn with_labels(sheet: &[u8]) {
+fn with_labels(rt: &HostRuntime, sheet: &[u8]) {
     let mut labels = [0u8; LABELS_BYTES];
-    let file = read_file(&mut labels, 2);
+    let file = read_file(&mut labels, rt, &rt.stderr(), 2);
     if file.failed {
         return;
     }
     if file.more {
-        complain(b"export: the labels have more than 327,680 bytes\n");
+        complain(&rt.stderr(), b"export: the labels have more than 327,680 bytes\n");
         return;
     }
     let n = file.bytes;
-    say_export(sheet, &labels[..n]);
+    say_export(rt, sheet, &labels[..n]);
 }
 
-fn main() {
-    if os::arg_count() != 3 {
-        complain(b"usage: export SHEET LABELS\n");
+fn main(rt: HostRuntime) {
+    if arg_count(&rt) != 3 {
+        complain(&rt.stderr(), b"usage: export SHEET LABELS\n");
         return;
     }
     let mut sheet = [0u8; 65536];
-    let file = read_file(&mut sheet, 1);
+    let file = read_file(&mut sheet, &rt, &rt.stderr(), 1);
     if file.failed {
         return;
     }
     if file.more {
-        complain(b"export: the sheet has more than 65,536 bytes\n");
+        complain(&rt.stderr(), b"export: the sheet has more than 65,536 bytes\n");
         return;
     }
     let n = file.bytes;
-    with_labels(&sheet[..n]);
+    with_labels(&rt, &sheet[..n]);
 }

@@ -4,6 +4,7 @@
 
 ghost use Rattle.std.specs.Prelude.{◌+◌, ◌<◌, ◌≤◌, length};
 
+use program::{fill, put, put_number};
 use rules::{Hundredths, Step};
 
 #[derive(Clone, Copy)]
@@ -125,43 +126,43 @@ fn tallied(s: &[u8], kind: u8) -> Tally {
     t
 }
 
-fn report(s: &[u8], kind: u8) {
+fn report(rt: &HostRuntime, s: &[u8], kind: u8) {
     let t = tallied(s, kind);
-    io::print_decimal(1, t.seen);
-    io::write_all(1, b" wrong ");
-    io::print_decimal(1, t.wrong);
-    io::write_all(1, b"\n");
+    put_number(rt, t.seen);
+    put(rt, b" wrong ");
+    put_number(rt, t.wrong);
+    put(rt, b"\n");
 }
 
-fn report_all(s: &[u8]) {
-    io::write_all(1, b"sums ");
-    report(s, b'+');
-    io::write_all(1, b"differences ");
-    report(s, b'-');
-    io::write_all(1, b"products ");
-    report(s, b'*');
-    io::write_all(1, b"quotients ");
-    report(s, b'/');
-    io::write_all(1, b"powers ");
-    report(s, b'^');
-    io::write_all(1, b"weights ");
-    report(s, b'w');
-    io::write_all(1, b"cuts ");
-    report(s, b'c');
-    io::write_all(1, b"signs ");
-    report(s, b'i');
-    io::write_all(1, b"quantities ");
-    report(s, b'q');
-    io::write_all(1, b"hundredths ");
-    report(s, b'h');
-    io::write_all(1, b"sizes ");
-    report(s, b'<');
-    io::write_all(1, b"finite ");
-    report(s, b'f');
+fn report_all(rt: &HostRuntime, s: &[u8]) {
+    put(rt, b"sums ");
+    report(rt, s, b'+');
+    put(rt, b"differences ");
+    report(rt, s, b'-');
+    put(rt, b"products ");
+    report(rt, s, b'*');
+    put(rt, b"quotients ");
+    report(rt, s, b'/');
+    put(rt, b"powers ");
+    report(rt, s, b'^');
+    put(rt, b"weights ");
+    report(rt, s, b'w');
+    put(rt, b"cuts ");
+    report(rt, s, b'c');
+    put(rt, b"signs ");
+    report(rt, s, b'i');
+    put(rt, b"quantities ");
+    report(rt, s, b'q');
+    put(rt, b"hundredths ");
+    report(rt, s, b'h');
+    put(rt, b"sizes ");
+    report(rt, s, b'<');
+    put(rt, b"finite ");
+    report(rt, s, b'f');
 }
 
-fn main() {
-    let mut buf = io::large_buffer();
-    let n = io::read_full(0, &mut buf);
-    report_all(&buf[..n]);
+fn main(rt: HostRuntime) {
+    let mut buf = [0u8; 65536];
+    let n = fill(&mut buf, &mut rt.reader());
+    report_all(&rt, &buf[..n]);
 }

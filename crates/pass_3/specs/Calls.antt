@@ -2,6 +2,7 @@
 use Rattle.std.specs.Prelude.{ℕ, ◌≡◌, Bool, true, false, List, [], ◌∷◌, Float}
 use Rattle.std.specs.Borrow.{Bor}
 use denote.Triple.Both.{Both}
+use Rattle.columns.specs.Lending.{Column, LentColumn}
 use Rattle.rules.specs.Answer.{Res}
 use Rattle.rules.specs.Codes.{operators}
 use Rattle.rules.specs.Dispatch.{Row}
@@ -31,7 +32,7 @@ is_assign PostDiv = false
 is_assign PostPercent = false
 is_assign PostAssign = true
 
--- the values of references: to numbers, rows of numbers, floats, pairs of floats
+-- the values of references to what is only read: to numbers, rows of numbers, floats; and of one that is lent to be written, to pairs of floats
 abbrev pub Numbers : Type 0
 Numbers = Bor (List ℕ)
 
@@ -42,7 +43,7 @@ abbrev pub Floats : Type 0
 Floats = Bor (List Float)
 
 abbrev pub Pairs : Type 0
-Pairs = Bor (List (List Float))
+Pairs = Column (List Float)
 
 -- what a parameter that is lent is at entry and at exit
 abbrev pub Lent : Type 0 → Type 0
@@ -57,54 +58,54 @@ read b p s x l r c e v =
     tables b.entry.now p.entry.now s.entry.now x.entry.now l.entry.now r.entry.now c.entry.now e.entry.now v.entry.now
 
 -- the columns hold some world and some memory
-abbrev pub ReadyNow : Tables → Floats → Rows → Pairs → Recording → ℕ → Type 0
+abbrev pub ReadyNow : Tables → Column Float → Column (List ℕ) → Pairs → Recording → ℕ → Type 0
 ReadyNow t v s f run used = holding.Ready t run v.now s.now f.now used
 
 -- and row i is under calculation
-abbrev pub BusyNow : Tables → Floats → Rows → Pairs → Recording → ℕ → ℕ → ℕ → List EffectOperator → Type 0
+abbrev pub BusyNow : Tables → Column Float → Column (List ℕ) → Pairs → Recording → ℕ → ℕ → ℕ → List EffectOperator → Type 0
 BusyNow t v s f run used i own ops = holding.Busy t run v.now s.now f.now used i own ops
 
 -- of the world and the memory that the columns held, the call gives what the definition g gives, and they hold the memory that g leaves
-abbrev pub Gives : Tables → Lent Floats → Lent Rows → Lent Pairs → Recording → ℕ → Got → (World → Mem → Res Read) → Type 0
+abbrev pub Gives : Tables → LentColumn Float → LentColumn (List ℕ) → Lent Pairs → Recording → ℕ → Got → (World → Mem → Res Read) → Type 0
 Gives t v s f run used r g =
     (h : holding.Ready t run v.entry.now s.entry.now f.entry.now used)
     → Returns h.world h.sources₀ h.floats₀ (g h.world h.mem) r v.exit.now s.exit.now f.exit.now
 
 -- the same of row i under calculation
-abbrev pub BusyGives : Tables → Lent Floats → Lent Rows → Lent Pairs → Recording → ℕ → ℕ → Got → (World → Mem → Res Read) → Type 0
+abbrev pub BusyGives : Tables → LentColumn Float → LentColumn (List ℕ) → Lent Pairs → Recording → ℕ → ℕ → Got → (World → Mem → Res Read) → Type 0
 BusyGives t v s f run used i r g =
     (h : holding.Busy t run v.entry.now s.entry.now f.entry.now used i 0 operators)
     → Returns h.ready.world h.ready.sources₀ h.ready.floats₀ (g h.ready.world h.ready.mem) r v.exit.now s.exit.now f.exit.now
 
 -- the same of one operator of row i
-abbrev pub PartGives : Tables → Lent Floats → Lent Rows → Lent Pairs → Recording → ℕ → ℕ → ℕ → EffectOperator → Part → (World → Mem → Res Read) → Type 0
+abbrev pub PartGives : Tables → LentColumn Float → LentColumn (List ℕ) → Lent Pairs → Recording → ℕ → ℕ → ℕ → EffectOperator → Part → (World → Mem → Res Read) → Type 0
 PartGives t v s f run used i own op r g =
     (h : holding.Busy t run v.entry.now s.entry.now f.entry.now used i own (op ∷ []))
     → PartReturns h.ready.world h.ready.sources₀ h.ready.floats₀ i (g h.ready.world h.ready.mem) r v.exit.now s.exit.now f.exit.now
 
 -- the same of an entry, on any row of an object
-abbrev pub GivesOn : Tables → Lent Floats → Lent Rows → Lent Pairs → Recording → ℕ → ℕ → Got → (World → ℕ → Row → Mem → Res Read) → Type 0
+abbrev pub GivesOn : Tables → LentColumn Float → LentColumn (List ℕ) → Lent Pairs → Recording → ℕ → ℕ → Got → (World → ℕ → Row → Mem → Res Read) → Type 0
 GivesOn t v s f run used object r g =
     (h : holding.Ready t run v.entry.now s.entry.now f.entry.now used) (i : ℕ) (row : Row) → row.object ≡ object
     → Returns h.world h.sources₀ h.floats₀ (g h.world i row h.mem) r v.exit.now s.exit.now f.exit.now
 
 -- the pile as it is lent, and at entry and at exit
-abbrev pub pile_of : Floats → Numbers → Floats → Numbers → Growing → Pile
+abbrev pub pile_of : Column Float → Column ℕ → Column Float → Column ℕ → Growing → Pile
 pile_of pv ps nv ns p = whole pv.now ps.now nv.now ns.now p
 
-abbrev pub piled : Lent Floats → Lent Numbers → Lent Floats → Lent Numbers → Growing → Growing → Lent Pile
+abbrev pub piled : LentColumn Float → LentColumn ℕ → LentColumn Float → LentColumn ℕ → Growing → Growing → Lent Pile
 piled pv ps nv ns p r =
     record { entry = pile_of pv.entry ps.entry nv.entry ns.entry p; exit = pile_of pv.exit ps.exit nv.exit ns.exit r }
 
-abbrev pub EightsAt : Floats → Numbers → Floats → Numbers → Type 0
+abbrev pub EightsAt : Column Float → Column ℕ → Column Float → Column ℕ → Type 0
 EightsAt pv ps nv ns = Eights pv.now ps.now nv.now ns.now
 
 -- row i is under calculation, and the pile holds what the entries before entry k gave
-abbrev pub Piling : Tables → Floats → Rows → Pairs → Recording → ℕ → ℕ → Bool → EffectOperator → Pile → Type 0
+abbrev pub Piling : Tables → Column Float → Column (List ℕ) → Pairs → Recording → ℕ → ℕ → Bool → EffectOperator → Pile → Type 0
 Piling t v s f run i k high op p = holding.Piling t run v.now s.now f.now i k high op p
 
 -- the pile holds what the definition g gathers
-abbrev pub PileGives : Tables → Lent Floats → Lent Rows → Lent Pairs → Lent Pile → Recording → ℕ → ℕ → Bool → EffectOperator → (World → Mem → Values → Res Gathered) → Type 0
+abbrev pub PileGives : Tables → LentColumn Float → LentColumn (List ℕ) → Lent Pairs → Lent Pile → Recording → ℕ → ℕ → Bool → EffectOperator → (World → Mem → Values → Res Gathered) → Type 0
 PileGives t v s f pile run i k high op g =
     (h : holding.Piling t run v.entry.now s.entry.now f.entry.now i k high op pile.entry)
     → PileMeets h.ready.world h.ready.sources₀ h.ready.floats₀ i high op h.found (g h.ready.world h.ready.mem h.values) pile.exit v.exit.now s.exit.now f.exit.now

@@ -36,7 +36,7 @@ use rules::{Effect, EffectOperator, OptionalId, Origin, Refusal, Step};
 use sources::Recording;
 
 // The value of an attribute of an object: its row's, or the default where it has none.
-#[cycle(calculate_value_calculated_value_evaluated_gathered_limited_operated_resisted_strength_with_entry)]
+#[cycle(calculation)]
 pub fn calculated_value(
     values: &mut [f64],
     sources: &mut [SourceRow],
@@ -90,7 +90,7 @@ pub fn calculated_value(
 }
 
 // The value of a row: the one in the column where the row is started or done.
-#[cycle(calculate_value_calculated_value_evaluated_gathered_limited_operated_resisted_strength_with_entry)]
+#[cycle(calculation)]
 pub fn calculate_value(
     values: &mut [f64],
     sources: &mut [SourceRow],
@@ -153,7 +153,7 @@ pub fn calculate_value(
 }
 
 // The value of a row under calculation: its operators, then min, then max. Its record is looked up where it may have a limit.
-#[cycle(calculate_value_calculated_value_evaluated_gathered_limited_operated_resisted_strength_with_entry)]
+#[cycle(calculation)]
 fn evaluated(
     values: &mut [f64],
     sources: &mut [SourceRow],
@@ -262,7 +262,7 @@ fn evaluated(
 }
 
 // A value held to a limit that is read off the same object; 0 means none.
-#[cycle(calculate_value_calculated_value_evaluated_gathered_limited_operated_resisted_strength_with_entry)]
+#[cycle(calculation)]
 fn limited(
     values: &mut [f64],
     sources: &mut [SourceRow],
@@ -320,7 +320,7 @@ fn limited(
 }
 
 // The base value of a row with its operators applied in their order; one that no entry has is passed over.
-#[cycle(calculate_value_calculated_value_evaluated_gathered_limited_operated_resisted_strength_with_entry)]
+#[cycle(calculation)]
 fn operated(
     values: &mut [f64],
     sources: &mut [SourceRow],
@@ -423,7 +423,7 @@ fn is_high(book: &[u8], pairs: &TablePairs, operator: EffectOperator, id: i32) -
 }
 
 // One operator: all its entries are gathered, then they are applied.
-#[cycle(calculate_value_calculated_value_evaluated_gathered_limited_operated_resisted_strength_with_entry)]
+#[cycle(calculation)]
 fn gathered(
     values: &mut [f64],
     sources: &mut [SourceRow],
@@ -500,7 +500,7 @@ fn gathered(
 }
 
 // Entry k of a row goes to the pile, if it is of the operator and runs or is recorded.
-#[cycle(calculate_value_calculated_value_evaluated_gathered_limited_operated_resisted_strength_with_entry)]
+#[cycle(calculation)]
 fn with_entry(
     values: &mut [f64],
     sources: &mut [SourceRow],
@@ -592,7 +592,7 @@ fn with_entry(
 }
 
 // The strength of an entry: a buff's own, or an attribute of its source, held against the ship's resistance.
-#[cycle(calculate_value_calculated_value_evaluated_gathered_limited_operated_resisted_strength_with_entry)]
+#[cycle(calculation)]
 fn strength(
     values: &mut [f64],
     sources: &mut [SourceRow],
@@ -675,7 +675,7 @@ fn strength(
 }
 
 // A strength times the ship's resistance, where one is named.
-#[cycle(calculate_value_calculated_value_evaluated_gathered_limited_operated_resisted_strength_with_entry)]
+#[cycle(calculation)]
 fn resisted(
     values: &mut [f64],
     sources: &mut [SourceRow],

@@ -127,12 +127,12 @@ fine_stack x = finite x.value
 greatest_fine : (v : Float) (xs : List Stack) → finite v ≡ true → every? fine_stack xs ≡ true → finite (greatest v xs) ≡ true
 unfolding greatest
 greatest_fine v [] h k = h
-greatest_fine v (x ∷ xs) h k = greatest_fine _ xs (cond_fine (lt x.value v) v x.value h (and_left (fine_stack x) (every? fine_stack xs) k)) (and_right (fine_stack x) (every? fine_stack xs) k)
+greatest_fine v (x ∷ xs) h k = greatest_fine (cond (lt x.value v) v x.value) xs (cond_fine (lt x.value v) v x.value h (and_left (fine_stack x) (every? fine_stack xs) k)) (and_right (fine_stack x) (every? fine_stack xs) k)
 
 least_fine : (v : Float) (xs : List Stack) → finite v ≡ true → every? fine_stack xs ≡ true → finite (least v xs) ≡ true
 unfolding least
 least_fine v [] h k = h
-least_fine v (x ∷ xs) h k = least_fine _ xs (cond_fine (lt x.value v) x.value v (and_left (fine_stack x) (every? fine_stack xs) k) h) (and_right (fine_stack x) (every? fine_stack xs) k)
+least_fine v (x ∷ xs) h k = least_fine (cond (lt x.value v) x.value v) xs (cond_fine (lt x.value v) x.value v (and_left (fine_stack x) (every? fine_stack xs) k) h) (and_right (fine_stack x) (every? fine_stack xs) k)
 
 assigned_fine : (high : Bool) (v : Float) (xs : List Stack) → finite v ≡ true → every? fine_stack xs ≡ true → finite (assigned high v xs) ≡ true
 unfolding assigned

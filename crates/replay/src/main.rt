@@ -10,7 +10,7 @@ use columns::{
     SourceRow, StateRow, States,
 };
 use info::little_endian::{index, u32_at};
-use libc::{STDIN_FILENO, STDOUT_FILENO};
+use program::{fill, put, put_number};
 use std::num::{wrapping_add_u64, wrapping_add_usize};
 
 // What a column holds before the call: no kept number.
@@ -494,18 +494,18 @@ fn replayed(data: &[u8], at: usize) -> Seen {
 
 // ---- all of them
 
-fn print(n: u64) {
-    io::print_decimal(STDOUT_FILENO, n);
+fn print(rt: &HostRuntime, n: u64) {
+    put_number(rt, n);
 }
 
 // Says which sheet differs.
-fn differs(number: u64) {
-    io::write_all(STDOUT_FILENO, b"sheet ");
-    print(number);
-    io::write_all(STDOUT_FILENO, b" differs\n");
+fn differs(rt: &HostRuntime, number: u64) {
+    put(rt, b"sheet ");
+    print(rt, number);
+    put(rt, b" differs\n");
 }
 
-fn next(data: &[u8], tally: Tally) -> Tally {
+fn next(rt: &HostRuntime, data: &[u8], tally: Tally) -> Tally {
     let sheets = tally.sheets;
     let at = tally.at;
     let seen = replayed(data, at);
@@ -513,7 +513,7 @@ fn next(data: &[u8], tally: Tally) -> Tally {
     let reached = seen.at;
     let other = 0 < differ || data.len() < reached;
     if other {
-        differs(sheets);
+        differs(rt, sheets);
     }
     Tally {
         at: reached,
@@ -524,7 +524,7 @@ fn next(data: &[u8], tally: Tally) -> Tally {
 }
 
 // Takes one case after the other. There are fewer than the turns.
-fn run(data: &[u8]) -> Tally {
+fn run(rt: &HostRuntime, data: &[u8]) -> Tally {
     let mut tally = Tally {
         at: 0,
         sheets: 0,
@@ -537,20 +537,20 @@ fn run(data: &[u8]) -> Tally {
         if data.len() <= at {
             return tally;
         }
-        tally = next(data, tally);
+        tally = next(rt, data, tally);
         turns -= 1;
     }
     tally
 }
 
-fn main() {
+fn main(rt: HostRuntime) {
     let mut data = [0u8; 524288];
-    let n = io::read_full(STDIN_FILENO, &mut data);
-    let tally = run(&data[..n]);
-    print(tally.sheets);
-    io::write_all(STDOUT_FILENO, b" sheets, ");
-    print(tally.compared);
-    io::write_all(STDOUT_FILENO, b" numbers compared, ");
-    print(tally.differ);
-    io::write_all(STDOUT_FILENO, b" sheets differ\n");
+    let n = fill(&mut data, &mut rt.reader());
+    let tally = run(&rt, &data[..n]);
+    print(&rt, tally.sheets);
+    put(&rt, b" sheets, ");
+    print(&rt, tally.compared);
+    put(&rt, b" numbers compared, ");
+    print(&rt, tally.differ);
+    put(&rt, b" sheets differ\n");
 }

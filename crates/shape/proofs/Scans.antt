@@ -3,14 +3,14 @@ use Prim.Native.Nat.{ℕ, zero, suc, ◌+◌, ◌≤◌, ◌<◌}
 use native.Mathlib.Numerals.{add-one}
 use native.Mathlib.Omega.{arith}
 use mathlib.Core.Path.{◌≡◌, refl, sym, ap, ◌∙◌}
-use mathlib.Core.Bool.{Bool, true, false, not, ◌&&◌, ◌||◌}
+use mathlib.Core.Bool.{Bool, true, false, ◌&&◌, ◌||◌}
 use mathlib.Core.List.{List, [], ◌∷◌, map}
 use lib.ListN.{length, drop, get_or}
 use lib.Seq.{drop-cons, drop-length}
 use lib.Dec.{eqb, ltb, leb}
 use lib.IntN.{ℤ}
 use lib.Signed.{lt_z, le_z}
-use borrow.Author.Tests.{ne_eqb, lt-ltb, not-true, not-false}
+use borrow.Author.Tests.{ne_eqb, lt-ltb}
 use Rattle.laws.specs.Lists.{every?, ascends, not_descending}
 use Rattle.laws.proofs.Bools.{and_true_right, or_none_right}
 use Rattle.rules.specs.Shape.{follows, stand_after, stand}
@@ -54,11 +54,11 @@ module _ {A K : Type 0} {test : ℕ → K → A → Bool} {next : K → A → K}
 -- ---- tests together
 
 -- a verdict r on a test t, as a branch on its denial leaves it
-pub passed : {r t : Bool} → r ≡ t → not r ≡ false → t ≡ true
-passed {r} e n = sym e ∙ not-false r n
+pub passed : {r t : Bool} → r ≡ t → r ≡ true → t ≡ true
+passed e h = sym e ∙ h
 
-pub failed : {r t : Bool} → r ≡ t → not r ≡ true → t ≡ false
-failed {r} e n = sym e ∙ not-true r n
+pub failed : {r t : Bool} → r ≡ t → r ≡ false → t ≡ false
+failed e h = sym e ∙ h
 
 pub and_same : {s t s' t' : Bool} → s ≡ s' → t ≡ t' → s && t ≡ s' && t'
 and_same p q = rw (p, q)

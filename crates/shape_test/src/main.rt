@@ -5,8 +5,9 @@
 ghost use Rattle.std.specs.Prelude.{◌+◌, ◌≤◌};
 
 use info::little_endian::{index, u32_at};
-use libc::{STDIN_FILENO, STDOUT_FILENO};
+use program::{fill, put, put_number};
 use shape::{Shaped, shape};
+use std::io::Read;
 use std::num::wrapping_add_u32;
 
 const SOUND: u32 = 255;
@@ -61,22 +62,22 @@ fn verdict(sheet: &[u8], n: usize) -> u32 {
     }
 }
 
-fn print(n: u32) {
-    io::print_decimal(STDOUT_FILENO, n as u64);
+fn print(rt: &HostRuntime, n: u32) {
+    put_number(rt, n as u64);
 }
 
 // Says which case differs, and how.
-fn differs(number: u32, found: u32, expected: u32) {
-    io::write_all(STDOUT_FILENO, b"case ");
-    print(number);
-    io::write_all(STDOUT_FILENO, b": ");
-    print(found);
-    io::write_all(STDOUT_FILENO, b", expected ");
-    print(expected);
-    io::write_all(STDOUT_FILENO, b"\n");
+fn differs(rt: &HostRuntime, number: u32, found: u32, expected: u32) {
+    put(rt, b"case ");
+    print(rt, number);
+    put(rt, b": ");
+    print(rt, found);
+    put(rt, b", expected ");
+    print(rt, expected);
+    put(rt, b"\n");
 }
 
-fn judge(sheet: &[u8], n: u32, expected: u32, tally: Tally) -> Tally {
+fn judge(rt: &HostRuntime, sheet: &[u8], n: u32, expected: u32, tally: Tally) -> Tally {
     let same = tally.same;
     let other = tally.other;
     let found = verdict(sheet, n as usize);
@@ -87,7 +88,7 @@ fn judge(sheet: &[u8], n: u32, expected: u32, tally: Tally) -> Tally {
             other: other,
         };
     }
-    differs(wrapping_add_u32(same, other), found, expected);
+    differs(rt, wrapping_add_u32(same, other), found, expected);
     Tally {
         more: true,
         same: same,
@@ -102,9 +103,9 @@ fn number(step: &[u8; 24], at: usize) -> u32
 }
 
 // Takes a step, if there is one.
-fn take_step(sheet: &mut [u8], tally: Tally) -> Tally {
+fn take_step<R: Read>(sheet: &mut [u8], reader: &mut R, rt: &HostRuntime, tally: Tally) -> Tally {
     let mut step = [0u8; 24];
-    let n = io::read_full(STDIN_FILENO, &mut step);
+    let n = fill(&mut step, reader);
     if n < 24 {
         return Tally {
             more: false,
@@ -116,7 +117,7 @@ fn take_step(sheet: &mut [u8], tally: Tally) -> Tally {
     let a = number(&step, 4);
     let b = number(&step, 8);
     if what == 2 {
-        return judge(sheet, a, b, tally);
+        return judge(rt, sheet, a, b, tally);
     }
     put_all(
         sheet,
@@ -130,15 +131,16 @@ fn take_step(sheet: &mut [u8], tally: Tally) -> Tally {
 }
 
 // Takes steps while there are any. No run has as many as the turns.
-fn run(sheet: &mut [u8]) -> Tally {
+fn run(sheet: &mut [u8], rt: &HostRuntime) -> Tally {
     let mut tally = Tally {
         more: true,
         same: 0,
         other: 0,
     };
+    let mut reader = rt.reader();
     let mut turns = u32::MAX;
     while 0 < turns {
-        tally = take_step(sheet, tally);
+        tally = take_step(sheet, &mut reader, rt, tally);
         let more = tally.more;
         turns -= 1;
         if !more {
@@ -148,12 +150,12 @@ fn run(sheet: &mut [u8]) -> Tally {
     tally
 }
 
-fn main() {
+fn main(rt: HostRuntime) {
     let mut sheet = [0u8; 540672];
-    let tally = run(&mut sheet);
-    io::write_all(STDOUT_FILENO, b"shape ");
-    print(tally.same);
-    io::write_all(STDOUT_FILENO, b" as expected, ");
-    print(tally.other);
-    io::write_all(STDOUT_FILENO, b" not\n");
+    let tally = run(&mut sheet, &rt);
+    put(&rt, b"shape ");
+    print(&rt, tally.same);
+    put(&rt, b" as expected, ");
+    print(&rt, tally.other);
+    put(&rt, b" not\n");
 }

@@ -51,6 +51,7 @@ every_read p f n k e h =
 
 so : (t : Bool) → T t → t ≡ true
 so true h = refl
+so false h = elim h [ ]
 
 read_fits : (r : List ℕ) (i : ℕ) → fits binary64 (f64_at r i) ≡ true
 read_fits r i = so _ (of_bits-fits binary64 (u32_at r i + 2 ^ 32 * u32_at r (i + 4)))

@@ -16,7 +16,7 @@ pub insert-n-requires : goal.insert-n-requires
 insert-n-requires c = record { eight = (c.loop-k.invariant.0, c.loop-k.invariant.1) }
 
 pub overflow_add-source : goal.overflow_add-source
-overflow_add-source c = room c.loop-k.invariant.2 c.loop-k-test.true c.requires.counted
+overflow_add-source c = record { fits = room c.loop-k.invariant.2 c.loop-k-test.true c.requires.counted }
 
 pub loop-k-preserved : goal.loop-k-preserved
 loop-k-preserved c = (c.insert-n.ensures.eight_still.0, c.insert-n.ensures.eight_still.1, one_put c.loop-k.invariant.2 c.loop-k-test.true c.insert-n.ensures.one_more)

@@ -1,0 +1,17 @@
+-- `stretches::past` meets its contract. The measure is how many rows are left.
+use Rattle.reading.proofs.stretches.past.Goals as goal
+use Prim.Native.Nat.{◌-◌}
+use lib.ListN.{length}
+use Rattle.reading.proofs.Laying.{Passed, passed_none, passed-more, passed_here, passed-all}
+
+pub loop-i-init : goal.loop-i-init
+loop-i-init c = passed_none c.requires.inside
+
+pub returns-then-own-object : goal.returns-then-own-object
+returns-then-own-object c = record { past = passed_here c.loop-i.invariant c.if-own-object.true }
+
+pub loop-i-preserved : goal.loop-i-preserved
+loop-i-preserved c = passed-more c.loop-i.invariant c.loop-i-test.true c.if-own-object.false
+
+pub returns : goal.returns
+returns c = record { past = passed-all c.loop-i.invariant c.loop-i-test.false }
