@@ -7,7 +7,7 @@ use Rattle.rules.specs.declared.Pass2Effect.{Pass2Effect}
 use Rattle.rules.specs.declared.Refusal.{Refusal}
 use Rattle.rules.specs.declared.Refusal.TheVariants.{Room}
 use Rattle.laws.specs.Columns.{laid}
-use Rattle.info.specs.At.{Rows, Floats}
+use Rattle.columns.specs.Lending.{LentColumn}
 use Rattle.modifier.specs.declared.moves.CollectedRooms.{CollectedRooms}
 use Rattle.modifier.specs.declared.moves.Counted.{Counted}
 use Rattle.modifier.specs.declared.moves.Counted.TheVariants.{At, Refused}
@@ -59,13 +59,13 @@ ended (refused x) ms c v l = stop x
 -- ---- what a call answers that runs the moves ms, where n rows of list 1 stood and p rows of list 4
 
 -- the columns hold what the moves leave
-abbrev pub Runs : CollectedRooms → Counted → ℕ → ℕ → List Move → Rows → Floats → Rows → Type 0
+abbrev pub Runs : CollectedRooms → Counted → ℕ → ℕ → List Move → LentColumn (List ℕ) → LentColumn Float → LentColumn (List ℕ) → Type 0
 Runs q r n p ms c v l = stand_of r c.exit.now v.exit.now l.exit.now ≡ ran q ms (at n p c.entry.now v.entry.now l.entry.now)
 
 -- those of list 1 do, whatever list 4 holds
-abbrev pub RunsCollected : CollectedRooms → Counted → ℕ → ℕ → List Move → Rows → Floats → Type 0
+abbrev pub RunsCollected : CollectedRooms → Counted → ℕ → ℕ → List Move → LentColumn (List ℕ) → LentColumn Float → Type 0
 RunsCollected q r n p ms c v = (l : List (List ℕ)) → stand_of r c.exit.now v.exit.now l ≡ ran q ms (at n p c.entry.now v.entry.now l)
 
 -- that of list 4 does, whatever list 1 holds
-abbrev pub RunsPlain : CollectedRooms → Counted → ℕ → ℕ → List Move → Rows → Type 0
+abbrev pub RunsPlain : CollectedRooms → Counted → ℕ → ℕ → List Move → LentColumn (List ℕ) → Type 0
 RunsPlain q r n p ms l = (c : List (List ℕ)) (v : List Float) → stand_of r c v l.exit.now ≡ ran q ms (at n p c v l.entry.now)

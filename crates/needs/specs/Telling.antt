@@ -1,6 +1,7 @@
 -- What the columns that needs are read off hold. Definitions only.
 use Rattle.std.specs.Prelude.{ℕ, ◌+◌, ◌≤◌, ◌<◌, ◌≡◌, List, [], length, get_or}
-use Rattle.columns.specs.Lending.{Column, LentColumn}
+use Rattle.std.specs.Borrow.{Bor}
+use Rattle.info.specs.At.{Numbers, Rows}
 use Rattle.rules.specs.Columns.{entry_numbers}
 use Rattle.rules.specs.Sheet.{book_of}
 use Rattle.rules.specs.Value.{World}
@@ -19,11 +20,11 @@ pub record NeedTables : Type 0 where
   pub entries : List (List ℕ)
 
 -- in the order of the arguments: as a `requires` has them, and as an `ensures` has them
-abbrev pub need_tables : Column ℕ → Column (List ℕ) → Column (List ℕ) → Column ℕ → Column (List ℕ) → Column (List ℕ) → NeedTables
+abbrev pub need_tables : Bor (List ℕ) → Bor (List (List ℕ)) → Bor (List (List ℕ)) → Bor (List ℕ) → Bor (List (List ℕ)) → Bor (List (List ℕ)) → NeedTables
 need_tables b p s l r e = record { book = b.now; pairs = p.now; stretches = s.now; limits = l.now; rows = r.now; entries = e.now }
 
 abbrev pub needs_read :
-    LentColumn ℕ → LentColumn (List ℕ) → LentColumn (List ℕ) → LentColumn ℕ → LentColumn (List ℕ) → LentColumn (List ℕ) → NeedTables
+    Numbers → Rows → Rows → Numbers → Rows → Rows → NeedTables
 needs_read b p s l r e = need_tables b.entry p.entry s.entry l.entry r.entry e.entry
 
 -- e stands in list 3 as these numbers, and its source is an object

@@ -5,7 +5,7 @@
 ghost use Rattle.std.specs.Prelude.{◌+◌, ◌≤◌};
 
 use info::little_endian::{index, u32_at};
-use program::{fill, put, put_number};
+use program::{fill, put as write, put_number};
 use shape::{Shaped, shape};
 use std::io::Read;
 use std::num::wrapping_add_u32;
@@ -68,13 +68,13 @@ fn print(rt: &HostRuntime, n: u32) {
 
 // Says which case differs, and how.
 fn differs(rt: &HostRuntime, number: u32, found: u32, expected: u32) {
-    put(rt, b"case ");
+    write(rt, b"case ");
     print(rt, number);
-    put(rt, b": ");
+    write(rt, b": ");
     print(rt, found);
-    put(rt, b", expected ");
+    write(rt, b", expected ");
     print(rt, expected);
-    put(rt, b"\n");
+    write(rt, b"\n");
 }
 
 fn judge(rt: &HostRuntime, sheet: &[u8], n: u32, expected: u32, tally: Tally) -> Tally {
@@ -153,9 +153,9 @@ fn run(sheet: &mut [u8], rt: &HostRuntime) -> Tally {
 fn main(rt: HostRuntime) {
     let mut sheet = [0u8; 540672];
     let tally = run(&mut sheet, &rt);
-    put(&rt, b"shape ");
+    write(&rt, b"shape ");
     print(&rt, tally.same);
-    put(&rt, b" as expected, ");
+    write(&rt, b" as expected, ");
     print(&rt, tally.other);
-    put(&rt, b" not\n");
+    write(&rt, b" not\n");
 }

@@ -6,9 +6,9 @@ use Rattle.free_table.proofs.store.Given as goal
 
 abbrev pub invariant-loop-i : goal.invariant-loop-i
 invariant-loop-i l = record {
-    laid_is : laid l.table l.t l.i (17 - l.i) ≡ laid l.initial.table l.t 0 17;
-    below : l.i ≤ 17
-  }
+  laid_is : laid l.table l.t l.i (17 - l.i) ≡ laid l.initial.table l.t 0 17;
+  below : l.i ≤ 17;
+}
 
 abbrev pub decreases-loop-i : goal.decreases-loop-i
 decreases-loop-i l = 17 - l.i

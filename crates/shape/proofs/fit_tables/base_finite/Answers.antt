@@ -16,4 +16,4 @@ use Rattle.info.proofs.Elements.{part, element}
 pub returns : goal.returns
 unfolding fit_of
 returns c = let inside : c.offset_of.result + 12 * c.args.i + 12 ≤ length c.args.fit.now = omega (arith, c.offset_of.ensures.defined, c.requires.held_fit.bases.within, c.requires.inside) in
-  record { defined = λ x N. c.finite_at.ensures.defined ∙ ap (λ (y : BaseAttribute). finite y.value) (element base_from 7 c.args.fit.now c.args.pairs.now c.args.i c.requires.inside (part c.args.fit.now (c.offset_of.result + 12 * c.args.i) 12 inside).0 c.offset_of.ensures.defined refl x ∙ sym (N x)) }
+    record { defined = λ x N. c.finite_at.ensures.defined ∙ ap (λ (y : BaseAttribute). finite y.value) (element base_from 7 c.args.fit.now c.args.pairs.now c.args.i c.requires.inside (part c.args.fit.now (c.offset_of.result + 12 * c.args.i) 12 inside).0 c.offset_of.ensures.defined refl x ∙ sym (N x)) }

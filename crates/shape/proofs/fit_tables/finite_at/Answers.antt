@@ -12,4 +12,4 @@ use Rattle.shape.proofs.FiniteBits.{bits-finite}
 
 pub returns : goal.returns
 returns c = let n : c.u32_at-low.result + 4294967296 * c.u32_at-high.result ≡ u32_at c.args.b.now c.args.at + 2 ^ 32 * u32_at c.args.b.now (c.args.at + 4) = omega (arith, c.u32_at-low.ensures.defined, c.u32_at-high.ensures.defined) in
-  record { defined = ap (λ (m : ℕ). ltb (m % 9223372036854775808) 9218868437227405312) n ∙ sym (bits-finite _) }
+    record { defined = ap (λ (m : ℕ). ltb (m % 9223372036854775808) 9218868437227405312) n ∙ sym (bits-finite _) }

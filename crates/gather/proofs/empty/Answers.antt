@@ -1,0 +1,13 @@
+-- `empty` meets its contract. Assumes nothing.
+use Rattle.gather.proofs.empty.Goals as goal
+use Rattle.gather.proofs.empty.Reads as reads
+use Rattle.gather.proofs.empty.Lts as lts
+use Rattle.operate.proofs.start.Reads as start-reads
+use mathlib.Core.Path.{refl}
+use Rattle.operate.proofs.Inserts as inserts
+
+pub returns : goal.returns
+returns c = record {
+  defined = λ counts room s₀ f₀ i high op m s f pv ps nv ns t k. record { keeping = k; running = c.start.ensures.nothing_yet high op t; positive = inserts.empty refl; negative = inserts.empty refl };
+  counted = (refl, refl, refl);
+}

@@ -1,0 +1,21 @@
+-- `hits::is_hit` meets its contract.
+use Rattle.hits.proofs.is_hit.Goals as goal
+use Rattle.hits.proofs.is_hit.Reads as reads
+use Rattle.hits.proofs.is_hit.Lts as lts
+use Rattle.hits.proofs.requires_skill.Reads as requires-skill-reads
+use mathlib.Core.Path.{refl}
+use mathlib.Core.Bool.{true}
+use Rattle.hits.specs.declared.Test.TheVariants.{All}
+use Rattle.hits.proofs.Passing.{unreached, reached}
+
+pub returns-then-reached-eq0 : goal.returns-then-reached-eq0
+returns-then-reached-eq0 c = record { defined = unreached _ _ _ _ c.if-reached-eq0.true }
+
+pub returns-in-All : goal.returns-in-All
+returns-in-All c = record { defined = reached _ _ _ _ All true c.if-reached-eq0.false c.in-All.is refl }
+
+pub returns-in-OfGroup : goal.returns-in-OfGroup
+returns-in-OfGroup c = record { defined = reached _ _ _ _ _ _ c.if-reached-eq0.false c.in-OfGroup.is refl }
+
+pub returns-in-Requiring : goal.returns-in-Requiring
+returns-in-Requiring c = record { defined = reached _ _ _ _ _ _ c.if-reached-eq0.false c.in-Requiring.is c.requires_skill.ensures.defined }

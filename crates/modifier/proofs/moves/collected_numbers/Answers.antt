@@ -1,0 +1,15 @@
+-- `moves::collected_numbers` meets its contract. Assumes nothing.
+use Rattle.modifier.proofs.moves.collected_numbers.Goals as goal
+use Rattle.modifier.proofs.moves.collected_numbers.Reads as reads
+use Rattle.modifier.proofs.moves.collected_numbers.Lts as lts
+use Rattle.modifier.proofs.moves.modifier_numbers.Reads as modifier-numbers-reads
+use Rattle.numbers.proofs.integers.optional_numbers.Reads as optional-numbers-reads
+use Rattle.modifier.proofs.moves.origin_numbers.Reads as origin-numbers-reads
+use Rattle.item.proofs.codes.operator_code.Reads as operator-code-reads
+use Rattle.numbers.proofs.integers.bits.Reads as bits-reads
+use Rattle.modifier.proofs.Numbers.{row}
+use Rattle.numbers.proofs.Signs.{stored}
+use mathlib.Core.Path.{◌∙◌}
+
+pub returns : goal.returns
+returns c = record { defined = row c.args.e c.origin_numbers-o.ensures.defined c.modifier_numbers-m.ensures.defined c.operator_code-code.ensures.defined (c.bits-attribute.ensures.defined ∙ stored c.args.e.target_attribute_id c.struct_told-1.given.1.1.1.1.1.0.1) c.optional_numbers-r.ensures.defined }

@@ -1,0 +1,14 @@
+-- `moves::push_plain` meets its contract. Assumes nothing.
+use Rattle.modifier.proofs.moves.push_plain.Goals as goal
+use Rattle.modifier.proofs.moves.push_plain.Reads as reads
+use Rattle.modifier.proofs.moves.push_plain.Lts as lts
+use Rattle.numbers.proofs.integers.bits.Reads as bits-reads
+use Rattle.modifier.proofs.Runs.{no_plain_room, pushed_plain}
+use Rattle.numbers.proofs.Signs.{stored}
+use mathlib.Core.Path.{◌∙◌}
+
+pub returns-then-room-used_plain : goal.returns-then-room-used_plain
+returns-then-room-used_plain c = record { defined = λ k v. no_plain_room _ _ _ k v _ _ _ c.if-room-used_plain.true }
+
+pub returns : goal.returns
+returns c = record { defined = λ k v. pushed_plain _ _ _ k v _ _ _ c.if-room-used_plain.false (c.bits-code.ensures.defined ∙ stored c.args.id c.ranges.id.sfits) }
