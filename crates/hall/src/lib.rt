@@ -17,8 +17,7 @@ use seats::{Left, Seat, admit_seats, admit_table, leave_answer, leave_table};
 // ---- admission
 
 // Whether a pilot is admitted, and where; whatever the table, the stretches and the numbers: nothing is required.
-#[unsafe(no_mangle)]
-pub extern "C" fn dogma_admit(
+pub fn dogma_admit(
     free: &mut [Stretch],
     stretches: &mut PoolStretches,
     count: u32,
@@ -201,8 +200,7 @@ fn seat_of(left: Left) -> Seat
 }
 
 // Whether a pilot leaves; its rows are zero and free again, joined to their neighbours. Nothing is required.
-#[unsafe(no_mangle)]
-pub extern "C" fn dogma_leave(
+pub fn dogma_leave(
     states: &mut PilotStates,
     collected: &mut [CollectedRow],
     collected_values: &mut [f64],

@@ -2,16 +2,15 @@
 use Prim.Native.Nat.{ℕ, ◌+◌, ◌-◌, ◌*◌, ◌≤◌, ◌<◌, ◌^◌}
 use native.Mathlib.Decide.{ℕ_discrete}
 use native.Mathlib.Omega.{arith}
-use mathlib.Core.Path.{◌≡◌, refl, sym, ap, subst, ◌∙◌}
+use mathlib.Core.Path.{◌≡◌, sym, ap, ◌∙◌}
 use mathlib.Core.List.{List, []}
 use mathlib.Core.Option.{Option, none, some}
 use lib.ListN.{length, get_or}
-use Rattle.rules.specs.Value.{World}
 use Rattle.needs.specs.Slots.{need_at}
 use Rattle.needs.specs.Telling.{NeedTables, KnowsNeeds}
 use Rattle.needs.proofs.Showing.{row_count, need_inside, need_slot}
 use Rattle.order.specs.Ranks.{num, Put, Unmet, Ranked}
-use Rattle.order.specs.Walks.{Placing, Walking, Pushable, Looking, AllPlaced}
+use Rattle.order.specs.Walks.{Walking, Pushable, Looking, AllPlaced}
 use Rattle.order.specs.declared.Walk.{Walk}
 use Rattle.order.proofs.Puts.{beside, other}
 use Rattle.order.proofs.Placing.{Alike, alike_placing, next-placing, pass_placing, place-placing, all_placed}

@@ -1,12 +1,11 @@
 -- A source row gets its penalty: what the columns hold then, and one turn of `set_penalties`.
-use Prim.Native.Nat.{ℕ, zero, suc, ◌+◌, ◌≤◌, ◌<◌, min}
+use Prim.Native.Nat.{ℕ, suc, ◌+◌, ◌≤◌, ◌<◌, min}
 use native.Mathlib.Omega.{arith}
 use native.Mathlib.Numerals.{add-one}
-use mathlib.Core.Path.{◌≡◌, refl, sym, ap, ap₂, subst, ◌∙◌}
-use mathlib.Core.Bool.{Bool, true, false, cond}
+use mathlib.Core.Path.{◌≡◌, refl, sym, ap, subst, ◌∙◌}
+use mathlib.Core.Bool.{Bool, true, false}
 use mathlib.Core.List.{List, [], ◌∷◌, ◌++◌}
-use mathlib.Core.Logic.{◌⊎◌, inl, inr}
-use mathlib.Core.Option.{some}
+use mathlib.Core.Logic.{inl, inr}
 use borrow.Author.Tests.{ltb-true, ltb-false, eqb-true, eqb-false}
 use lib.Dec.{ltb, eqb}
 use lib.Ieee.{Float, nan}
@@ -20,13 +19,13 @@ use Rattle.rules.specs.Operate.{Copy, sorted}
 use Rattle.rules.specs.Value.{World, Mem, own_sources, no_source, with_penalty, with_own, marked}
 use Rattle.rules.specs.declared.Source.{Source}
 use Rattle.operate.specs.declared.buckets.Bucket.{Bucket}
-use Rattle.operate.specs.Held.{pairs, held, copy, Gathered}
+use Rattle.operate.specs.Held.{pairs, copy, Gathered}
 use Rattle.operate.proofs.Inserts.{pairs-length, held_kept}
 use Rattle.operate.proofs.Weighings.{pairs-at}
 use Rattle.sources.specs.declared.Recording.{Recording}
-use Rattle.sources.specs.Shown.{filled, shown, placed, first_of, first32}
+use Rattle.sources.specs.Shown.{shown, placed, first_of}
 use Rattle.sources.specs.Keeping.{RunOf, Begins, Keeping}
-use Rattle.sources.specs.Marks.{Waits, Away, Fresh, fresh, penalty_at}
+use Rattle.sources.specs.Marks.{Fresh, fresh, penalty_at}
 use Rattle.sources.proofs.Showing.{filled_set, shown_put, shown_past, shown_length}
 use Rattle.sources.proofs.Marking.{sorted-fresh, take-fresh, set-fresh, marked_eight, marked_none}
 

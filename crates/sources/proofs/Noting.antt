@@ -1,10 +1,10 @@
 -- One source row more: what the columns hold after `note`.
-use Prim.Native.Nat.{ℕ, zero, suc, ◌+◌, ◌≤◌, ◌<◌, min}
+use Prim.Native.Nat.{ℕ, suc, ◌+◌, ◌≤◌, ◌<◌}
 use native.Mathlib.Omega.{arith}
 use mathlib.Core.Path.{◌≡◌, refl, sym, ap, ◌∙◌}
-use mathlib.Core.Bool.{Bool, true, false, cond}
+use mathlib.Core.Bool.{true, false}
 use mathlib.Core.List.{List, [], ◌∷◌, ◌++◌}
-use mathlib.Core.Logic.{◌⊎◌, inl, inr}
+use mathlib.Core.Logic.{inl, inr}
 use mathlib.Core.Option.{some}
 use borrow.Author.Tests.{lt-ltb, le-ltb, ltb-true, ltb-false, eqb-true, eqb-false}
 use lib.Dec.{ltb, eqb}
@@ -12,16 +12,15 @@ use lib.Ieee.{Float}
 use lib.ListN.{length, get_or, set, length-append, length-set}
 use lib.Seq.{get_or-set_same, get_or-set_other}
 use Rattle.laws.proofs.Bools.{true_or_false}
-use Rattle.rules.specs.Answer.{Res, ok, refused}
+use Rattle.rules.specs.Answer.{ok, refused}
 use Rattle.rules.specs.Dispatch.{Row}
 use Rattle.rules.specs.Columns.{source_numbers, source_floats}
 use Rattle.rules.specs.Value.{World, Mem, own_sources, note}
 use Rattle.rules.specs.declared.Source.{Source}
 use Rattle.rules.specs.declared.Refusal.TheVariants.{Room}
-use Rattle.sources.specs.declared.Recording.{Recording}
 use Rattle.sources.specs.declared.Noted.TheVariants.{At, Refused}
-use Rattle.sources.specs.Shown.{filled, shown, placed, first_of, first32}
-use Rattle.sources.specs.Keeping.{RunOf, Begins, Keeping, NotedAs}
+use Rattle.sources.specs.Shown.{filled, shown, placed, first_of}
+use Rattle.sources.specs.Keeping.{Begins, Keeping, NotedAs}
 use Rattle.sources.proofs.Showing.{filled_snoc, shown_put, shown_past}
 
 -- the three ways of a note

@@ -1,11 +1,11 @@
 -- Laws of the places of list 5: one more source row, a source row that changes, and all of them in the end.
-use Prim.Native.Nat.{ℕ, zero, suc, ◌+◌, ◌-◌, ◌≤◌, ◌<◌, min}
+use Prim.Native.Nat.{ℕ, zero, suc, ◌+◌, ◌≤◌, ◌<◌}
 use native.Mathlib.Nat.{not-suc-le-zero, le_of_suc-le-suc}
 use native.Mathlib.Omega.{arith}
 use mathlib.Core.Path.{◌≡◌, refl, sym, ap, ◌∙◌}
-use mathlib.Core.List.{List, [], ◌∷◌, ◌++◌, map}
+use mathlib.Core.List.{List, [], ◌∷◌, ◌++◌}
 use mathlib.Core.Option.{Option, none, some}
-use lib.ListN.{length, get_or, take, set, length-append, length-take, length-set}
+use lib.ListN.{length, get_or, take, set, length-append, length-take}
 use lib.Seq.{set-append_left, take-set-le, take-set-lt}
 use Rattle.laws.specs.Lists.{total}
 use Rattle.sources.specs.Shown.{filled, places, overlaid, shown, first_of}

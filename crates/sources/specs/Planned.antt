@@ -1,5 +1,5 @@
 -- How many source rows each row of list 2 gets when they are recorded. Definitions only.
-use Rattle.std.specs.Prelude.{ℕ, ◌+◌, ◌<◌, min, ◌≡◌, Bool, true, false, ◌&&◌, cond, List, [], ◌∷◌, map, ℤ, length, get_or}
+use Rattle.std.specs.Prelude.{ℕ, ◌+◌, ◌<◌, min, ◌≡◌, Bool, true, ◌&&◌, cond, List, [], ◌∷◌, map, ℤ, length, get_or}
 use Rattle.std.proofs.Math.Option.{none}
 use Rattle.laws.specs.Lists.{total}
 use Rattle.rules.specs.Answer.{ok}

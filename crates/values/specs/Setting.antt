@@ -14,6 +14,7 @@ use Rattle.states.specs.Raised.{rows_of}
 use Rattle.rows.specs.Parts.{ListsLaid}
 use Rattle.sources.specs.declared.Recording.{Recording}
 use Rattle.sources.specs.Rows.{counts_by, planned_numbers}
+use Rattle.pass_3.specs.Calls.{Rows, Floats, Lent}
 use Rattle.values.specs.Complete.{all_sources}
 use Rattle.values.specs.declared.walk.Valued.{Valued}
 use Rattle.values.specs.declared.walk.Valued.TheVariants as valued
@@ -50,7 +51,7 @@ SetAs rs (refused y) (valued.At used) r₀ r v₀ v s₀ s g₀ g = ⊥
 SetAs rs (refused y) (valued.Refused z) r₀ r v₀ v s₀ s g₀ g = z ≡ y
 
 -- of the sheet's rows in the columns that are only read, the others hold what the definition's answer a says
-abbrev pub SetGives : Book → Fit → ℕ → Recording → LentColumn (List ℕ) → LentColumn Float → LentColumn (List ℕ) → LentColumn Float → LentColumn (List ℕ) → LentColumn Float → LentColumn (List ℕ) → LentColumn (List Float) → Valued → Res Mem → Type 0
+abbrev pub SetGives : Book → Fit → ℕ → Recording → Lent Rows → Lent Floats → Lent Rows → Lent Floats → LentColumn (List ℕ) → LentColumn Float → LentColumn (List ℕ) → LentColumn (List Float) → Valued → Res Mem → Type 0
 SetGives k f n run states bases entries entry_values rows values sources floats r a =
     (h : RowsListed k f n run states.entry.now rows.entry.now bases.entry.now entries.entry.now entry_values.entry.now)
     → SetAs (rows_in k f) a r h.rows₀ rows.exit.now values.entry.now values.exit.now sources.entry.now sources.exit.now floats.entry.now floats.exit.now

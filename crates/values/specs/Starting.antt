@@ -10,6 +10,7 @@ use Rattle.reading.specs.Stretched.{Limits, Unlimited}
 use Rattle.reading.specs.Order.{owned}
 use Rattle.sources.specs.declared.Recording.{Recording}
 use Rattle.memory.specs.Holding.{Tables, Holds, Ready}
+use Rattle.pass_3.specs.Calls.{Numbers, Lent}
 use Rattle.values.specs.declared.walk.Valued.{Valued}
 use Rattle.values.specs.declared.walk.Valued.TheVariants as valued
 
@@ -38,10 +39,10 @@ StartsGive t v s f run r g =
     → ValuedAs h.world h.sources₀ h.floats₀ (g h.world h.mem) r v.exit.now s.exit.now f.exit.now
 
 -- the same of a world that may be walked: as a `requires` has it, and as an `ensures` has it
-abbrev pub WalkableNow : Tables → Column Float → Column (List ℕ) → Column (List Float) → Recording → ℕ → Column ℕ → Type 0
+abbrev pub WalkableNow : Tables → Column Float → Column (List ℕ) → Column (List Float) → Recording → ℕ → Numbers → Type 0
 WalkableNow t v s f run used fit = Walkable t run v.now s.now f.now used fit.now
 
-abbrev pub WalkGives : Tables → LentColumn Float → LentColumn (List ℕ) → LentColumn (List Float) → Recording → ℕ → LentColumn ℕ → Valued → (World → Mem → Res Mem) → Type 0
+abbrev pub WalkGives : Tables → LentColumn Float → LentColumn (List ℕ) → LentColumn (List Float) → Recording → ℕ → Lent Numbers → Valued → (World → Mem → Res Mem) → Type 0
 WalkGives t v s f run used fit r g =
     (h : Walkable t run v.entry.now s.entry.now f.entry.now used fit.entry.now)
     → ValuedAs h.ready.world h.ready.sources₀ h.ready.floats₀ (g h.ready.world h.ready.mem) r v.exit.now s.exit.now f.exit.now

@@ -6,6 +6,7 @@ use Rattle.numbers.proofs.integers.signed.Reads as signed-Reads
 use Rattle.reading.proofs.stretches.is_limited.Reads as is-limited-reads
 use native.Mathlib.Omega.{arith}
 use mathlib.Core.Path.{refl, sym, ◌∙◌}
+use mir.Syntax.{w32}
 use mir.Facts.{to_z-of_z}
 use borrow.Author.Rules.{sfits_of}
 use borrow.Author.Tests.{not-true}
@@ -16,4 +17,4 @@ pub returns-then-count-ne0 : goal.returns-then-count-ne0
 returns-then-count-ne0 c = record { nothing = λ h e. both_ways e refl }
 
 pub returns : goal.returns
-returns c = record { nothing = λ h e s. no_limits h.told c.args.row c.requires.within (to_z-of_z (sfits_of c.signed-id.type_inv) ∙ c.signed-id.ensures.defined) (c.is_limited-has_limits.ensures.unlimited h.world.book h.told.limited (not-true c.is_limited-has_limits.result e)) s ∙ sym (slot_limit h.world c.args.row s s (omega (arith, row_count h.told c.args.row c.requires.within, c.if-count-ne0.false))) }
+returns c = record { nothing = λ h e s. no_limits h.told c.args.row c.requires.within (to_z-of_z {w = w32} (sfits_of c.signed-id.type_inv) ∙ c.signed-id.ensures.defined) (c.is_limited-has_limits.ensures.unlimited h.world.book h.told.limited (not-true c.is_limited-has_limits.result e)) s ∙ sym (slot_limit h.world c.args.row s s (omega (arith, row_count h.told c.args.row c.requires.within, c.if-count-ne0.false))) }

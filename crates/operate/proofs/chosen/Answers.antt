@@ -1,6 +1,5 @@
 -- `operate::chosen` meets its contract.
 use Rattle.operate.proofs.chosen.Goals as goal
-use borrow.Author.Tests.{not-true, not-false}
 use Rattle.rules.specs.Number.{◌>>=◌}
 
 pub returns-then-not-any : goal.returns-then-not-any

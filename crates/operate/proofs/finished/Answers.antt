@@ -1,9 +1,5 @@
 -- `operate::finished` meets its contract.
 use Rattle.operate.proofs.finished.Goals as goal
-use Rattle.operate.proofs.finished.Reads as reads
-use Rattle.operate.proofs.finished.Lts as lts
-use Rattle.operate.proofs.buckets.Bucket.weigh.Reads as weigh-reads
-use Rattle.operate.proofs.step_so_far.Reads as step-so-far-reads
 use mathlib.Core.Path.{sym, ◌∙◌}
 use Rattle.operate.proofs.Applied.{not_plain, not_positive, whole}
 

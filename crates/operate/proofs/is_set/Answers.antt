@@ -1,7 +1,5 @@
 -- `operate::is_set` meets its contract.
 use Rattle.operate.proofs.is_set.Goals as goal
-use Rattle.operate.proofs.is_set.Reads as reads
-use Rattle.operate.proofs.is_set.Lts as lts
 use Rattle.operate.proofs.Snocs.{set_if}
 
 pub returns-then-flag-eq0 : goal.returns-then-flag-eq0

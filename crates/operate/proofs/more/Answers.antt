@@ -1,8 +1,5 @@
 -- `operate::more` meets its contract.
 use Rattle.operate.proofs.more.Goals as goal
-use Rattle.operate.proofs.more.Reads as reads
-use Rattle.operate.proofs.more.Lts as lts
-use Rattle.operate.proofs.stepped.Reads as stepped-reads
 use mathlib.Core.Path.{refl, sym, ◌∙◌}
 use Rattle.operate.proofs.Snocs.{none_more, some_more}
 

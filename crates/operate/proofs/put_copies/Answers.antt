@@ -1,13 +1,6 @@
 -- `operate::put_copies` meets its contract: k of the copies are put in.
 use Rattle.operate.proofs.put_copies.Goals as goal
-use Rattle.operate.proofs.put_copies.Reads as reads
-use Rattle.operate.proofs.put_copies.Lts as lts
-use Rattle.operate.proofs.buckets.insert.Reads as insert-reads
-use Prim.Native.Nat.{◌-◌}
-use lib.ListN.{length}
-use mathlib.Core.Path.{◌≡◌, ◌∙◌}
-use Rattle.operate.specs.Held.{bucket}
-use Rattle.operate.proofs.Copies.{Put, none_put, room, one_put, all_put}
+use Rattle.operate.proofs.Copies.{none_put, room, one_put, all_put}
 
 pub loop-k-init : goal.loop-k-init
 loop-k-init c = (c.requires.eight.0, c.requires.eight.1, none_put _ _ _ _ _)

@@ -1,8 +1,5 @@
 -- `operate::step_so_far` meets its contract.
 use Rattle.operate.proofs.step_so_far.Goals as goal
-use Rattle.operate.proofs.step_so_far.Reads as reads
-use Rattle.operate.proofs.step_so_far.Lts as lts
-use Rattle.operate.proofs.is_set.Reads as is-set-reads
 use mathlib.Core.Path.{sym, ◌∙◌}
 
 pub returns-then-is_set : goal.returns-then-is_set

@@ -1,12 +1,5 @@
 -- `operate::stepped` meets its contract, operator by operator.
 use Rattle.operate.proofs.stepped.Goals as goal
-use Rattle.operate.proofs.stepped.Reads as reads
-use Rattle.operate.proofs.stepped.Lts as lts
-use Rattle.operate.proofs.added.Reads as added-reads
-use Rattle.operate.proofs.chosen.Reads as chosen-reads
-use Rattle.operate.proofs.is_set.Reads as is-set-reads
-use Rattle.operate.proofs.multiplied.Reads as multiplied-reads
-use Rattle.operate.proofs.step_so_far.Reads as step-so-far-reads
 use mathlib.Core.Path.{sym}
 
 pub returns-in-PreAssign : goal.returns-in-PreAssign

@@ -22,7 +22,8 @@ use borrow.Author.Rules.{sfits_of, scaled_Fits}
 use mathlib.Core.Bool.{Bool, true, false, not, ◌||◌}
 use mir.Syntax.{w32}
 use mir.Val.{to_z, of_z}
-use lib.IntN.{ℤ, pos, mag}
+use lib.IntN.{ℤ, pos}
+use lib.Signed.{mag}
 use Rattle.laws.proofs.Bools.{not-not, or_false_left, or_false_right}
 use Rattle.memory.proofs.Holdings.{goes_on_from, number_of}
 use Rattle.memory.proofs.Fitting.{fits_below, row_inside, first_and_count, first_fits, count_fits, end_fits}
@@ -73,14 +74,14 @@ calculated_value-returns-in-Nothing t c = record { defined = λ h. finding.absen
 
 pub evaluated-returns-then-not-has_limits : goal.evaluated-returns-then-not-has_limits
 evaluated-returns-then-not-has_limits t c = let id : c.signed-id.result ≡ to_z w32 (get_or (get_or c.args.rows.now c.args.row []) 1 0) = c.signed-id.ensures.defined in
-    record { defined = λ h. evaluating.plain-meets h c.args.left c.if-count-eq0.true (λ k l. subst (λ (a : ℤ). ((get_dogma_attribute k a).min_attribute_id ≡ pos 0) × ((get_dogma_attribute k a).max_attribute_id ≡ pos 0)) (to_z-of_z (sfits_of c.signed-id.type_inv) ∙ id) (c.is_limited-has_limits.ensures.unlimited k l c.if-not-has_limits.true)) }
+    record { defined = λ h. evaluating.plain-meets h c.args.left c.if-count-eq0.true (λ k l. subst (λ (a : ℤ). ((get_dogma_attribute k a).min_attribute_id ≡ pos 0) × ((get_dogma_attribute k a).max_attribute_id ≡ pos 0)) (to_z-of_z {w = w32} (sfits_of c.signed-id.type_inv) ∙ id) (c.is_limited-has_limits.ensures.unlimited k l c.if-not-has_limits.true)) }
 
 pub evaluated-operated-got-requires : goal.evaluated-operated-got-requires
 evaluated-operated-got-requires t c = (omega arith, c.requires.begun)
 
 pub evaluated-returns-then-not-has_limits-2 : goal.evaluated-returns-then-not-has_limits-2
 evaluated-returns-then-not-has_limits-2 t c = let id : c.signed-id.result ≡ to_z w32 (get_or (get_or c.args.rows.now c.args.row []) 1 0) = c.signed-id.ensures.defined in
-    record { defined = λ h. evaluating.free_meets h c.args.left (λ k l. subst (λ (a : ℤ). ((get_dogma_attribute k a).min_attribute_id ≡ pos 0) × ((get_dogma_attribute k a).max_attribute_id ≡ pos 0)) (to_z-of_z (sfits_of c.signed-id.type_inv) ∙ id) (c.is_limited-has_limits.ensures.unlimited k l c.if-not-has_limits-2.true)) _ _ _ _ (c.operated-got.ensures.defined h) }
+    record { defined = λ h. evaluating.free_meets h c.args.left (λ k l. subst (λ (a : ℤ). ((get_dogma_attribute k a).min_attribute_id ≡ pos 0) × ((get_dogma_attribute k a).max_attribute_id ≡ pos 0)) (to_z-of_z {w = w32} (sfits_of c.signed-id.type_inv) ∙ id) (c.is_limited-has_limits.ensures.unlimited k l c.if-not-has_limits-2.true)) _ _ _ _ (c.operated-got.ensures.defined h) }
 
 pub evaluated-returns-in_default : goal.evaluated-returns-in_default
 evaluated-returns-in_default t c = record { defined = λ h. limiting.evaluate_refused _ _ _ _ _ _ _ c.args.row _ _ _ _ c.in_default.is (c.operated-got.ensures.defined h) }
@@ -95,19 +96,19 @@ evaluated-limited-low-requires t c = let k = rw c.in-Value.is at (c.operated-got
 pub evaluated-returns-in_default-low : goal.evaluated-returns-in_default-low
 evaluated-returns-in_default-low t c = let least_fits : mag c.get_dogma_attribute-record.result.min_attribute_id < 2 ^ 31 = search rules in
     let id : c.signed-id.result ≡ to_z w32 (get_or (get_or c.args.rows.now c.args.row []) 1 0) = c.signed-id.ensures.defined in
-    record { defined = λ h. let k = rw c.in-Value.is at (c.operated-got.ensures.defined h) in evaluating.low-refused h c.args.left c.in-Value.v c.in-Value.u c.operated-got.new.values c.operated-got.new.sources c.operated-got.new.floats k (get_or (get_or c.args.rows.now c.args.row []) 0 0) c.get_dogma_attribute-record.result.min_attribute_id refl (ap (λ (r : DogmaAttribute). r.min_attribute_id) (c.get_dogma_attribute-record.ensures.defined ∙ ap (λ (a : ℤ). get_dogma_attribute (book_of c.args.book.now c.args.pairs.now) a) (to_z-of_z (sfits_of c.signed-id.type_inv) ∙ id))) _ _ c.in_default-low.is _ _ _ (rw (to_z-of_z (sfits_of least_fits)) at (c.limited-low.ensures.defined (evaluating.operated_on h c.args.left c.in-Value.v c.in-Value.u c.operated-got.new.values c.operated-got.new.sources c.operated-got.new.floats k))) }
+    record { defined = λ h. let k = rw c.in-Value.is at (c.operated-got.ensures.defined h) in evaluating.low-refused h c.args.left c.in-Value.v c.in-Value.u c.operated-got.new.values c.operated-got.new.sources c.operated-got.new.floats k (get_or (get_or c.args.rows.now c.args.row []) 0 0) c.get_dogma_attribute-record.result.min_attribute_id refl (ap (λ (r : DogmaAttribute). r.min_attribute_id) (c.get_dogma_attribute-record.ensures.defined ∙ ap (λ (a : ℤ). get_dogma_attribute (book_of c.args.book.now c.args.pairs.now) a) (to_z-of_z {w = w32} (sfits_of c.signed-id.type_inv) ∙ id))) _ _ c.in_default-low.is _ _ _ (rw (to_z-of_z {w = w32} (sfits_of least_fits)) at (c.limited-low.ensures.defined (evaluating.operated_on h c.args.left c.in-Value.v c.in-Value.u c.operated-got.new.values c.operated-got.new.sources c.operated-got.new.floats k))) }
 
 pub evaluated-limited-requires : goal.evaluated-limited-requires
 evaluated-limited-requires t c = let least_fits : mag c.get_dogma_attribute-record.result.min_attribute_id < 2 ^ 31 = search rules in
     let id : c.signed-id.result ≡ to_z w32 (get_or (get_or c.args.rows.now c.args.row []) 1 0) = c.signed-id.ensures.defined in
-    let k = rw c.in-Value.is at (c.operated-got.ensures.defined c.requires.begun) in let l = rw (to_z-of_z (sfits_of least_fits), c.in-Value-low.is) at (c.limited-low.ensures.defined (evaluating.operated_on c.requires.begun c.args.left c.in-Value.v c.in-Value.u c.operated-got.new.values c.operated-got.new.sources c.operated-got.new.floats k)) in
-    (omega (arith, evaluating.operated_falls c.requires.begun c.args.left c.in-Value.v c.in-Value.u c.operated-got.new.values c.operated-got.new.sources c.operated-got.new.floats k, evaluating.raised-falls c.requires.begun c.args.left c.in-Value.v c.in-Value.u c.operated-got.new.values c.operated-got.new.sources c.operated-got.new.floats k (get_or (get_or c.args.rows.now c.args.row []) 0 0) c.get_dogma_attribute-record.result.min_attribute_id refl (ap (λ (r : DogmaAttribute). r.min_attribute_id) (c.get_dogma_attribute-record.ensures.defined ∙ ap (λ (a : ℤ). get_dogma_attribute (book_of c.args.book.now c.args.pairs.now) a) (to_z-of_z (sfits_of c.signed-id.type_inv) ∙ id))) c.get_dogma_attribute-record.result.max_attribute_id (ap (λ (r : DogmaAttribute). r.max_attribute_id) (c.get_dogma_attribute-record.ensures.defined ∙ ap (λ (a : ℤ). get_dogma_attribute (book_of c.args.book.now c.args.pairs.now) a) (to_z-of_z (sfits_of c.signed-id.type_inv) ∙ id))) c.in-Value-low.w c.in-Value-low.t c.limited-low.new.values c.limited-low.new.sources c.limited-low.new.floats l), (evaluating.raised_on c.requires.begun c.args.left c.in-Value.v c.in-Value.u c.operated-got.new.values c.operated-got.new.sources c.operated-got.new.floats k (get_or (get_or c.args.rows.now c.args.row []) 0 0) c.get_dogma_attribute-record.result.min_attribute_id refl (ap (λ (r : DogmaAttribute). r.min_attribute_id) (c.get_dogma_attribute-record.ensures.defined ∙ ap (λ (a : ℤ). get_dogma_attribute (book_of c.args.book.now c.args.pairs.now) a) (to_z-of_z (sfits_of c.signed-id.type_inv) ∙ id))) c.get_dogma_attribute-record.result.max_attribute_id (ap (λ (r : DogmaAttribute). r.max_attribute_id) (c.get_dogma_attribute-record.ensures.defined ∙ ap (λ (a : ℤ). get_dogma_attribute (book_of c.args.book.now c.args.pairs.now) a) (to_z-of_z (sfits_of c.signed-id.type_inv) ∙ id))) c.in-Value-low.w c.in-Value-low.t c.limited-low.new.values c.limited-low.new.sources c.limited-low.new.floats l, (evaluating.object_few c.requires.begun, evaluating.raised_good c.requires.begun c.args.left c.in-Value.v c.in-Value.u c.operated-got.new.values c.operated-got.new.sources c.operated-got.new.floats k (get_or (get_or c.args.rows.now c.args.row []) 0 0) c.get_dogma_attribute-record.result.min_attribute_id refl (ap (λ (r : DogmaAttribute). r.min_attribute_id) (c.get_dogma_attribute-record.ensures.defined ∙ ap (λ (a : ℤ). get_dogma_attribute (book_of c.args.book.now c.args.pairs.now) a) (to_z-of_z (sfits_of c.signed-id.type_inv) ∙ id))) c.get_dogma_attribute-record.result.max_attribute_id (ap (λ (r : DogmaAttribute). r.max_attribute_id) (c.get_dogma_attribute-record.ensures.defined ∙ ap (λ (a : ℤ). get_dogma_attribute (book_of c.args.book.now c.args.pairs.now) a) (to_z-of_z (sfits_of c.signed-id.type_inv) ∙ id))) c.in-Value-low.w c.in-Value-low.t c.limited-low.new.values c.limited-low.new.sources c.limited-low.new.floats l)))
+    let k = rw c.in-Value.is at (c.operated-got.ensures.defined c.requires.begun) in let l = rw (to_z-of_z {w = w32} (sfits_of least_fits), c.in-Value-low.is) at (c.limited-low.ensures.defined (evaluating.operated_on c.requires.begun c.args.left c.in-Value.v c.in-Value.u c.operated-got.new.values c.operated-got.new.sources c.operated-got.new.floats k)) in
+    (omega (arith, evaluating.operated_falls c.requires.begun c.args.left c.in-Value.v c.in-Value.u c.operated-got.new.values c.operated-got.new.sources c.operated-got.new.floats k, evaluating.raised-falls c.requires.begun c.args.left c.in-Value.v c.in-Value.u c.operated-got.new.values c.operated-got.new.sources c.operated-got.new.floats k (get_or (get_or c.args.rows.now c.args.row []) 0 0) c.get_dogma_attribute-record.result.min_attribute_id refl (ap (λ (r : DogmaAttribute). r.min_attribute_id) (c.get_dogma_attribute-record.ensures.defined ∙ ap (λ (a : ℤ). get_dogma_attribute (book_of c.args.book.now c.args.pairs.now) a) (to_z-of_z {w = w32} (sfits_of c.signed-id.type_inv) ∙ id))) c.get_dogma_attribute-record.result.max_attribute_id (ap (λ (r : DogmaAttribute). r.max_attribute_id) (c.get_dogma_attribute-record.ensures.defined ∙ ap (λ (a : ℤ). get_dogma_attribute (book_of c.args.book.now c.args.pairs.now) a) (to_z-of_z {w = w32} (sfits_of c.signed-id.type_inv) ∙ id))) c.in-Value-low.w c.in-Value-low.t c.limited-low.new.values c.limited-low.new.sources c.limited-low.new.floats l), (evaluating.raised_on c.requires.begun c.args.left c.in-Value.v c.in-Value.u c.operated-got.new.values c.operated-got.new.sources c.operated-got.new.floats k (get_or (get_or c.args.rows.now c.args.row []) 0 0) c.get_dogma_attribute-record.result.min_attribute_id refl (ap (λ (r : DogmaAttribute). r.min_attribute_id) (c.get_dogma_attribute-record.ensures.defined ∙ ap (λ (a : ℤ). get_dogma_attribute (book_of c.args.book.now c.args.pairs.now) a) (to_z-of_z {w = w32} (sfits_of c.signed-id.type_inv) ∙ id))) c.get_dogma_attribute-record.result.max_attribute_id (ap (λ (r : DogmaAttribute). r.max_attribute_id) (c.get_dogma_attribute-record.ensures.defined ∙ ap (λ (a : ℤ). get_dogma_attribute (book_of c.args.book.now c.args.pairs.now) a) (to_z-of_z {w = w32} (sfits_of c.signed-id.type_inv) ∙ id))) c.in-Value-low.w c.in-Value-low.t c.limited-low.new.values c.limited-low.new.sources c.limited-low.new.floats l, (evaluating.object_few c.requires.begun, evaluating.raised_good c.requires.begun c.args.left c.in-Value.v c.in-Value.u c.operated-got.new.values c.operated-got.new.sources c.operated-got.new.floats k (get_or (get_or c.args.rows.now c.args.row []) 0 0) c.get_dogma_attribute-record.result.min_attribute_id refl (ap (λ (r : DogmaAttribute). r.min_attribute_id) (c.get_dogma_attribute-record.ensures.defined ∙ ap (λ (a : ℤ). get_dogma_attribute (book_of c.args.book.now c.args.pairs.now) a) (to_z-of_z {w = w32} (sfits_of c.signed-id.type_inv) ∙ id))) c.get_dogma_attribute-record.result.max_attribute_id (ap (λ (r : DogmaAttribute). r.max_attribute_id) (c.get_dogma_attribute-record.ensures.defined ∙ ap (λ (a : ℤ). get_dogma_attribute (book_of c.args.book.now c.args.pairs.now) a) (to_z-of_z {w = w32} (sfits_of c.signed-id.type_inv) ∙ id))) c.in-Value-low.w c.in-Value-low.t c.limited-low.new.values c.limited-low.new.sources c.limited-low.new.floats l)))
 
 pub evaluated-returns : goal.evaluated-returns
 evaluated-returns t c = let most_fits : mag c.get_dogma_attribute-record.result.max_attribute_id < 2 ^ 31 = search rules in
     let least_fits : mag c.get_dogma_attribute-record.result.min_attribute_id < 2 ^ 31 = search rules in
     let id : c.signed-id.result ≡ to_z w32 (get_or (get_or c.args.rows.now c.args.row []) 1 0) = c.signed-id.ensures.defined in
-    record { defined = λ h. let k = rw c.in-Value.is at (c.operated-got.ensures.defined h) in let l = rw (to_z-of_z (sfits_of least_fits), c.in-Value-low.is) at (c.limited-low.ensures.defined (evaluating.operated_on h c.args.left c.in-Value.v c.in-Value.u c.operated-got.new.values c.operated-got.new.sources c.operated-got.new.floats k)) in evaluating.evaluated_meets h c.args.left c.in-Value.v c.in-Value.u c.operated-got.new.values c.operated-got.new.sources c.operated-got.new.floats k (get_or (get_or c.args.rows.now c.args.row []) 0 0) c.get_dogma_attribute-record.result.min_attribute_id refl (ap (λ (r : DogmaAttribute). r.min_attribute_id) (c.get_dogma_attribute-record.ensures.defined ∙ ap (λ (a : ℤ). get_dogma_attribute (book_of c.args.book.now c.args.pairs.now) a) (to_z-of_z (sfits_of c.signed-id.type_inv) ∙ id))) (to_z w32 (of_z w32 c.get_dogma_attribute-record.result.max_attribute_id)) (to_z-of_z (sfits_of most_fits) ∙ ap (λ (r : DogmaAttribute). r.max_attribute_id) (c.get_dogma_attribute-record.ensures.defined ∙ ap (λ (a : ℤ). get_dogma_attribute (book_of c.args.book.now c.args.pairs.now) a) (to_z-of_z (sfits_of c.signed-id.type_inv) ∙ id))) c.in-Value-low.w c.in-Value-low.t c.limited-low.new.values c.limited-low.new.sources c.limited-low.new.floats l _ _ _ _ (c.limited.ensures.defined (evaluating.raised_on h c.args.left c.in-Value.v c.in-Value.u c.operated-got.new.values c.operated-got.new.sources c.operated-got.new.floats k (get_or (get_or c.args.rows.now c.args.row []) 0 0) c.get_dogma_attribute-record.result.min_attribute_id refl (ap (λ (r : DogmaAttribute). r.min_attribute_id) (c.get_dogma_attribute-record.ensures.defined ∙ ap (λ (a : ℤ). get_dogma_attribute (book_of c.args.book.now c.args.pairs.now) a) (to_z-of_z (sfits_of c.signed-id.type_inv) ∙ id))) (to_z w32 (of_z w32 c.get_dogma_attribute-record.result.max_attribute_id)) (to_z-of_z (sfits_of most_fits) ∙ ap (λ (r : DogmaAttribute). r.max_attribute_id) (c.get_dogma_attribute-record.ensures.defined ∙ ap (λ (a : ℤ). get_dogma_attribute (book_of c.args.book.now c.args.pairs.now) a) (to_z-of_z (sfits_of c.signed-id.type_inv) ∙ id))) c.in-Value-low.w c.in-Value-low.t c.limited-low.new.values c.limited-low.new.sources c.limited-low.new.floats l)) }
+    record { defined = λ h. let k = rw c.in-Value.is at (c.operated-got.ensures.defined h) in let l = rw (to_z-of_z {w = w32} (sfits_of least_fits), c.in-Value-low.is) at (c.limited-low.ensures.defined (evaluating.operated_on h c.args.left c.in-Value.v c.in-Value.u c.operated-got.new.values c.operated-got.new.sources c.operated-got.new.floats k)) in evaluating.evaluated_meets h c.args.left c.in-Value.v c.in-Value.u c.operated-got.new.values c.operated-got.new.sources c.operated-got.new.floats k (get_or (get_or c.args.rows.now c.args.row []) 0 0) c.get_dogma_attribute-record.result.min_attribute_id refl (ap (λ (r : DogmaAttribute). r.min_attribute_id) (c.get_dogma_attribute-record.ensures.defined ∙ ap (λ (a : ℤ). get_dogma_attribute (book_of c.args.book.now c.args.pairs.now) a) (to_z-of_z {w = w32} (sfits_of c.signed-id.type_inv) ∙ id))) (to_z w32 (of_z w32 c.get_dogma_attribute-record.result.max_attribute_id)) (to_z-of_z {w = w32} (sfits_of most_fits) ∙ ap (λ (r : DogmaAttribute). r.max_attribute_id) (c.get_dogma_attribute-record.ensures.defined ∙ ap (λ (a : ℤ). get_dogma_attribute (book_of c.args.book.now c.args.pairs.now) a) (to_z-of_z {w = w32} (sfits_of c.signed-id.type_inv) ∙ id))) c.in-Value-low.w c.in-Value-low.t c.limited-low.new.values c.limited-low.new.sources c.limited-low.new.floats l _ _ _ _ (c.limited.ensures.defined (evaluating.raised_on h c.args.left c.in-Value.v c.in-Value.u c.operated-got.new.values c.operated-got.new.sources c.operated-got.new.floats k (get_or (get_or c.args.rows.now c.args.row []) 0 0) c.get_dogma_attribute-record.result.min_attribute_id refl (ap (λ (r : DogmaAttribute). r.min_attribute_id) (c.get_dogma_attribute-record.ensures.defined ∙ ap (λ (a : ℤ). get_dogma_attribute (book_of c.args.book.now c.args.pairs.now) a) (to_z-of_z {w = w32} (sfits_of c.signed-id.type_inv) ∙ id))) (to_z w32 (of_z w32 c.get_dogma_attribute-record.result.max_attribute_id)) (to_z-of_z {w = w32} (sfits_of most_fits) ∙ ap (λ (r : DogmaAttribute). r.max_attribute_id) (c.get_dogma_attribute-record.ensures.defined ∙ ap (λ (a : ℤ). get_dogma_attribute (book_of c.args.book.now c.args.pairs.now) a) (to_z-of_z {w = w32} (sfits_of c.signed-id.type_inv) ∙ id))) c.in-Value-low.w c.in-Value-low.t c.limited-low.new.values c.limited-low.new.sources c.limited-low.new.floats l)) }
 
 pub gathered-is_high-high-requires : goal.gathered-is_high-high-requires
 gathered-is_high-high-requires t c = record { sound = c.requires.begun.0.ready.told.sound }
@@ -134,7 +135,7 @@ pub gathered-returns : goal.gathered-returns
 gathered-returns t c = let id : c.signed-id.result ≡ to_z w32 (get_or (get_or c.args.rows.now c.args.row []) 1 0) = c.signed-id.ensures.defined in
     record {
       defined = λ h. let G = c.loop-k.invariant.1 h in let all : length (row_at h.ready.world c.args.row).entries ≤ c.loop-k.k = omega (arith, c.loop-k-test.false, (h.ready.told.row c.args.row h.within).count) in
-          gathering.gathering_applied h G all (λ x g. c.is_high-high.ensures.asked x g ∙ ap (λ (b : Bool). applied b c.args.operator x g) (ap (λ (a : ℤ). high_is_good (get_dogma_attribute (book_of c.args.book.now c.args.pairs.now) a)) (to_z-of_z (sfits_of c.signed-id.type_inv) ∙ id) ∙ gathering.high_is h.ready c.args.row h.within)) _ _ _ (c.apply.ensures.defined h.ready.world _ h.ready.sources₀ h.ready.floats₀ c.args.row _ c.is_high-high.result c.args.operator c.args.found G.sofar _ h.ready.told.recorded (gathering.begins h G all refl) (sym (h.ready.told.held.object c.args.row h.within)) (rw c.grown-pile.ensures.defined G.piled) (gathering.all-fresh h G all) (gathering.none_recorded h G all) (gathering.all_plain h G all));
+          gathering.gathering_applied h G all (λ x g. c.is_high-high.ensures.asked x g ∙ ap (λ (b : Bool). applied b c.args.operator x g) (ap (λ (a : ℤ). high_is_good (get_dogma_attribute (book_of c.args.book.now c.args.pairs.now) a)) (to_z-of_z {w = w32} (sfits_of c.signed-id.type_inv) ∙ id) ∙ gathering.high_is h.ready c.args.row h.within)) _ _ _ (c.apply.ensures.defined h.ready.world _ h.ready.sources₀ h.ready.floats₀ c.args.row _ c.is_high-high.result c.args.operator c.args.found G.sofar _ h.ready.told.recorded (gathering.begins h G all refl) (sym (h.ready.told.held.object c.args.row h.within)) (rw c.grown-pile.ensures.defined G.piled) (gathering.all-fresh h G all) (gathering.none_recorded h G all) (gathering.all_plain h G all));
     }
 
 pub limited-returns-then-limit-eq0 : goal.limited-returns-then-limit-eq0
@@ -173,29 +174,29 @@ operated-returns t c = record { defined = λ h. operating.operating_ends h (c.lo
 
 pub resisted-returns-in_default : goal.resisted-returns-in_default
 resisted-returns-in_default t c = let fits : mag c.in-Given.attribute < 2 ^ 31 = search rules in
-    record { defined = λ h i row o. rw c.in-Given.is (limiting.resist_refused _ _ _ _ _ _ i row _ c.args.v _ _ _ _ c.in_default.is (rw (to_z-of_z (sfits_of fits)) at (c.calculated_value-got.ensures.defined h))) }
+    record { defined = λ h i row o. rw c.in-Given.is (limiting.resist_refused _ _ _ _ _ _ i row _ c.args.v _ _ _ _ c.in_default.is (rw (to_z-of_z {w = w32} (sfits_of fits)) at (c.calculated_value-got.ensures.defined h))) }
 
 pub resisted-returns-in-Absent : goal.resisted-returns-in-Absent
 resisted-returns-in-Absent t c = record { defined = λ h i row o. rw c.in-Absent.is (limiting.not_resisted _ _ _ _ _ _ i row _ c.args.v _ c.requires.number h.holds) }
 
 pub resisted-returns-in-Finite : goal.resisted-returns-in-Finite
 resisted-returns-in-Finite t c = let fits : mag c.in-Given.attribute < 2 ^ 31 = search rules in
-    record { defined = λ h i row o. rw c.in-Given.is (limiting.resist_made _ _ _ _ _ _ i row _ c.args.v _ _ _ _ (rw (to_z-of_z (sfits_of fits), c.in-Value.is) at (c.calculated_value-got.ensures.defined h)) _ (sym c.product-step.ensures.defined ∙ c.in-Finite.is) (limiting.product_good _ _ (sym c.product-step.ensures.defined ∙ c.in-Finite.is))) }
+    record { defined = λ h i row o. rw c.in-Given.is (limiting.resist_made _ _ _ _ _ _ i row _ c.args.v _ _ _ _ (rw (to_z-of_z {w = w32} (sfits_of fits), c.in-Value.is) at (c.calculated_value-got.ensures.defined h)) _ (sym c.product-step.ensures.defined ∙ c.in-Finite.is) (limiting.product_good _ _ (sym c.product-step.ensures.defined ∙ c.in-Finite.is))) }
 
 pub resisted-returns-in-NotFinite : goal.resisted-returns-in-NotFinite
 resisted-returns-in-NotFinite t c = let fits : mag c.in-Given.attribute < 2 ^ 31 = search rules in
-    record { defined = λ h i row o. rw c.in-Given.is (limiting.resist_not_finite _ _ _ _ _ _ i row _ c.args.v _ _ _ _ (rw (to_z-of_z (sfits_of fits), c.in-Value.is) at (c.calculated_value-got.ensures.defined h)) (sym c.product-step.ensures.defined ∙ c.in-NotFinite.is) o) }
+    record { defined = λ h i row o. rw c.in-Given.is (limiting.resist_not_finite _ _ _ _ _ _ i row _ c.args.v _ _ _ _ (rw (to_z-of_z {w = w32} (sfits_of fits), c.in-Value.is) at (c.calculated_value-got.ensures.defined h)) (sym c.product-step.ensures.defined ∙ c.in-NotFinite.is) o) }
 
 pub strength-calculated_value-got-requires : goal.strength-calculated_value-got-requires
 strength-calculated_value-got-requires t c = (omega arith, (c.requires.holding, rw c.in-Effect.is at c.requires.good.sourced))
 
 pub strength-returns-in_default : goal.strength-returns-in_default
 strength-returns-in_default t c = let fits : mag c.in-Effect.attribute_id < 2 ^ 31 = search rules in
-    record { defined = λ h i row o. limiting.strength_refused _ _ _ _ _ _ i row _ c.args.e _ c.in-Effect.effect_id c.in-Effect.source c.in-Effect.source_category c.in-Effect.attribute_id c.in-Effect.is _ _ c.in_default.is (rw (to_z-of_z (sfits_of fits)) at (c.calculated_value-got.ensures.defined h)) }
+    record { defined = λ h i row o. limiting.strength_refused _ _ _ _ _ _ i row _ c.args.e _ c.in-Effect.effect_id c.in-Effect.source c.in-Effect.source_category c.in-Effect.attribute_id c.in-Effect.is _ _ c.in_default.is (rw (to_z-of_z {w = w32} (sfits_of fits)) at (c.calculated_value-got.ensures.defined h)) }
 
 pub strength-resisted-requires : goal.strength-resisted-requires
 strength-resisted-requires t c = let fits : mag c.in-Effect.attribute_id < 2 ^ 31 = search rules in
-    let k = rw (to_z-of_z (sfits_of fits), c.in-Value.is) at (c.calculated_value-got.ensures.defined c.requires.holding) in
+    let k = rw (to_z-of_z {w = w32} (sfits_of fits), c.in-Value.is) at (c.calculated_value-got.ensures.defined c.requires.holding) in
     (omega (arith, falling.read-falls c.requires.holding c.args.left c.in-Effect.source c.in-Effect.attribute_id c.in-Value.v c.in-Value.u c.calculated_value-got.new.values c.calculated_value-got.new.sources c.calculated_value-got.new.floats k), (goes_on_from c.requires.holding (value_of c.requires.holding.world c.args.left c.in-Effect.source c.in-Effect.attribute_id c.requires.holding.mem) c.in-Value.v c.in-Value.u c.calculated_value-got.new.values c.calculated_value-got.new.sources c.calculated_value-got.new.floats k, number_of c.requires.holding (value_of c.requires.holding.world c.args.left c.in-Effect.source c.in-Effect.attribute_id c.requires.holding.mem) c.in-Value.v c.in-Value.u c.calculated_value-got.new.values c.calculated_value-got.new.sources c.calculated_value-got.new.floats k))
 
 pub strength-returns-in-Buff : goal.strength-returns-in-Buff
@@ -204,7 +205,7 @@ strength-returns-in-Buff t c = record { defined = λ h i row o. limiting.buff_st
 pub strength-returns-in-Value : goal.strength-returns-in-Value
 strength-returns-in-Value t c = let fits : mag c.in-Effect.attribute_id < 2 ^ 31 = search rules in
     record {
-      defined = λ h i row o. let k = rw (to_z-of_z (sfits_of fits), c.in-Value.is) at (c.calculated_value-got.ensures.defined h) in
+      defined = λ h i row o. let k = rw (to_z-of_z {w = w32} (sfits_of fits), c.in-Value.is) at (c.calculated_value-got.ensures.defined h) in
           limiting.strength_resisted h.world h.sources₀ h.floats₀ c.calculated_value-got.new.values c.calculated_value-got.new.sources c.calculated_value-got.new.floats i row (value_of h.world c.args.left) c.args.e h.mem c.in-Effect.effect_id c.in-Effect.source c.in-Effect.source_category c.in-Effect.attribute_id c.in-Effect.is c.in-Value.v c.in-Value.u k _ _ _ _ (c.resisted.ensures.defined (goes_on_from h (value_of h.world c.args.left c.in-Effect.source c.in-Effect.attribute_id h.mem) c.in-Value.v c.in-Value.u c.calculated_value-got.new.values c.calculated_value-got.new.sources c.calculated_value-got.new.floats k) i row o);
     }
 

@@ -1,10 +1,6 @@
 -- `reading::entries::operators_in` meets its contract: a code is marked, or what is left decides.
 use Rattle.reading.proofs.entries.operators_in.Goals as goal
-use Rattle.reading.proofs.entries.operators_in.Reads as reads
-use Rattle.reading.proofs.entries.operators_in.Lts as lts
-use Rattle.info.proofs.little_endian.index.Reads as index_Reads
-use Prim.Native.Nat.{◌-◌}
-use Rattle.reading.proofs.Decodes.{Marks, marks_none, marks_past, marks_on, marks_all}
+use Rattle.reading.proofs.Decodes.{marks_none, marks_past, marks_on, marks_all}
 
 pub loop-i-init : goal.loop-i-init
 loop-i-init c = marks_none c.args.entries.now c.args.first c.args.end

@@ -1,9 +1,6 @@
 use Rattle.reading.proofs.entries.operators_in.Given as goal
-use Rattle.reading.proofs.entries.operators_in.Reads as reads
-use Rattle.reading.proofs.entries.operators_in.Lts as lts
-use Rattle.info.proofs.little_endian.index.Reads as index_Reads
 use Prim.Native.Nat.{◌-◌}
-use Rattle.reading.proofs.Decodes.{Marks, marks_none, marks_past, marks_on, marks_all}
+use Rattle.reading.proofs.Decodes.{Marks}
 
 abbrev pub invariant-loop-i : goal.invariant-loop-i
 invariant-loop-i l = Marks l.entries l.first l.end l.i l.marks

@@ -1,10 +1,5 @@
 -- `stretches::find` meets its contract: what stands at the bound decides.
 use Rattle.reading.proofs.stretches.find.Goals as goal
-use Rattle.reading.proofs.stretches.find.Reads as reads
-use Rattle.reading.proofs.stretches.find.Lts as lts
-use Rattle.info.proofs.little_endian.index.Reads as index_Reads
-use Rattle.numbers.proofs.integers.signed.Reads as signed-Reads
-use Rattle.search.proofs.lower.Reads as lower-reads
 use native.Mathlib.Omega.{arith}
 use mathlib.Core.Path.{refl}
 use borrow.Author.Rules.{sfits_of}

@@ -1,8 +1,6 @@
 -- `stretches::past` meets its contract. The measure is how many rows are left.
 use Rattle.reading.proofs.stretches.past.Goals as goal
-use Prim.Native.Nat.{◌-◌}
-use lib.ListN.{length}
-use Rattle.reading.proofs.Laying.{Passed, passed_none, passed-more, passed_here, passed-all}
+use Rattle.reading.proofs.Laying.{passed_none, passed-more, passed_here, passed-all}
 
 pub loop-i-init : goal.loop-i-init
 loop-i-init c = passed_none c.requires.inside

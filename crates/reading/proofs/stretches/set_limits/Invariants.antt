@@ -1,10 +1,7 @@
 use Rattle.reading.proofs.stretches.set_limits.Given as goal
 use Prim.Native.Nat.{◌-◌}
-use native.Mathlib.Omega.{arith}
-use borrow.Author.Rules.{sfits_of}
 use Rattle.rules.specs.Sheet.{book_of}
-use Rattle.info.proofs.Elements.{attributes_length}
-use Rattle.reading.proofs.Limiting.{Marking, mark_place, marking_none, marking_on, marking_here, marking_all}
+use Rattle.reading.proofs.Limiting.{Marking}
 
 abbrev pub invariant-loop-i : goal.invariant-loop-i
 invariant-loop-i l = Marking (book_of l.book l.pairs).attributes l.marks l.i

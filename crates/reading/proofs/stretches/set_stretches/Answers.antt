@@ -1,13 +1,6 @@
 -- `stretches::set_stretches` meets its contract. The measure is how many objects are left.
 use Rattle.reading.proofs.stretches.set_stretches.Goals as goal
-use Rattle.reading.proofs.stretches.set_stretches.Reads as reads
-use Rattle.reading.proofs.stretches.set_stretches.Lts as lts
-use Rattle.info.proofs.little_endian.index.Reads as index_Reads
-use Rattle.reading.proofs.stretches.past.Reads as past-reads
-use Prim.Native.Nat.{◌-◌}
-use mathlib.Core.List.{[], ◌∷◌}
-use native.Mathlib.Omega.{arith}
-use Rattle.reading.proofs.Laying.{Laying, laying_none, laying_next, laying_all, laying_short}
+use Rattle.reading.proofs.Laying.{laying_none, laying_next, laying_all, laying_short}
 
 pub loop-object-init : goal.loop-object-init
 loop-object-init c = laying_none

@@ -1,14 +1,13 @@
 -- `turns::projected_end` meets its contract.
 use Rattle.reading.proofs.turns.projected_end.Goals as goal
 use native.Mathlib.Omega.{arith}
-use Prim.Native.Nat.{ℕ, ◌+◌, ◌-◌}
+use Prim.Native.Nat.{ℕ, ◌+◌}
 use mathlib.Core.Path.{sym, ap, ◌∙◌}
-use Rattle.rules.specs.Sheet.{fit_of}
 use Rattle.rules.specs.Item.{no_item}
 use Rattle.info.proofs.Elements.{objects_length}
 use Rattle.rules.proofs.Verdicts.{objects_good_lem}
 use Rattle.info.proofs.Sheets.{char_inside}
-use Rattle.reading.proofs.Passing.{Passing, passing_none, passing_more, passing_other, passing_all}
+use Rattle.reading.proofs.Passing.{passing_none, passing_more, passing_other, passing_all}
 
 pub loop-i-init : goal.loop-i-init
 loop-i-init c = passing_none (c.count_of-objects.ensures.defined ∙ sym (objects_length _ _)) (ap (λ (n : ℕ). n + 1) c.requires.the_char) (char_inside _ (objects_good_lem _ c.requires.sound.good))

@@ -1,8 +1,7 @@
 -- `turns::rows_below` meets its contract.
 use Rattle.reading.proofs.turns.rows_below.Goals as goal
 use native.Mathlib.Omega.{arith}
-use Prim.Native.Nat.{◌-◌}
-use Rattle.reading.proofs.Bounds.{Bounded, bounded_start, bounded_end, middle_inside, bounded_up, bounded_down}
+use Rattle.reading.proofs.Bounds.{bounded_start, bounded_end, middle_inside, bounded_up, bounded_down}
 
 pub loop-low-init : goal.loop-low-init
 loop-low-init c = bounded_start _ _

@@ -1,7 +1,6 @@
 use Rattle.reading.proofs.turns.rows_below.Given as goal
-use native.Mathlib.Omega.{arith}
 use Prim.Native.Nat.{◌-◌}
-use Rattle.reading.proofs.Bounds.{Bounded, bounded_start, bounded_end, middle_inside, bounded_up, bounded_down}
+use Rattle.reading.proofs.Bounds.{Bounded}
 
 abbrev pub invariant-loop-low : goal.invariant-loop-low
 invariant-loop-low l = Bounded l.rows l.object l.low l.high

@@ -13,7 +13,7 @@ use Rattle.rules.specs.Sheet.{book_of, fit_of}
 use Rattle.rows.proofs.Together.{part_long, Turns, turns_none, turn_ordered, turn_entries, turn_values, turn_few, turn_even, turn-fits, turn-numbered, turn_stretch, turn-full, turn-next, turns_all}
 
 abbrev pub invariant-loop-i : goal.invariant-loop-i
-invariant-loop-i l = Turns (book_of l.book l.pairs) (fit_of l.fit l.pairs) l.collected l.collected-values (count_of l.pairs 6) l.initial.rows l.initial.bases l.initial.entries l.initial.values l.ends l.room l.i l.n l.from l.rows l.bases l.entries l.values
+invariant-loop-i l = Turns (book_of l.book l.pairs) (fit_of l.fit l.pairs) l.collected l.collected_values (count_of l.pairs 6) l.initial.rows l.initial.bases l.initial.entries l.initial.values l.ends l.room l.i l.n l.from l.rows l.bases l.entries l.values
 
 abbrev pub decreases-loop-i : goal.decreases-loop-i
 decreases-loop-i l = count_of l.pairs 6 - l.i

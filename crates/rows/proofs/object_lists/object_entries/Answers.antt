@@ -26,9 +26,9 @@ write_entries-requires c = record {
   held_fit = c.requires.sound_fit.held;
   an_object = c.requires.an_object;
   listed = c.requires.listed;
-  even = c.spread.auto.1.0 ∙ c.requires.even;
-  placed = owned-taken (book_of c.args.book.now c.args.pairs.now) (fit_of c.args.fit.now c.args.pairs.now) (object (fit_of c.args.fit.now c.args.pairs.now) c.args.i) c.args.i c.args.segment.now c.args.collected.now c.requires.numbered.0 c.spread.new.1.0 (owned-over (book_of c.args.book.now c.args.pairs.now) (fit_of c.args.fit.now c.args.pairs.now) (object (fit_of c.args.fit.now c.args.pairs.now) c.args.i) c.args.i c.args.segment.now c.args.collected.now (bases_ascend c.args.fit.now c.args.pairs.now c.requires.sound_fit c.args.i c.requires.an_object) c.requires.raised c.args.from c.requires.numbered.1 c.set_firsts.ensures.defined c.spread.new.1.0 c.spread.ensures.spread);
+  even = c.spread.auto.segment ∙ c.requires.even;
+  placed = owned-taken (book_of c.args.book.now c.args.pairs.now) (fit_of c.args.fit.now c.args.pairs.now) (object (fit_of c.args.fit.now c.args.pairs.now) c.args.i) c.args.i c.args.segment.now c.args.collected.now c.requires.numbered.0 c.spread.new.segment (owned-over (book_of c.args.book.now c.args.pairs.now) (fit_of c.args.fit.now c.args.pairs.now) (object (fit_of c.args.fit.now c.args.pairs.now) c.args.i) c.args.i c.args.segment.now c.args.collected.now (bases_ascend c.args.fit.now c.args.pairs.now c.requires.sound_fit c.args.i c.requires.an_object) c.requires.raised c.args.from c.requires.numbered.1 c.set_firsts.ensures.defined c.spread.new.segment c.spread.ensures.spread);
 }
 
 pub returns : goal.returns
-returns c = record { laid = λ es E. (owned-from (book_of c.args.book.now c.args.pairs.now) (fit_of c.args.fit.now c.args.pairs.now) (object (fit_of c.args.fit.now c.args.pairs.now) c.args.i) c.args.i c.args.segment.now c.args.collected.now (bases_ascend c.args.fit.now c.args.pairs.now c.requires.sound_fit c.args.i c.requires.an_object) c.requires.raised c.args.from c.requires.numbered.1 c.set_firsts.ensures.defined c.spread.ensures.firsts ∙ owned_numbers (book_of c.args.book.now c.args.pairs.now) (fit_of c.args.fit.now c.args.pairs.now) (object (fit_of c.args.fit.now c.args.pairs.now) c.args.i) c.args.i c.args.segment.now c.args.collected.now c.requires.numbered.0 es E c.args.from (object-number c.args.fit.now c.args.pairs.now c.args.i c.requires.an_object), owned_entries (book_of c.args.book.now c.args.pairs.now) (fit_of c.args.fit.now c.args.pairs.now) (object (fit_of c.args.fit.now c.args.pairs.now) c.args.i) c.args.i c.args.segment.now c.args.collected.now c.requires.numbered.0 es E c.spread.new.1.0 (owned-over (book_of c.args.book.now c.args.pairs.now) (fit_of c.args.fit.now c.args.pairs.now) (object (fit_of c.args.fit.now c.args.pairs.now) c.args.i) c.args.i c.args.segment.now c.args.collected.now (bases_ascend c.args.fit.now c.args.pairs.now c.requires.sound_fit c.args.i c.requires.an_object) c.requires.raised c.args.from c.requires.numbered.1 c.set_firsts.ensures.defined c.spread.new.1.0 c.spread.ensures.spread) (c.write_entries.ensures.written es E)) }
+returns c = record { laid = λ es E. (owned-from (book_of c.args.book.now c.args.pairs.now) (fit_of c.args.fit.now c.args.pairs.now) (object (fit_of c.args.fit.now c.args.pairs.now) c.args.i) c.args.i c.args.segment.now c.args.collected.now (bases_ascend c.args.fit.now c.args.pairs.now c.requires.sound_fit c.args.i c.requires.an_object) c.requires.raised c.args.from c.requires.numbered.1 c.set_firsts.ensures.defined c.spread.ensures.firsts ∙ owned_numbers (book_of c.args.book.now c.args.pairs.now) (fit_of c.args.fit.now c.args.pairs.now) (object (fit_of c.args.fit.now c.args.pairs.now) c.args.i) c.args.i c.args.segment.now c.args.collected.now c.requires.numbered.0 es E c.args.from (object-number c.args.fit.now c.args.pairs.now c.args.i c.requires.an_object), owned_entries (book_of c.args.book.now c.args.pairs.now) (fit_of c.args.fit.now c.args.pairs.now) (object (fit_of c.args.fit.now c.args.pairs.now) c.args.i) c.args.i c.args.segment.now c.args.collected.now c.requires.numbered.0 es E c.spread.new.segment (owned-over (book_of c.args.book.now c.args.pairs.now) (fit_of c.args.fit.now c.args.pairs.now) (object (fit_of c.args.fit.now c.args.pairs.now) c.args.i) c.args.i c.args.segment.now c.args.collected.now (bases_ascend c.args.fit.now c.args.pairs.now c.requires.sound_fit c.args.i c.requires.an_object) c.requires.raised c.args.from c.requires.numbered.1 c.set_firsts.ensures.defined c.spread.new.segment c.spread.ensures.spread) (c.write_entries.ensures.written es E)) }

@@ -1,10 +1,9 @@
 -- `marks::set_penalties` meets its contract. Assumes nothing.
 use Rattle.sources.proofs.marks.set_penalties.Goals as goal
 use native.Mathlib.Omega.{arith}
-use Prim.Native.Nat.{◌-◌, ◌≤◌}
-use mathlib.Core.Path.{◌≡◌, refl, sym, ap, ◌∙◌}
+use mathlib.Core.Path.{◌≡◌, refl, ◌∙◌}
 use lib.ListN.{length}
-use Rattle.sources.proofs.Changing.{AllMarked, begin, turn, whole}
+use Rattle.sources.proofs.Changing.{begin, turn, whole}
 use Rattle.std.proofs.Common.{rules}
 
 pub loop-p-init : goal.loop-p-init

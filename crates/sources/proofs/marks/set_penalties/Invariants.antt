@@ -1,9 +1,8 @@
 use Rattle.sources.proofs.marks.set_penalties.Given as goal
-use native.Mathlib.Omega.{arith}
 use Prim.Native.Nat.{◌-◌, ◌≤◌}
-use mathlib.Core.Path.{◌≡◌, refl, sym, ap, ◌∙◌}
+use mathlib.Core.Path.{◌≡◌}
 use lib.ListN.{length}
-use Rattle.sources.proofs.Changing.{AllMarked, begin, turn, whole}
+use Rattle.sources.proofs.Changing.{AllMarked}
 
 abbrev pub invariant-loop-p : goal.invariant-loop-p
 invariant-loop-p l = ((l.p ≤ l.n) × (l.n ≤ 8)) × (length l.sources ≡ 8) × (length l.floats ≡ length l.initial.floats) × AllMarked l.run l.first l.sources l.n l.initial.floats l.p l.floats

@@ -1,11 +1,8 @@
 -- `notes::note` meets its contract. Assumes nothing.
 use Rattle.sources.proofs.notes.note.Goals as goal
-use Rattle.sources.proofs.notes.note.Reads as reads
-use Rattle.sources.proofs.notes.note.Lts as lts
-use Rattle.sources.proofs.rows.put_source.Reads as put-source-reads
 use native.Mathlib.Omega.{arith}
 use Rattle.sources.proofs.Noting.{off, full, noted}
-use mathlib.Core.Path.{◌≡◌, refl, sym, ap, ◌∙◌}
+use mathlib.Core.Path.{refl, sym, ap, ◌∙◌}
 use mathlib.Core.Bool.{not}
 use Rattle.laws.proofs.Bools.{not-not}
 
@@ -23,6 +20,6 @@ returns-then-run-used c = record {
 
 pub returns : goal.returns
 returns c = record {
-  defined = λ w counts s₀ f₀ i row m t b k fit. noted w counts s₀ f₀ i row m _ k b (omega (arith, fit (t.recording ∙ sym (not-not _) ∙ ap not c.if-not-run.false))) (omega (arith, t.room, c.if-run-used.false)) (omega (arith, t.room, c.struct_known-1.given.0)) (t.recording ∙ sym (not-not _) ∙ ap not c.if-not-run.false) (rw t.room c.put_source.ensures.numbers) (rw t.room c.put_source.ensures.floats);
+  defined = λ w counts s₀ f₀ i row m t b k fit. noted w counts s₀ f₀ i row m _ k b (omega (arith, fit (t.recording ∙ sym (not-not _) ∙ ap not c.if-not-run.false))) (omega (arith, t.room, c.if-run-used.false)) (omega (arith, t.room)) (t.recording ∙ sym (not-not _) ∙ ap not c.if-not-run.false) (rw t.room c.put_source.ensures.numbers) (rw t.room c.put_source.ensures.floats);
   advanced = rw (sym (not-not c.args.run.recording) ∙ ap not c.if-not-run.false) (refl, refl);
 }

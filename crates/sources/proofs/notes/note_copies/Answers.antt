@@ -1,14 +1,8 @@
 -- `notes::note_copies` meets its contract. Assumes nothing.
 use Rattle.sources.proofs.notes.note_copies.Goals as goal
-use Rattle.sources.proofs.notes.note_copies.Reads as reads
-use Rattle.sources.proofs.notes.note_copies.Lts as lts
-use Rattle.sources.proofs.notes.note.Reads as note-reads
 use native.Mathlib.Omega.{arith}
-use Prim.Native.Nat.{◌+◌, ◌-◌, ◌≤◌}
-use lib.ListN.{length}
-use mathlib.Core.Path.{◌≡◌, refl, ◌∙◌}
-use Rattle.sources.specs.Keeping.{more_of}
-use Rattle.sources.proofs.Copying.{AllCopied, start, free, again, stopped, done, more_on, more_few, none_more, all_more}
+use mathlib.Core.Path.{refl, ◌∙◌}
+use Rattle.sources.proofs.Copying.{start, free, again, stopped, done, more_on, more_few, none_more, all_more}
 
 pub loop-n-init : goal.loop-n-init
 loop-n-init c = ((none_more c.args.run.recording _, none_more c.args.run.recording _, omega arith), refl, refl, λ w counts s₀ f₀ i row m t b k fit. start w counts s₀ f₀ i row _ _ m k fit)

@@ -1,17 +1,7 @@
 -- `notes::note_penalised` meets its contract. Assumes nothing.
 use Rattle.sources.proofs.notes.note_penalised.Goals as goal
-use Rattle.sources.proofs.notes.note_penalised.Reads as reads
-use Rattle.sources.proofs.notes.note_penalised.Lts as lts
-use Rattle.sources.proofs.notes.kept.Reads as kept-reads
-use Rattle.sources.proofs.notes.note.Reads as note-reads
-use Rattle.sources.proofs.notes.note_copies.Reads as note-copies-reads
-use Rattle.sources.proofs.rows.to_source.Reads as to-source-reads
 use native.Mathlib.Omega.{arith}
-use Prim.Native.Nat.{◌+◌, min}
-use mathlib.Core.Path.{◌≡◌, refl, ap, subst, ◌∙◌}
-use Rattle.sources.specs.Keeping.{Advanced}
-use Rattle.sources.specs.declared.Noted.{Noted}
-use Rattle.sources.proofs.Copying.{advanced_on, more_few, all_more, refused_copies, no_rest, copied, rest, none_rest, one_rest}
+use Rattle.sources.proofs.Copying.{more_few, refused_copies, no_rest, copied, rest, none_rest, one_rest}
 
 pub returns-then-quantity-le8 : goal.returns-then-quantity-le8
 returns-then-quantity-le8 c = record {

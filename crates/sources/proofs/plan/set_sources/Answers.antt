@@ -1,13 +1,10 @@
 -- `plan::set_sources` meets its contract. Assumes nothing.
 use Rattle.sources.proofs.plan.set_sources.Goals as goal
 use native.Mathlib.Omega.{arith}
-use Prim.Native.Nat.{◌-◌, ◌≤◌}
-use mathlib.Core.Path.{◌≡◌, refl, ap, ◌∙◌}
-use mathlib.Core.List.{List}
-use lib.ListN.{length, length-set}
-use Rattle.rules.specs.Dispatch.{Row}
-use Rattle.sources.specs.Rows.{held, DispatchedRows}
-use Rattle.sources.proofs.Setting.{Upto, upto_none, inside, ranged, upto_next, upto_all}
+use mathlib.Core.Path.{refl, ap, ◌∙◌}
+use lib.ListN.{length-set}
+use Rattle.sources.specs.Rows.{held}
+use Rattle.sources.proofs.Setting.{upto_none, inside, ranged, upto_next, upto_all}
 
 pub loop-k-init : goal.loop-k-init
 loop-k-init c = ((omega arith, (inside _ _ _ _ _ c.requires.planning.dispatched, refl)), λ rs D. upto_none _ _ _ _ _ _)

@@ -1,12 +1,8 @@
 -- `plan::sources_of_row` meets its contract. Assumes nothing.
 use Rattle.sources.proofs.plan.sources_of_row.Goals as goal
 use native.Mathlib.Omega.{arith}
-use Prim.Native.Nat.{◌+◌, ◌-◌, ◌*◌, ◌≤◌}
-use mathlib.Core.Path.{◌≡◌, refl}
-use mathlib.Core.List.{List}
-use lib.ListN.{length}
-use Rattle.rules.specs.declared.Effect.{Effect}
-use Rattle.sources.specs.Ranged.{EntriesHeld, planned_in}
+use Prim.Native.Nat.{◌+◌}
+use mathlib.Core.Path.{refl}
 use Rattle.sources.proofs.Counting.{is-entry, is_sourced, counted, ends}
 
 pub loop-i-init : goal.loop-i-init

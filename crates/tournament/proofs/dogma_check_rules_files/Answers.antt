@@ -1,0 +1,22 @@
+-- `dogma_check_rules_files` meets its contract. Assumes nothing.
+use Rattle.tournament.proofs.dogma_check_rules_files.Goals as goal
+use native.Mathlib.Omega.{arith}
+use mathlib.Core.Path.{sym, ap, ◌∙◌}
+use Rattle.tournament.specs.Answered.{answer_of}
+use Rattle.tournament.specs.declared.Checked.{Checked}
+use Rattle.tournament.proofs.Judging.{files_shape, files_held, files_lines}
+
+pub judged-judgement-requires : goal.judged-judgement-requires
+judged-judgement-requires c = let both = files_held c.args.book.now c.args.fit.now c.args.lines.now c.files_shape-verdict.ensures.defined c.in-Sound.is c.pairs_in-pairs.ensures.defined in record { held_book = both.0; held_fit = both.1 }
+
+pub returns-in-Bad : goal.returns-in-Bad
+returns-in-Bad c = record {
+  defined = c.answer.ensures.defined ∙ ap answer_of (files_shape c.args.book.now c.args.fit.now c.args.lines.now c.files_shape-verdict.ensures.defined c.in-Bad.is);
+  no_sum_wraps = omega (arith, ap (λ (r : Checked). r.count) c.answer.ensures.defined);
+}
+
+pub returns-in-Sound : goal.returns-in-Sound
+returns-in-Sound c = record {
+  defined = c.answer-in-Sound.ensures.defined ∙ ap answer_of (files_lines c.args.book.now c.args.fit.now c.args.lines.now c.files_shape-verdict.ensures.defined c.in-Sound.is c.pairs_in-pairs.ensures.defined c.judged-judgement.ensures.defined);
+  no_sum_wraps = omega (arith, ap (λ (r : Checked). r.count) c.answer-in-Sound.ensures.defined, c.judged-judgement.ensures.no_wrap);
+}
