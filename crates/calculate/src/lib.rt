@@ -152,8 +152,7 @@ pub fn calculated(
 }
 
 // Every list, every state and the answer, whatever the bytes and whatever the lists: nothing is required.
-#[unsafe(no_mangle)]
-pub extern "C" fn dogma_calculate(
+pub fn dogma_calculate(
     states: &mut States,
     collected: &mut [CollectedRow],
     collected_values: &mut [f64],

@@ -23,9 +23,9 @@ use Rattle.rules.specs.Outcome.{Lent, Done, outcome}
 use Rattle.promises.specs.Result.{Result}
 use Rattle.listing.specs.Put.{Begins}
 use Rattle.listing.proofs.Told.{no_number}
-use Rattle.csv.specs.Csv.{csv}
-use Rattle.csv.specs.Labels.{Export, text, engine, label, full, id_of, label_good, stands_after, bad_from, label_bad, labels_of, records, fitted, labelled, export_of, number_of, place_of, text_of}
-use Rattle.csv.specs.declared.Told.{Told}
+use Rattle.csv_text.specs.Csv.{csv}
+use Rattle.csv_text.specs.Labels.{Export, text, engine, label, full, id_of, label_good, stands_after, bad_from, label_bad, labels_of, records, fitted, labelled, export_of, number_of, place_of, text_of}
+use Rattle.csv_text.specs.declared.Told.{Told}
 use Rattle.spreadsheet.specs.Exports.{ExportedAs}
 use Rattle.lines.specs.Lines.{Rows, label_lines}
 use Rattle.said.specs.Said.{Says, answer, refusal, bad_line}

@@ -4,7 +4,7 @@ use Rattle.rules.specs.Answer.{refused}
 use Rattle.rules.specs.Listing.{ascii, listing}
 use Rattle.rules.specs.Outcome.{outcome}
 use Rattle.rules.specs.declared.Refusal.TheVariants.{Room}
-use Rattle.csv.specs.Labels.{Export, text, engine, label, full, export_of}
+use Rattle.csv_text.specs.Labels.{Export, text, engine, label, full, export_of}
 use Rattle.lines.specs.Lines.{Rows, rows, bad, label_lines}
 use Rattle.said.specs.Said.{Says, answer, refusal, bad_line}
 use Rattle.text.specs.SheetText.{rooms}

@@ -3,15 +3,15 @@
 
 ghost use Rattle.std.specs.Prelude.{◌≡◌, ◌≤◌, length};
 ghost use Rattle.rules.specs.Outcome.{outcome};
-ghost use Rattle.csv.specs.Labels.{export_of};
-ghost use Rattle.csv.specs.Puts.{Gives};
+ghost use Rattle.csv_text.specs.Labels.{export_of};
+ghost use Rattle.csv_text.specs.Puts.{Gives};
 ghost use Rattle.said.specs.Said.{says_of};
 ghost use Rattle.text.specs.SheetText.{rooms};
 ghost use Rattle.exports.specs.ExportText.{export_says, export_text};
 
 use columns::{ENTRY_WIDTH, OBJECTS, SOURCE_WIDTH};
-use csv::Told;
-use csv::labels::{LABEL_WIDTH, LabelRow};
+use csv_text::Told;
+use csv_text::labels::{LABEL_WIDTH, LabelRow};
 use lines::{Read, label_rows};
 use listing::refusal;
 use said::{Said, bad_line};

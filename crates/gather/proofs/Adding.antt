@@ -1,19 +1,19 @@
 -- An entry more: what its source rows and its values make of a pile.
-use Prim.Native.Nat.{ℕ, zero, suc, ◌+◌, ◌-◌, ◌≤◌, ◌<◌, min}
+use Prim.Native.Nat.{ℕ, zero, suc, ◌-◌, ◌<◌, min}
 use native.Mathlib.Omega.{arith}
-use mathlib.Core.Path.{◌≡◌, refl, sym, ap, subst, ◌∙◌}
-use mathlib.Core.Bool.{Bool, true, false, cond, ◌&&◌}
-use mathlib.Core.List.{List, [], ◌∷◌}
+use mathlib.Core.Path.{◌≡◌, refl, sym, ap, ◌∙◌}
+use mathlib.Core.Bool.{Bool, true, false, ◌&&◌}
+use mathlib.Core.List.{List}
 use lib.Dec.{T}
 use lib.Ieee.{Float, nan, inf, fin, lt, neg}
-use lib.ListN.{length, get_or}
+use lib.ListN.{length}
 use Rattle.laws.specs.Floats.{finite, zero_f, one_f}
 use Rattle.rules.specs.Answer.{Res, ok, refused, ◌>>=◌}
 use Rattle.rules.specs.Dispatch.{Row}
 use Rattle.rules.specs.Columns.{yes1}
 use Rattle.rules.specs.Number.{number_at, minus, over}
 use Rattle.rules.specs.Operate.{Copy, Values, simplified, has_penalty}
-use Rattle.rules.specs.Value.{World, Mem, Gathered, own_sources, to_source, with_stack, note, copies, penalised, unpenalised, contribute}
+use Rattle.rules.specs.Value.{World, Mem, Gathered, own_sources, to_source, with_stack, note, penalised, unpenalised, contribute}
 use Rattle.rules.specs.declared.Effect.{Effect}
 use Rattle.rules.specs.declared.EffectOperator.{EffectOperator}
 use Rattle.rules.specs.declared.EffectOperator.TheVariants.{PreAssign, PreMul, PreDiv, ModAdd, ModSub, PostMul, PostDiv, PostPercent, PostAssign}
@@ -25,8 +25,8 @@ use Rattle.operate.specs.Held as bucket
 use Rattle.operate.specs.SoFar.{RunningOf, copies_from, with_copies}
 use Rattle.operate.proofs.Snocs.{kept, step_good, bind_good}
 use Rattle.sources.specs.declared.Noted.TheVariants.{At, Refused}
-use Rattle.sources.specs.Keeping.{Keeping, NotedAs, notes, penalised_notes}
-use Rattle.sources.proofs.Copying.{Went, went, ended}
+use Rattle.sources.specs.Keeping.{NotedAs, notes, penalised_notes}
+use Rattle.sources.proofs.Copying.{went, ended}
 use Rattle.gather.specs.declared.Pile.{Pile}
 use Rattle.gather.specs.declared.Stop.TheVariants.{No, Because}
 use Rattle.gather.specs.Piles.{PileOf, PiledAs, entered, entered_count}

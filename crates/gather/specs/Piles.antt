@@ -1,9 +1,9 @@
 -- What the code has gathered of an operator, against what the definition has. Definitions only.
-use Rattle.std.specs.Prelude.{ℕ, ◌+◌, ◌≤◌, min, ◌≡◌, Bool, true, false, cond, ◌&&◌, List, Float, length, get_or}
+use Rattle.std.specs.Prelude.{ℕ, min, ◌≡◌, Bool, true, false, cond, ◌&&◌, List, Float, length}
 use Rattle.rules.specs.Answer.{Res, ok, refused, ◌>>=◌}
 use Rattle.rules.specs.Dispatch.{Row}
 use Rattle.rules.specs.Operate.{has_penalty}
-use Rattle.rules.specs.Value.{World, Mem, Gathered, own_sources, to_source, note, contribute}
+use Rattle.rules.specs.Value.{World, Gathered, to_source, note, contribute}
 use Rattle.rules.specs.declared.Effect.{Effect}
 use Rattle.rules.specs.declared.EffectOperator.{EffectOperator}
 use Rattle.operate.specs.Held as bucket

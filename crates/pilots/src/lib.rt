@@ -14,8 +14,7 @@ use files::{files_shape, pairs_in};
 use lending::{Lending, Lengths, lend, pool_answer};
 
 // A pilot's lists, states and answer, whatever the bytes, the stretches and the pool: nothing is required.
-#[unsafe(no_mangle)]
-pub extern "C" fn dogma_calculate_pilot(
+pub fn dogma_calculate_pilot(
     states: &mut PilotStates,
     collected: &mut [CollectedRow],
     collected_values: &mut [f64],

@@ -19,8 +19,8 @@ use Rattle.run.specs.Filled.{Columns, lent_of}
 use Rattle.calculate.specs.Given as goal
 use Rattle.calculate.specs.declared.Outcome.{Outcome}
 use Rattle.kept.specs.Kept.{Kept}
-use Rattle.csv.specs.Labels.{Export, text, engine, label, full, export_of, number_of, place_of, text_of}
-use Rattle.csv.specs.declared.Told.{Told}
+use Rattle.csv_text.specs.Labels.{Export, text, engine, label, full, export_of, number_of, place_of, text_of}
+use Rattle.csv_text.specs.declared.Told.{Told}
 use Rattle.spreadsheet.specs.Exports.{exported_of, result_of, ListsFor, ExportedAs}
 use Rattle.spreadsheet.specs.declared.Exported.{Exported}
 

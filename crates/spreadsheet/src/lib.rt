@@ -7,8 +7,8 @@ ghost use Rattle.spreadsheet.specs.Exports.{Exports, exported_of, result_of};
 
 use calculate::{Outcome, dogma_calculate};
 use columns::{AttributeRow, CollectedRow, EntryRow, PlainRow, SourceFloats, SourceRow, States};
-use csv::labels::LabelRow;
-use csv::{Told, export_text};
+use csv_text::labels::LabelRow;
+use csv_text::{Told, export_text};
 use kept::kept_if;
 
 // What comes back of a call: 01's number and place, how many rows each list has, and how many bytes the text.
@@ -54,8 +54,7 @@ fn exported_of(made: Outcome, told: Told, keep: bool) -> Exported
 }
 
 // The text, every list, every state and the answer, whatever the bytes, the labels and the lists: nothing is required.
-#[unsafe(no_mangle)]
-pub extern "C" fn dogma_export(
+pub fn dogma_export(
     text: &mut [u8],
     states: &mut States,
     collected: &mut [CollectedRow],

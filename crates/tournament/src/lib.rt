@@ -281,8 +281,7 @@ fn answer(v: Verdict) -> Checked
 }
 
 // A sheet against an organiser's lines: nothing is required, nothing is written.
-#[unsafe(no_mangle)]
-pub extern "C" fn dogma_check_rules(lines: &[RuleLine], sheet: &[u8]) -> Checked
+pub fn dogma_check_rules(lines: &[RuleLine], sheet: &[u8]) -> Checked
     ensures defined { result ≡ answer_of (rule.checked sheet.now lines.now) }
     ensures no_sum_wraps { result.count < 2 ^ 58 }
 {
@@ -298,8 +297,7 @@ pub extern "C" fn dogma_check_rules(lines: &[RuleLine], sheet: &[u8]) -> Checked
 }
 
 // The same of a book and a fit.
-#[unsafe(no_mangle)]
-pub extern "C" fn dogma_check_rules_files(lines: &[RuleLine], book: &[u8], fit: &[u8]) -> Checked
+pub fn dogma_check_rules_files(lines: &[RuleLine], book: &[u8], fit: &[u8]) -> Checked
     ensures defined { result ≡ answer_of (rule.checked_files book.now fit.now lines.now) }
     ensures no_sum_wraps { result.count < 2 ^ 58 }
 {

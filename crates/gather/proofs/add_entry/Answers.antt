@@ -1,10 +1,5 @@
 -- `add_entry` meets its contract. Assumes nothing.
 use Rattle.gather.proofs.add_entry.Goals as goal
-use Rattle.gather.proofs.add_entry.Reads as reads
-use Rattle.gather.proofs.add_entry.Lts as lts
-use Rattle.gather.proofs.add_idle.Reads as add-idle-reads
-use Rattle.gather.proofs.add_running.Reads as add-running-reads
-use mathlib.Core.Path.{refl, sym, ap, ◌∙◌}
 
 pub returns-then-runs : goal.returns-then-runs
 returns-then-runs c = record {

@@ -1,14 +1,7 @@
 -- `add_idle` meets its contract. Assumes nothing.
 use Rattle.gather.proofs.add_idle.Goals as goal
-use Rattle.gather.proofs.add_idle.Reads as reads
-use Rattle.gather.proofs.add_idle.Lts as lts
-use Rattle.gather.proofs.counted.Reads as counted-reads
-use Rattle.gather.proofs.stopped.Reads as stopped-reads
-use Rattle.sources.proofs.notes.note.Reads as note-reads
-use Rattle.sources.proofs.rows.to_source.Reads as to-source-reads
 use native.Mathlib.Omega.{arith}
-use Prim.Native.Nat.{◌≤◌}
-use mathlib.Core.Path.{refl, sym, ◌∙◌}
+use mathlib.Core.Path.{◌∙◌}
 use mathlib.Core.Bool.{false}
 use Rattle.rules.specs.Value.{to_source}
 use Rattle.gather.specs.Piles.{whole, entered}

@@ -1,16 +1,7 @@
 -- `add_penalised` meets its contract. Assumes nothing.
 use Rattle.gather.proofs.add_penalised.Goals as goal
-use Rattle.gather.proofs.add_penalised.Reads as reads
-use Rattle.gather.proofs.add_penalised.Lts as lts
-use Rattle.gather.proofs.counted.Reads as counted-reads
-use Rattle.gather.proofs.stopped.Reads as stopped-reads
-use Rattle.gather.proofs.with_copies.Reads as with-copies-reads
-use Rattle.sources.proofs.notes.kept.Reads as kept-reads
-use Rattle.sources.proofs.notes.note_penalised.Reads as note-penalised-reads
 use native.Mathlib.Omega.{arith}
-use Prim.Native.Nat.{◌≤◌}
-use mathlib.Core.Path.{refl, sym, ◌∙◌}
-use Rattle.sources.proofs.Copying.{more_few}
+use mathlib.Core.Path.{refl, sym}
 use Rattle.gather.specs.Piles.{whole}
 use Rattle.gather.proofs.Copies.{few_copies}
 use Rattle.gather.proofs.Adding.{penalised_stops, penalised_goes}

@@ -1,15 +1,7 @@
 -- `add_plain` meets its contract. Assumes nothing.
 use Rattle.gather.proofs.add_plain.Goals as goal
-use Rattle.gather.proofs.add_plain.Reads as reads
-use Rattle.gather.proofs.add_plain.Lts as lts
-use Rattle.gather.proofs.counted.Reads as counted-reads
-use Rattle.gather.proofs.stopped.Reads as stopped-reads
-use Rattle.gather.proofs.with_value.Reads as with-value-reads
-use Rattle.sources.proofs.notes.note.Reads as note-reads
-use Rattle.sources.proofs.rows.to_source.Reads as to-source-reads
 use native.Mathlib.Omega.{arith}
-use Prim.Native.Nat.{◌≤◌}
-use mathlib.Core.Path.{refl, sym, ◌∙◌}
+use mathlib.Core.Path.{sym, ◌∙◌}
 use mathlib.Core.Bool.{true, false}
 use Rattle.rules.specs.Value as values
 use Rattle.rules.specs.Value.{with_stack, to_source}

@@ -1,16 +1,8 @@
 -- `add_running` meets its contract. Assumes nothing.
 use Rattle.gather.proofs.add_running.Goals as goal
-use Rattle.gather.proofs.add_running.Reads as reads
-use Rattle.gather.proofs.add_running.Lts as lts
-use Rattle.gather.proofs.add_penalised.Reads as add-penalised-reads
-use Rattle.gather.proofs.add_plain.Reads as add-plain-reads
-use Rattle.gather.proofs.stopped.Reads as stopped-reads
-use Rattle.numbers.proofs.simplified.Reads as simplified-reads
-use Rattle.reading.proofs.entries.has_penalty.Reads as has-penalty-reads
 use native.Mathlib.Omega.{arith}
-use Prim.Native.Nat.{◌≤◌}
 use mathlib.Core.Bool.{Bool, ◌&&◌}
-use mathlib.Core.Path.{refl, sym, ap, ◌∙◌}
+use mathlib.Core.Path.{sym, ap, ◌∙◌}
 use Rattle.gather.proofs.Adding.{not_finite, with_penalty_lem, without_penalty, finite_of, count_penalty, count_plain}
 
 pub returns-then-e-has_penalty : goal.returns-then-e-has_penalty

@@ -1,8 +1,5 @@
 -- `empty` meets its contract. Assumes nothing.
 use Rattle.gather.proofs.empty.Goals as goal
-use Rattle.gather.proofs.empty.Reads as reads
-use Rattle.gather.proofs.empty.Lts as lts
-use Rattle.operate.proofs.start.Reads as start-reads
 use mathlib.Core.Path.{refl}
 use Rattle.operate.proofs.Inserts as inserts
 

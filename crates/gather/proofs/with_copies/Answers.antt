@@ -1,10 +1,5 @@
 -- `with_copies` meets its contract. Assumes nothing.
 use Rattle.gather.proofs.with_copies.Goals as goal
-use Rattle.gather.proofs.with_copies.Reads as reads
-use Rattle.gather.proofs.with_copies.Lts as lts
-use Rattle.gather.proofs.step_of.Reads as step-of-reads
-use Rattle.numbers.proofs.less.Reads as less-reads
-use Rattle.operate.proofs.put_copies.Reads as put-copies-reads
 use mathlib.Core.Path.{refl, sym, ◌∙◌}
 use lib.Ieee.{of_bits}
 use Rattle.gather.proofs.Copies.{step_few}

@@ -6,7 +6,7 @@ use Rattle.spreadsheet.proofs.dogma_export.Tie as tie
 use Rattle.spreadsheet.proofs.dogma_export.Reads as reads
 use Rattle.spreadsheet.proofs.dogma_export.Lts as lts
 use Rattle.calculate.proofs.dogma_calculate.Reads as dogma-calculate-reads
-use Rattle.csv.proofs.export_text.Reads as export-text-reads
+use Rattle.csv_text.proofs.export_text.Reads as export-text-reads
 use Rattle.kept.proofs.kept_if.Reads as kept-if-reads
 use Rattle.spreadsheet.proofs.exported_of.Reads as exported-of-reads
 use mathlib.Core.Path.{refl, ◌∙◌}

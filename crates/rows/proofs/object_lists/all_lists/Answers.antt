@@ -69,13 +69,13 @@ overflow_cast-from c = omega (arith, turn_ordered (book_of c.args.book.now c.arg
 
 pub object_lists-got-requires : goal.object_lists-got-requires
 object_lists-got-requires c = record {
-            sound_book = c.requires.sound_book;
-            sound_fit = c.requires.sound_fit;
-            an_object = (omega (arith, c.count_of-objects.ensures.defined, c.loop-i-test.true));
-            listed = c.requires.listed;
-            even = (turn_stretch (book_of c.args.book.now c.args.pairs.now) (fit_of c.args.fit.now c.args.pairs.now) c.args.collected.now c.args.collected_values.now (count_of c.args.pairs.now 6) c.args.rows.now c.args.bases.now c.args.entries.now c.args.values.now c.args.ends.now c.args.room c.requires.listed c.requires.parted c.loop-i.invariant (omega (arith, c.count_of-objects.ensures.defined, c.loop-i-test.true)) c.index-end.result c.index-end.ensures.defined.0 c.requires.inside.0 c.requires.inside.1, turn_even (book_of c.args.book.now c.args.pairs.now) (fit_of c.args.fit.now c.args.pairs.now) c.args.collected.now c.args.collected_values.now (count_of c.args.pairs.now 6) c.args.rows.now c.args.bases.now c.args.entries.now c.args.values.now c.args.ends.now c.args.room c.requires.listed c.requires.parted c.loop-i.invariant (omega (arith, c.count_of-objects.ensures.defined, c.loop-i-test.true)) c.index-end.result c.index-end.ensures.defined.0);
-            numbered = (turn-numbered (book_of c.args.book.now c.args.pairs.now) (fit_of c.args.fit.now c.args.pairs.now) c.args.collected.now c.args.collected_values.now (count_of c.args.pairs.now 6) c.args.rows.now c.args.bases.now c.args.entries.now c.args.values.now c.args.ends.now c.args.room c.requires.listed c.requires.parted c.loop-i.invariant (omega (arith, c.count_of-objects.ensures.defined, c.loop-i-test.true)) c.index-end.result c.index-end.ensures.defined.0, turn-fits (book_of c.args.book.now c.args.pairs.now) (fit_of c.args.fit.now c.args.pairs.now) c.args.collected.now c.args.collected_values.now (count_of c.args.pairs.now 6) c.args.rows.now c.args.bases.now c.args.entries.now c.args.values.now c.args.ends.now c.args.room c.requires.listed c.requires.parted c.loop-i.invariant (omega (arith, c.count_of-objects.ensures.defined, c.loop-i-test.true)) c.index-end.result c.index-end.ensures.defined.0);
-          }
+  sound_book = c.requires.sound_book;
+  sound_fit = c.requires.sound_fit;
+  an_object = (omega (arith, c.count_of-objects.ensures.defined, c.loop-i-test.true));
+  listed = c.requires.listed;
+  even = (turn_stretch (book_of c.args.book.now c.args.pairs.now) (fit_of c.args.fit.now c.args.pairs.now) c.args.collected.now c.args.collected_values.now (count_of c.args.pairs.now 6) c.args.rows.now c.args.bases.now c.args.entries.now c.args.values.now c.args.ends.now c.args.room c.requires.listed c.requires.parted c.loop-i.invariant (omega (arith, c.count_of-objects.ensures.defined, c.loop-i-test.true)) c.index-end.result c.index-end.ensures.defined.0 c.requires.inside.0 c.requires.inside.1, turn_even (book_of c.args.book.now c.args.pairs.now) (fit_of c.args.fit.now c.args.pairs.now) c.args.collected.now c.args.collected_values.now (count_of c.args.pairs.now 6) c.args.rows.now c.args.bases.now c.args.entries.now c.args.values.now c.args.ends.now c.args.room c.requires.listed c.requires.parted c.loop-i.invariant (omega (arith, c.count_of-objects.ensures.defined, c.loop-i-test.true)) c.index-end.result c.index-end.ensures.defined.0);
+  numbered = (turn-numbered (book_of c.args.book.now c.args.pairs.now) (fit_of c.args.fit.now c.args.pairs.now) c.args.collected.now c.args.collected_values.now (count_of c.args.pairs.now 6) c.args.rows.now c.args.bases.now c.args.entries.now c.args.values.now c.args.ends.now c.args.room c.requires.listed c.requires.parted c.loop-i.invariant (omega (arith, c.count_of-objects.ensures.defined, c.loop-i-test.true)) c.index-end.result c.index-end.ensures.defined.0, turn-fits (book_of c.args.book.now c.args.pairs.now) (fit_of c.args.fit.now c.args.pairs.now) c.args.collected.now c.args.collected_values.now (count_of c.args.pairs.now 6) c.args.rows.now c.args.bases.now c.args.entries.now c.args.values.now c.args.ends.now c.args.room c.requires.listed c.requires.parted c.loop-i.invariant (omega (arith, c.count_of-objects.ensures.defined, c.loop-i-test.true)) c.index-end.result c.index-end.ensures.defined.0);
+}
 
 pub shape_of-rows-in_default : goal.shape_of-rows-in_default
 shape_of-rows-in_default c = part_long c.loop-i.n (c.args.room - c.loop-i.n) c.loop-i.rows c.object_lists-got.new.rows c.object_lists-got.auto.rows ∙ c.loop-i.invariant.rows_long

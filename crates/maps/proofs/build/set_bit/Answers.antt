@@ -1,0 +1,8 @@
+-- `build::set_bit` meets its contract.
+use Rattle.maps.proofs.build.set_bit.Goals as goal
+use Rattle.maps.proofs.build.set_bit.Reads as reads
+use Rattle.maps.proofs.build.set_bit.Lts as lts
+use Rattle.maps.proofs.Bits.{bit_written}
+
+pub returns : goal.returns
+returns c = record { defined = bit_written c.args.words.now c.args.at c.args.i }

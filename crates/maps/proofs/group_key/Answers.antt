@@ -1,0 +1,12 @@
+-- `group_key` meets its contract.
+use Rattle.maps.proofs.group_key.Goals as goal
+use Rattle.maps.proofs.group_key.Reads as reads
+use Rattle.maps.proofs.group_key.Lts as lts
+use mathlib.Core.Path.{refl}
+use Rattle.maps.proofs.Rows.{small_key}
+
+pub returns : goal.returns
+returns c = record {
+  defined = refl;
+  small = small_key c.args.group c.ranges.group.fits;
+}
