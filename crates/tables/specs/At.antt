@@ -1,20 +1,31 @@
 -- The tables that columns hold where they are lent. Definitions only.
 use Rattle.std.specs.Prelude.{ℕ, List, Float}
-use Rattle.columns.specs.Lending.{Column, LentColumn}
+use Rattle.std.specs.Borrow.{Bor}
+use denote.Triple.Both.{Both}
 use Rattle.tables.specs.Tables.{Tables, book_tables, fit_tables, together}
 
+-- what a parameter that is lent is at entry and at exit: numbers, rows of numbers, floats
+abbrev pub Numbers : Type 0
+Numbers = Both (Bor (List ℕ)) (Bor (List ℕ))
+
+abbrev pub Rows : Type 0
+Rows = Both (Bor (List (List ℕ))) (Bor (List (List ℕ)))
+
+abbrev pub Floats : Type 0
+Floats = Both (Bor (List Float)) (Bor (List Float))
+
 -- in a `requires`
-abbrev pub book_now : Column (List ℕ) → Column Float → Column (List ℕ) → Column (List ℕ) → Column (List ℕ) → Column (List ℕ) → List ℕ → Tables
+abbrev pub book_now : Bor (List (List ℕ)) → Bor (List Float) → Bor (List (List ℕ)) → Bor (List (List ℕ)) → Bor (List (List ℕ))
+    → Bor (List (List ℕ)) → List ℕ → Tables
 book_now a d e m y b h = book_tables h a.now d.now e.now m.now y.now b.now
 
-abbrev pub fit_now : Column (List ℕ) → Column ℕ → Column Float → Column ℕ → Column ℕ → Column Float → Column (List ℕ) → List ℕ → Tables
+abbrev pub fit_now : Bor (List (List ℕ)) → Bor (List ℕ) → Bor (List Float) → Bor (List ℕ) → Bor (List ℕ) → Bor (List Float)
+    → Bor (List (List ℕ)) → List ℕ → Tables
 fit_now o v w i p q k h = fit_tables h o.now v.now w.now i.now p.now q.now k.now
 
 -- in an `ensures`
-abbrev pub book_at : LentColumn (List ℕ) → LentColumn Float → LentColumn (List ℕ) → LentColumn (List ℕ) → LentColumn (List ℕ)
-    → LentColumn (List ℕ) → List ℕ → Tables
+abbrev pub book_at : Rows → Floats → Rows → Rows → Rows → Rows → List ℕ → Tables
 book_at a d e m y b h = book_now a.entry d.entry e.entry m.entry y.entry b.entry h
 
-abbrev pub fit_at : LentColumn (List ℕ) → LentColumn ℕ → LentColumn Float → LentColumn ℕ → LentColumn ℕ → LentColumn Float
-    → LentColumn (List ℕ) → List ℕ → Tables
+abbrev pub fit_at : Rows → Numbers → Floats → Numbers → Numbers → Floats → Rows → List ℕ → Tables
 fit_at o v w i p q k h = fit_now o.entry v.entry w.entry i.entry p.entry q.entry k.entry h
