@@ -107,12 +107,12 @@ module _ (t : Tables) where
     bases_first : every? (λ r. finite r.value) (fit_lent t).bases ≡ p
     bases_first = bases_finite a ∙ sym e
 
-    pub bases_unfinite : not p ≡ true → bases_good (fit_lent t) ≡ false
-    bases_unfinite n = bases_by ∙ rw (bases_first ∙ not-true p n) refl
+    pub bases_unfinite : p ≡ false → bases_good (fit_lent t) ≡ false
+    bases_unfinite n = bases_by ∙ rw (bases_first ∙ n) refl
 
-    pub bases_left : {q : Bool} → (let f = bases_alone t.objects t.base_attributes t.base_values in q ≡ every? (range_ascends f) f.objects) → not p ≡ false
+    pub bases_left : {q : Bool} → (let f = bases_alone t.objects t.base_attributes t.base_values in q ≡ every? (range_ascends f) f.objects) → p ≡ true
         → bases_good (fit_lent t) ≡ q
-    bases_left h n = bases_by ∙ rw (bases_first ∙ not-false p n) (sym h)
+    bases_left h n = bases_by ∙ rw (bases_first ∙ n) (sym h)
 
 -- ---- headers
 
@@ -138,22 +138,22 @@ abbrev headed : Bool → Option ℕ → Option ℕ
 headed h o = elim h [ false ↦ some 0 | true ↦ o ]
 
 module _ (t : Tables) where
-  pub book_header_bad : {r : Bool} → r ≡ book_fits t → not r ≡ true → Bad 0 ≡ shaped_of (book_tables_bad t)
+  pub book_header_bad : {r : Bool} → r ≡ book_fits t → r ≡ false → Bad 0 ≡ shaped_of (book_tables_bad t)
   unfolding book_tables_bad
-  book_header_bad {r} e n = sym (ap (λ (h : Bool). shaped_of (headed h (book_bad (book_lent t)))) (sym e ∙ not-true r n))
+  book_header_bad {r} e n = sym (ap (λ (h : Bool). shaped_of (headed h (book_bad (book_lent t)))) (sym e ∙ n))
 
-  pub book_judged : {r : Bool} {v : Shaped} → r ≡ book_fits t → not r ≡ false → v ≡ shaped_of (book_bad (book_lent t)) → v ≡ shaped_of (book_tables_bad t)
+  pub book_judged : {r : Bool} {v : Shaped} → r ≡ book_fits t → r ≡ true → v ≡ shaped_of (book_bad (book_lent t)) → v ≡ shaped_of (book_tables_bad t)
   unfolding book_tables_bad
-  book_judged {r} e n h = h ∙ sym (ap (λ (h : Bool). shaped_of (headed h (book_bad (book_lent t)))) (sym e ∙ not-false r n))
+  book_judged {r} e n h = h ∙ sym (ap (λ (h : Bool). shaped_of (headed h (book_bad (book_lent t)))) (sym e ∙ n))
 
-  pub fit_header_bad : {r : Bool} → r ≡ fit_fits t → not r ≡ true → Bad 20 ≡ shaped_of (fit_tables_bad t)
+  pub fit_header_bad : {r : Bool} → r ≡ fit_fits t → r ≡ false → Bad 20 ≡ shaped_of (fit_tables_bad t)
   unfolding fit_tables_bad
-  fit_header_bad {r} e n = sym (ap (λ (h : Bool). shaped_of (plus20 (headed h (fit_bad (fit_lent t))))) (sym e ∙ not-true r n))
+  fit_header_bad {r} e n = sym (ap (λ (h : Bool). shaped_of (plus20 (headed h (fit_bad (fit_lent t))))) (sym e ∙ n))
 
-  module _ {r : Bool} {v : Shaped} (e : r ≡ fit_fits t) (n : not r ≡ false) (h : v ≡ shaped_of (fit_bad (fit_lent t))) where
+  module _ {r : Bool} {v : Shaped} (e : r ≡ fit_fits t) (n : r ≡ true) (h : v ≡ shaped_of (fit_bad (fit_lent t))) where
     by-tables : fit_tables_bad t ≡ plus20 (fit_bad (fit_lent t))
     unfolding fit_tables_bad
-    by-tables = ap (λ (h : Bool). plus20 (headed h (fit_bad (fit_lent t)))) (sym e ∙ not-false r n)
+    by-tables = ap (λ (h : Bool). plus20 (headed h (fit_bad (fit_lent t)))) (sym e ∙ n)
 
     pub fit_judged_bad : {i : ℕ} → v ≡ Bad i → Bad (i + 20) ≡ shaped_of (fit_tables_bad t)
     fit_judged_bad g = sym (ap shaped_of (by-tables ∙ ap plus20 (bad_said (fit_bad (fit_lent t)) (sym g ∙ h))))
@@ -162,11 +162,11 @@ module _ (t : Tables) where
     fit_judged_sound g = sym (ap shaped_of (by-tables ∙ ap plus20 (sound_said (fit_bad (fit_lent t)) (sym g ∙ h))))
 
   -- a fit that fits has columns that are alike, and few objects
-  pub fit_alike_lem : {r : Bool} → r ≡ fit_fits t → not r ≡ false → fit_alike t ≡ true
-  fit_alike_lem {r} e n = like_fit t (sym e ∙ not-false r n)
+  pub fit_alike_lem : {r : Bool} → r ≡ fit_fits t → r ≡ true → fit_alike t ≡ true
+  fit_alike_lem {r} e n = like_fit t (sym e ∙ n)
 
-  pub fit_few : {r : Bool} → r ≡ fit_fits t → not r ≡ false → length t.objects ≤ 1024
-  fit_few {r} e n = (few_fit t (sym e ∙ not-false r n)).objects
+  pub fit_few : {r : Bool} → r ≡ fit_fits t → r ≡ true → length t.objects ≤ 1024
+  fit_few {r} e n = (few_fit t (sym e ∙ n)).objects
 
 -- ---- a sheet, by the verdicts on its book and its fit
 
@@ -194,26 +194,26 @@ module _ (h : List ℕ) (t u : Tables) where
       ∙ ap (λ (z : Option ℕ). decided (x && y) z (fit_bad (fit_lent whole))) (book_same ∙ g)
       ∙ ap (decided (x && y) o) fit_same
 
-  pub sheet_book_header : {r : Bool} → r ≡ book_fits t → not r ≡ true → Bad 0 ≡ shaped_of (tables_bad whole)
+  pub sheet_book_header : {r : Bool} → r ≡ book_fits t → r ≡ false → Bad 0 ≡ shaped_of (tables_bad whole)
   unfolding decided
-  sheet_book_header {r} e n = sym (ap shaped_of (by_parts {x = false} {y = fit_fits whole} (sym e ∙ not-true r n) refl refl))
+  sheet_book_header {r} e n = sym (ap shaped_of (by_parts {x = false} {y = fit_fits whole} (sym e ∙ n) refl refl))
 
-  module _ {r : Bool} (e : r ≡ book_fits t) (n : not r ≡ false) {q : Bool} (f : q ≡ fit_fits whole) where
-    pub sheet_fit_header : not q ≡ true → Bad 0 ≡ shaped_of (tables_bad whole)
+  module _ {r : Bool} (e : r ≡ book_fits t) (n : r ≡ true) {q : Bool} (f : q ≡ fit_fits whole) where
+    pub sheet_fit_header : q ≡ false → Bad 0 ≡ shaped_of (tables_bad whole)
     unfolding decided
-    sheet_fit_header m = sym (ap shaped_of (by_parts {x = true} {y = false} (sym e ∙ not-false r n) (sym f ∙ not-true q m) refl))
+    sheet_fit_header m = sym (ap shaped_of (by_parts {x = true} {y = false} (sym e ∙ n) (sym f ∙ m) refl))
 
-    module _ (m : not q ≡ false) {v : Shaped} (g : v ≡ shaped_of (book_bad (book_lent t))) where
+    module _ (m : q ≡ true) {v : Shaped} (g : v ≡ shaped_of (book_bad (book_lent t))) where
       pub sheet_book_bad : {i : ℕ} → v ≡ Bad i → Bad i ≡ shaped_of (tables_bad whole)
       unfolding decided
-      sheet_book_bad {i} k = sym (ap shaped_of (by_parts {x = true} {y = true} {o = some i} (sym e ∙ not-false r n) (sym f ∙ not-false q m) (bad_said (book_bad (book_lent t)) (sym k ∙ g))))
+      sheet_book_bad {i} k = sym (ap shaped_of (by_parts {x = true} {y = true} {o = some i} (sym e ∙ n) (sym f ∙ m) (bad_said (book_bad (book_lent t)) (sym k ∙ g))))
 
       pub sheet_fit_judged : {w : Shaped} → v ≡ Sound → w ≡ shaped_of (fit_bad (fit_lent u)) → w ≡ shaped_of (tables_bad whole)
       unfolding decided
-      sheet_fit_judged k l = l ∙ sym (ap shaped_of (by_parts {x = true} {y = true} {o = none} (sym e ∙ not-false r n) (sym f ∙ not-false q m) (sound_said (book_bad (book_lent t)) (sym k ∙ g))))
+      sheet_fit_judged k l = l ∙ sym (ap shaped_of (by_parts {x = true} {y = true} {o = none} (sym e ∙ n) (sym f ∙ m) (sound_said (book_bad (book_lent t)) (sym k ∙ g))))
 
-  pub sheet_alike : {q : Bool} → q ≡ fit_fits whole → not q ≡ false → fit_alike u ≡ true
-  sheet_alike {q} f m = like_fit whole (sym f ∙ not-false q m)
+  pub sheet_alike : {q : Bool} → q ≡ fit_fits whole → q ≡ true → fit_alike u ≡ true
+  sheet_alike {q} f m = like_fit whole (sym f ∙ m)
 
-  pub sheet_few : {q : Bool} → q ≡ fit_fits whole → not q ≡ false → length u.objects ≤ 1024
-  sheet_few {q} f m = (few_fit whole (sym f ∙ not-false q m)).objects
+  pub sheet_few : {q : Bool} → q ≡ fit_fits whole → q ≡ true → length u.objects ≤ 1024
+  sheet_few {q} f m = (few_fit whole (sym f ∙ m)).objects

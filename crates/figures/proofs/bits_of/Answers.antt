@@ -1,7 +1,5 @@
 -- `figures::bits_of` meets its contract. Assumes nothing.
 use Rattle.figures.proofs.bits_of.Goals as goal
-use Rattle.figures.proofs.bits_of.Reads as reads
-use Rattle.figures.proofs.bits_of.Lts as lts
 use mathlib.Core.Path.{refl}
 use Rattle.numbers.proofs.HundredthsLaws.{no_nan}
 use Rattle.figures.proofs.Figured.{bits_of_nan}

@@ -1,10 +1,5 @@
 -- `figures::figure` meets its contract: the fields, and the line's end. Assumes nothing.
 use Rattle.figures.proofs.figure.Goals as goal
-use Rattle.figures.proofs.figure.Reads as reads
-use Rattle.figures.proofs.figure.Lts as lts
-use Rattle.figures.proofs.bits_of.Reads as bits-of-reads
-use Rattle.figures.proofs.put_fields.Reads as put-fields-reads
-use Rattle.listing.proofs.put_byte.Reads as put-byte-reads
 use native.Mathlib.Omega.{arith}
 use mathlib.Core.Path.{sym, ◌∙◌}
 use mathlib.Core.List.{[], ◌∷◌}
@@ -20,7 +15,7 @@ pub put_fields-line_end-requires : goal.put_fields-line_end-requires
 put_fields-line_end-requires c = record { room = omega (arith, c.requires.room) }
 
 pub put_byte-requires : goal.put_byte-requires
-put_byte-requires c = record { room = omega (arith, c.requires.room, c.put_fields-line_end.ensures.within, c.put_fields-line_end.auto.0) }
+put_byte-requires c = record { room = omega (arith, c.requires.room, c.put_fields-line_end.ensures.within, c.put_fields-line_end.auto.out) }
 
 pub returns : goal.returns
 returns c = record {

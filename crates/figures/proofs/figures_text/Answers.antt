@@ -1,9 +1,5 @@
 -- `figures::figures_text` meets its contract: number 0 is the rows, another the one line. Assumes nothing.
 use Rattle.figures.proofs.figures_text.Goals as goal
-use Rattle.figures.proofs.figures_text.Reads as reads
-use Rattle.figures.proofs.figures_text.Lts as lts
-use Rattle.figures.proofs.rows_figured.Reads as rows-figured-reads
-use Rattle.listing.proofs.refusal.Reads as refusal-reads
 use Rattle.figures.proofs.Figured.{told-done, told-refused}
 
 pub returns-then-number-eq0 : goal.returns-then-number-eq0

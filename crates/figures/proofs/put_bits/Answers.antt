@@ -1,9 +1,5 @@
 -- `figures::put_bits` meets its contract: sixteen digits. Assumes nothing.
 use Rattle.figures.proofs.put_bits.Goals as goal
-use Rattle.figures.proofs.put_bits.Reads as reads
-use Rattle.figures.proofs.put_bits.Lts as lts
-use Rattle.io.proofs.hex.Reads as hex-reads
-use Rattle.listing.proofs.put_text.Reads as put-text-reads
 use native.Mathlib.Omega.{arith}
 use Rattle.listing.proofs.Puts.{renamed}
 use Rattle.figures.proofs.Figured.{sixteen, bits_are}
@@ -13,6 +9,6 @@ put_text-requires c = record { room = omega (arith, c.requires.room, c.hex-n.ens
 
 pub returns : goal.returns
 returns c = record {
-  added = renamed _ (bits_are c.args.bits c.hex-n.result c.hex-n.ensures.1.1 (sixteen c.args.bits c.hex-n.result c.hex-n.ensures.len (omega (arith, c.ranges)))) c.put_text.ensures.added;
+  added = renamed _ (bits_are c.args.bits c.hex-n.result c.hex-n.ensures.digits (sixteen c.args.bits c.hex-n.result c.hex-n.ensures.len (omega (arith, c.ranges)))) c.put_text.ensures.added;
   within = omega (arith, c.put_text.ensures.next, c.hex-n.ensures.in_bounds.1, sixteen c.args.bits c.hex-n.result c.hex-n.ensures.len (omega (arith, c.ranges)));
 }

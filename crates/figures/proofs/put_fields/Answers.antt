@@ -1,11 +1,5 @@
 -- `figures::put_fields` meets its contract: each piece from where the one before it ended. Assumes nothing.
 use Rattle.figures.proofs.put_fields.Goals as goal
-use Rattle.figures.proofs.put_fields.Reads as reads
-use Rattle.figures.proofs.put_fields.Lts as lts
-use Rattle.figures.proofs.put_bits.Reads as put-bits-reads
-use Rattle.listing.proofs.put_byte.Reads as put-byte-reads
-use Rattle.listing.proofs.put_integer.Reads as put-integer-reads
-use Rattle.listing.proofs.put_u32.Reads as put-u32-reads
 use native.Mathlib.Omega.{arith}
 use mathlib.Core.List.{[], ◌∷◌}
 use mir.Syntax.{w32}
@@ -21,16 +15,16 @@ pub put_u32-space-requires : goal.put_u32-space-requires
 put_u32-space-requires c = record { room = omega (arith, c.requires.room) }
 
 pub put_byte-attribute-requires : goal.put_byte-attribute-requires
-put_byte-attribute-requires c = record { room = omega (arith, c.requires.room, c.put_u32-space.ensures.within, c.put_u32-space.auto.0) }
+put_byte-attribute-requires c = record { room = omega (arith, c.requires.room, c.put_u32-space.ensures.within, c.put_u32-space.auto.out) }
 
 pub put_integer-space-requires : goal.put_integer-space-requires
-put_integer-space-requires c = record { room = omega (arith, c.requires.room, c.put_u32-space.ensures.within, c.put_u32-space.auto.0, c.put_byte-attribute.ensures.next, c.put_byte-attribute.auto.0) }
+put_integer-space-requires c = record { room = omega (arith, c.requires.room, c.put_u32-space.ensures.within, c.put_u32-space.auto.out, c.put_byte-attribute.ensures.next, c.put_byte-attribute.auto.out) }
 
 pub put_byte-number-requires : goal.put_byte-number-requires
-put_byte-number-requires c = record { room = omega (arith, c.requires.room, c.put_u32-space.ensures.within, c.put_u32-space.auto.0, c.put_byte-attribute.ensures.next, c.put_byte-attribute.auto.0, c.put_integer-space.ensures.within, c.put_integer-space.auto.0) }
+put_byte-number-requires c = record { room = omega (arith, c.requires.room, c.put_u32-space.ensures.within, c.put_u32-space.auto.out, c.put_byte-attribute.ensures.next, c.put_byte-attribute.auto.out, c.put_integer-space.ensures.within, c.put_integer-space.auto.out) }
 
 pub put_bits-requires : goal.put_bits-requires
-put_bits-requires c = record { room = omega (arith, c.requires.room, c.put_u32-space.ensures.within, c.put_u32-space.auto.0, c.put_byte-attribute.ensures.next, c.put_byte-attribute.auto.0, c.put_integer-space.ensures.within, c.put_integer-space.auto.0, c.put_byte-number.ensures.next, c.put_byte-number.auto.0) }
+put_bits-requires c = record { room = omega (arith, c.requires.room, c.put_u32-space.ensures.within, c.put_u32-space.auto.out, c.put_byte-attribute.ensures.next, c.put_byte-attribute.auto.out, c.put_integer-space.ensures.within, c.put_integer-space.auto.out, c.put_byte-number.ensures.next, c.put_byte-number.auto.out) }
 
 pub returns : goal.returns
 returns c = record {

@@ -1,9 +1,5 @@
 -- `figures::rows_figured` meets its contract: what stands in front are the lines so far. Assumes nothing.
 use Rattle.figures.proofs.rows_figured.Goals as goal
-use Rattle.figures.proofs.rows_figured.Reads as reads
-use Rattle.figures.proofs.rows_figured.Lts as lts
-use Rattle.figures.proofs.figure.Reads as figure-reads
-use Rattle.numbers.proofs.integers.signed.Reads as signed-Reads
 use Prim.Native.Nat.{◌-◌}
 use mathlib.Core.Path.{ap, ◌∙◌}
 use lib.ListN.{length}
@@ -18,7 +14,7 @@ pub figure-end-requires : goal.figure-end-requires
 figure-end-requires c = record { room = figure_room c.args.n c.args.rows.now c.args.values.now c.requires.room c.loop-next.invariant c.loop-next-test.true }
 
 pub loop-next-preserved : goal.loop-next-preserved
-loop-next-preserved c = one_more c.args.n c.args.rows.now c.args.values.now c.requires.room c.loop-next.invariant _ _ c.loop-next-test.true c.figure-end.auto.0 c.figure-end.ensures.within (ap (to_z w32) c.signed.ensures.and_back) c.figure-end.ensures.added
+loop-next-preserved c = one_more c.args.n c.args.rows.now c.args.values.now c.requires.room c.loop-next.invariant _ _ c.loop-next-test.true c.figure-end.auto.out c.figure-end.ensures.within (ap (to_z w32) c.signed.ensures.and_back) c.figure-end.ensures.added
 
 pub shape_of-out : goal.shape_of-out
 shape_of-out c = c.loop-next.invariant.even

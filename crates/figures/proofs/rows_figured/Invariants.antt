@@ -1,8 +1,4 @@
 use Rattle.figures.proofs.rows_figured.Given as goal
-use Rattle.figures.proofs.rows_figured.Reads as reads
-use Rattle.figures.proofs.rows_figured.Lts as lts
-use Rattle.figures.proofs.figure.Reads as figure-reads
-use Rattle.numbers.proofs.integers.signed.Reads as signed-Reads
 use Prim.Native.Nat.{◌-◌}
 use mathlib.Core.Path.{ap, ◌∙◌}
 use lib.ListN.{length}
