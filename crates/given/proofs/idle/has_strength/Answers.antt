@@ -1,0 +1,26 @@
+-- `idle::has_strength` meets its contract. Assumes nothing.
+use Rattle.given.proofs.idle.has_strength.Goals as goal
+use Rattle.given.proofs.idle.has_strength.Reads as reads
+use Rattle.given.proofs.idle.has_strength.Lts as lts
+use Rattle.given.proofs.idle.is_held.Reads as is-held-reads
+use Rattle.given.proofs.idle.listed_value.Reads as listed-value-reads
+use Rattle.reading.proofs.entries.is_running.Reads as is-running-reads
+use mathlib.Core.Path.{sym, ◌∙◌}
+use mir.Facts.{to_z-of_z}
+use borrow.Author.Rules.{sfits_of}
+use Rattle.given.proofs.Idling.{running_fine, buff_made, idle_made}
+
+pub returns-then-runs : goal.returns-then-runs
+returns-then-runs c = record { defined = λ h i row. running_fine h i row c.args.e c.args.e.origin c.requires.good.sourced (sym c.is_running-runs.ensures.defined ∙ c.if-runs.true) }
+
+pub listed_value-v-requires : goal.listed_value-v-requires
+listed_value-v-requires c = record {
+  judged = c.requires.judged;
+  an_object = rw c.in-Effect.is at c.requires.good.sourced;
+}
+
+pub returns-in-Buff : goal.returns-in-Buff
+returns-in-Buff c = record { defined = λ h i row. buff_made h i row c.args.e _ _ c.in-Buff.is }
+
+pub returns-in-Effect : goal.returns-in-Effect
+returns-in-Effect c = record { defined = λ h i row. idle_made h i row c.args.e c.in-Effect.effect_id c.in-Effect.source c.in-Effect.source_category c.in-Effect.attribute_id c.in-Effect.is c.requires.good.sourced _ c.is_running-runs.ensures.defined c.if-runs.false _ _ (rw (to_z-of_z (sfits_of c.known_told-1.given.1.1.1.0.1)) at (c.listed_value-v.ensures.defined h)) (c.is_held.ensures.defined h) }
