@@ -182,11 +182,9 @@ def main():
     given = arguments.parse_args()
     PLACE.mkdir(parents=True, exist_ok=True)
     built(build.sources_in(given.sources))
-    native = "the library as shipped" if platform.machine() == "x86_64" else "the same proved module as the shipped library's, compiled for this processor (native-lib)"
-    if os.environ.get("DOGMA_LIBRARY"):
-        native = "an archive that was given, and may be anything"
+    library = "an archive that was given, and may be anything" if os.environ.get("DOGMA_LIBRARY") else "the library as shipped"
     rustc = subprocess.run(["rustc", "--version"], stdout=subprocess.PIPE, text=True).stdout.split()[1]
-    print(f"Measured by `bench/run.py --seconds {given.seconds:g}` on {platform.machine()} Linux, {native}; rustc {rustc}, opt-level 3.")
+    print(f"Measured by `bench/run.py --seconds {given.seconds:g}` on {platform.machine()} Linux, {library}; rustc {rustc}, opt-level 3.")
     print("Medians; in brackets the tenth and ninetieth of a hundred of the ratios of neighbouring runs. Ours is the whole run, from bytes to all lists, "
           "clearing included, every list lent 4,096 rows or what it needs.\n")
     if given.counted:

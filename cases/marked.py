@@ -216,7 +216,7 @@ def main():
     proved = (HERE.parent / "crates" / "rules" / "proofs" / "Marked.antt").read_text()
     if re.search(r'bytesL =\s*"([0-9a-f]+)"', proved).group(1) != CASES[0][2].hex():
         sys.exit("case L is not the one in Marked.antt")
-    account = ["# Cases", "", "Made by `cases/marked.py`. A sheet is run by `target/bin/sheet <cases/NAME.sheet`; NAME.txt is what is printed.", "",
+    account = ["# Cases", "", "Made by `cases/marked.py`. A sheet is run by `crates/sheet/out/sheet <cases/NAME.sheet`, once `./sample` has made that; NAME.txt is what is printed.", "",
                "| sheet | bytes | what | printed |", "|---|---|---|---|"]
     for name, what, data, text in CASES:
         printed = held(name, data, text)

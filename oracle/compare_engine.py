@@ -7,8 +7,8 @@ Each sheet is run twice: with lists that are long enough, often to the row, and 
 guarded oracle's answer; SHAPE, which the Rust does not have, is the reference's; and of every EVERYth sheet the reference's whole
 answer is taken too, with lengths by its own count (two lists full before one hit). Every line that oracle/engine.c prints must be
 the same: number, place, counts, states, all fields of all lists, floats by their bits, and that all else is zero and untouched.
-Without a KIND: a million sheets, as MILLION has them. The library is the one that library/build gives for this machine; with
---emulated it is the shipped one for x86-64, under the kit's emulator where needed. --listing COUNT: the program target/bin/sheet
+Without a KIND: a million sheets, as MILLION has them. The library is the one that library/build gives; with --emulated the driver is
+linked with the kit's C library, and runs with it. --listing COUNT: the program crates/sheet/out/sheet (`rt run` in crates/sheet makes it)
 on the cases, inputs at its buffer's edge and COUNT sheets of each kind, whole and in pieces, its text against the reference's listing. Sheets that differ go to target/compare.
 --part K/N: the Kth of N shares of the same sheets, with a report on all shares of this library that have been run.
 """
@@ -46,14 +46,13 @@ COLUMNS_OF = [columns for _, columns in sampled.LISTS]
 def build(emulated, source="engine.c"):
     """A driver of this folder, linked with the library, and the words that run it."""
     PLACE.mkdir(parents=True, exist_ok=True)
-    words = [str(ROOT / "library" / "build")] + (["--shipped"] if emulated else [])
-    made = subprocess.run(words, cwd=ROOT, stdout=subprocess.PIPE, text=True)
+    made = subprocess.run([str(ROOT / "library" / "build")], cwd=ROOT, stdout=subprocess.PIPE, text=True)
     if made.returncode != 0:
         sys.exit(made.returncode)
     library = made.stdout.strip()
     # named by the library, so that two comparisons at once do not mix
     digest = hashlib.sha256((ROOT / library).read_bytes()).hexdigest()[:12]
-    driver = PLACE / f"{source[:-2]}{'-x86-64' if emulated else ''}-{digest}"
+    driver = PLACE / f"{source[:-2]}{'-emulated' if emulated else ''}-{digest}"
     if emulated:
         subprocess.run([ROOT / "library" / "emulated", "build", driver, HERE / source, library], cwd=ROOT, check=True)
         return [str(ROOT / "library" / "emulated"), "run", str(driver)]
@@ -289,9 +288,9 @@ def in_pieces(words, data, size):
 
 def listings(kinds, seed, count):
     """The program's text against the reference's, every list lent 4,096; longer than the buffer is SHAPE 0."""
-    program = ROOT / "target" / "bin" / "sheet"
+    program = ROOT / "crates" / "sheet" / "out" / "sheet"
     if not program.exists():
-        sys.exit("target/bin/sheet is not there: `rt check sheet` makes it")
+        sys.exit("crates/sheet/out/sheet is not there: `rt run` in crates/sheet makes it")
     words = [str(ROOT / "library" / "emulated"), "run", str(program)]
     differ = runs = 0
     for at, (name, data) in enumerate(inputs(kinds, seed, count)):
@@ -326,9 +325,7 @@ def shares(driver, given, kinds, share, counters):
 def library_text(emulated):
     if os.environ.get("DOGMA_LIBRARY"):
         return "an archive that was given, and may be anything"
-    if platform.machine() == "x86_64":
-        return "the library as shipped"
-    return "the library as shipped, under the kit's emulator" if emulated else "the proved module compiled for this processor (native-lib)"
+    return "the library as shipped, with the kit's C library" if emulated else "the library as shipped"
 
 
 def report(kinds, totals, status, rows, held, spent, seed, differ, wall):

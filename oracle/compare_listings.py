@@ -1,5 +1,5 @@
 #!/usr/bin/env python3
-"""Runs `sheet figures` and `checker` (target/bin, made by `rt check`) and holds what they say to the reference.
+"""Runs `sheet figures` and `checker` (crates/NAME/out/NAME, made by `rt run` in crates/NAME) and holds what they say to the reference.
 
 Usage: compare_listings.py [--seed SEED] [--figures] [RUNS]: every sheet of cases/, and so many made ones (default 1,000) with six listings each, as
 compare_check.py makes them. What `sheet figures` writes must be the reference's rows with the bits of their values; `checker` must accept
@@ -25,7 +25,7 @@ LENT, LINES = 4096, 4097
 
 
 def program(variable, name):
-    return [os.environ[variable]] if variable in os.environ else [ROOT / "library/emulated", "run", ROOT / "target/bin" / name]
+    return [os.environ[variable]] if variable in os.environ else [ROOT / "library/emulated", "run", ROOT / "crates" / name / "out" / name]
 
 
 SHEET, CHECKER = program("DOGMA_SHEET", "sheet"), program("DOGMA_CHECKER", "checker")

@@ -1,5 +1,5 @@
 #!/usr/bin/env python3
-"""Runs the program `export` (target/bin, made by `rt check export`) and holds what it says to the reference, and its text to other readers.
+"""Runs the program `export` (crates/export/out/export, made by `rt run` in crates/export) and holds what it says to the reference, and its text to other readers.
 
 Usage: compare_programs.py [--seed SEED] [--from N] [--spreadsheet] [RUNS]: so many runs (default 10,000), each on a sheet and a text of
 labels of its own, and every sheet of cases/ with and without labels. Texts end lines with LF, CRLF or nothing; ids have zeros before them;
@@ -29,7 +29,7 @@ import reference
 
 ROOT = pathlib.Path(__file__).resolve().parent.parent
 LENT, TEXT_BYTES, LABELS = 4096, 704542, 4096
-PROGRAM = [os.environ["DOGMA_EXPORT"]] if "DOGMA_EXPORT" in os.environ else [ROOT / "library/emulated", "run", ROOT / "target/bin/export"]
+PROGRAM = [os.environ["DOGMA_EXPORT"]] if "DOGMA_EXPORT" in os.environ else [ROOT / "library/emulated", "run", ROOT / "crates/export/out/export"]
 BAD_LINE = b"labels, line %d: not an id, a space and a label\n"
 BAD_LABEL = b"labels, line %d: over 64 bytes, a byte that is not printable, or an id that does not ascend\n"
 NO_LINES = [b"", b"20", b" 20 x", b"x 20", b"+20 x", b"20\tx", b"- 20", b"--1 x", b"2147483648 x", b"-2147483649 x", b"00000000020 x", b"1e3 x", b"0x14 x", b"20, x"]

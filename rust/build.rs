@@ -18,10 +18,9 @@ fn from_pkg_config() -> Option<PathBuf> {
 
 fn main() {
     println!("cargo:rerun-if-env-changed=DOGMA_LIBRARY");
-    let here = Path::new(env!("CARGO_MANIFEST_DIR")).join("../target");
-    let places = [here.join("staticlib/libdogma.a"), here.join("native/libdogma.a")];
-    places.iter().for_each(|library| println!("cargo:rerun-if-changed={}", library.display()));
-    let built = places.into_iter().find(|library| library.is_file());
+    let place = Path::new(env!("CARGO_MANIFEST_DIR")).join("../target/staticlib/libdogma.a");
+    println!("cargo:rerun-if-changed={}", place.display());
+    let built = Some(place).filter(|library| library.is_file());
     let given = std::env::var_os("DOGMA_LIBRARY").map(PathBuf::from);
     if let Some(library) = given.or(built) {
         println!("cargo:rerun-if-changed={}", library.display());

@@ -1,5 +1,5 @@
 -- Columns that hold what is done, cleared behind the counts, are the definition's; after a refusal all are zeros.
-use Prim.Native.Nat.{ℕ, suc, ◌+◌}
+use Prim.Native.Nat.{ℕ}
 use mathlib.Core.Path.{◌≡◌, refl, sym, ap, ◌∙◌, subst}
 use mathlib.Core.List.{List, [], ◌∷◌, map}
 use mathlib.Core.Option.{Option, get_or}
@@ -10,9 +10,7 @@ use Rattle.laws.specs.Floats.{zero_f}
 use Rattle.laws.specs.Lists.{flat}
 use Rattle.rules.specs.Answer.{Res, ok, refused, number, place}
 use Rattle.rules.specs.Columns.{Counts, collected_numbers, origin_value, rows_numbers, entry_numbers, plain_numbers, source_numbers, source_floats, collected_column, collected_value_column, row_column, base_column, value_column, entry_column, entry_value_column, plain_column, source_column, source_float_column, state_column}
-use Rattle.rules.specs.Dispatch.{Row}
 use Rattle.rules.specs.Outcome.{Done}
-use Rattle.rules.specs.declared.Source.{Source}
 use Rattle.rules.specs.declared.Refusal.{Refusal}
 use Rattle.rules.specs.declared.Answer.{Answer}
 use Rattle.rules.specs.declared.Answer.TheVariants as answer

@@ -4,7 +4,7 @@ use mathlib.Core.Path.{◌≡◌, refl, sym, ap, ◌∙◌, subst}
 use mathlib.Core.List.{List, ◌++◌}
 use mathlib.Core.Option.{Option, none, some, get_or}
 use native.Mathlib.Omega.{arith}
-use lib.ListN.{length, set}
+use lib.ListN.{set}
 use Rattle.rules.specs.Answer.{Res, refused}
 use Rattle.rules.specs.Columns.{Counts}
 use Rattle.rules.specs.Files.{pairs_in, bad_files, outcome_of}
@@ -15,7 +15,7 @@ use Rattle.rules.specs.declared.Refusal.TheVariants.{Shape}
 use Rattle.shape.specs.Shaped.{shaped_of, SoundBy}
 use Rattle.shape.specs.declared.Shaped.{Shaped}
 use Rattle.promises.specs.Result.{MeetsFor}
-use Rattle.promises.specs.Pilots.{Pool, pool_place, pilot_outcome, PilotGiven, PilotMeets}
+use Rattle.promises.specs.Pilots.{pilot_outcome, PilotGiven, PilotMeets}
 use Rattle.run.specs.Filled.{Columns, lent_of, decided}
 use Rattle.calculate.specs.Given.{result_of}
 use Rattle.calculate.proofs.Clearing.{Even}

@@ -1,6 +1,6 @@
 -- A pilot's call: the pool that is lent, where its rows lie, and what is told of it. Definitions only.
 use Rattle.std.specs.Prelude.{ℕ, ◌≡◌, List}
-use Rattle.std.proofs.Math.Option.{Option, none, some}
+use Rattle.std.proofs.Math.Option.{none, some}
 use Rattle.rules.specs.Outcome.{Lent}
 use Rattle.rules.specs.Pool.{pool_number, pool_rooms, pool_bad, stretch_of}
 use Rattle.promises.specs.Pilots.{Pool, Told}

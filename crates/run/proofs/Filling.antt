@@ -6,7 +6,7 @@ use mathlib.Core.Bool.{Bool}
 use mathlib.Core.List.{List}
 use lib.Dec.{eqb}
 use lib.ListN.{length}
-use Rattle.rules.specs.Answer.{ok, refused}
+use Rattle.rules.specs.Answer.{ok}
 use Rattle.rules.specs.Bytes.{count_of, u32_at, depth_at}
 use Rattle.rules.specs.Sheet.{Book, Fit, book_of, fit_of}
 use Rattle.rules.specs.Outcome.{Rooms, world_of, starts_of, blank, valued, run, rooms_of, counted, rows_in}

@@ -13,7 +13,7 @@ use Rattle.rules.specs.Columns.{zero_entry, zero_source}
 use Rattle.rules.specs.Outcome.{Lent, Done, outcome}
 use Rattle.rules.specs.declared.Answer.TheVariants.{Refused}
 use Rattle.listing.proofs.Told.{no_number}
-use Rattle.promises.specs.Result.{Result, Meets}
+use Rattle.promises.specs.Result.{Meets}
 use Rattle.promises.specs.Zeros.{Empty}
 use Rattle.run.specs.Filled.{Columns, lent_of}
 use Rattle.calculate.specs.Given as goal

@@ -1,10 +1,5 @@
 -- `given::first_bad` meets its contract. Assumes nothing.
 use Rattle.given.proofs.first_bad.Goals as goal
-use Rattle.given.proofs.first_bad.Reads as reads
-use Rattle.given.proofs.first_bad.Lts as lts
-use Rattle.given.proofs.first_wrong.Reads as first-wrong-reads
-use Rattle.given.proofs.lines.first_other.Reads as first-other-reads
-use Rattle.given.proofs.lines.set_listed.Reads as set-listed-reads
 use native.Mathlib.Omega.{arith}
 use mathlib.Core.Path.{sym}
 use Rattle.given.proofs.Bad.{key_bad, lines-inside, judged, value_bad, all_laid}
@@ -24,5 +19,5 @@ first_wrong-requires c = record { judged = judged c.requires.awaits c.args.listi
 pub returns : goal.returns
 returns c = record {
   defined = λ h e. value_bad h c.args.listing.now (rw c.in-Nothing.is at (c.first_other-other.ensures.defined h.world.rows h.told.held)) c.set_listed.ensures.laid (c.first_wrong.ensures.defined (judged h c.args.listing.now (rw c.in-Nothing.is at (c.first_other-other.ensures.defined h.world.rows h.told.held)) c.set_listed.ensures.laid) e);
-  laid = all_laid c.requires.awaits c.args.listing.now (rw c.in-Nothing.is at (c.first_other-other.ensures.defined c.requires.awaits.world.rows c.requires.awaits.told.held)) c.set_listed.ensures.laid c.first_wrong.result c.first_wrong.new.0 c.first_wrong.ensures.kept;
+  laid = all_laid c.requires.awaits c.args.listing.now (rw c.in-Nothing.is at (c.first_other-other.ensures.defined c.requires.awaits.world.rows c.requires.awaits.told.held)) c.set_listed.ensures.laid c.first_wrong.result c.first_wrong.new.values c.first_wrong.ensures.kept;
 }

@@ -1,11 +1,9 @@
 -- `given::first_wrong` meets its contract. Assumes nothing.
+use mathlib.Core.Bool.{not}
 use Rattle.given.proofs.first_wrong.Goals as goal
-use Rattle.given.proofs.first_wrong.Reads as reads
-use Rattle.given.proofs.first_wrong.Lts as lts
-use Rattle.given.proofs.is_right.Reads as is-right-reads
 use native.Mathlib.Omega.{arith}
 use Prim.Native.Nat.{◌-◌, ◌≤◌}
-use mathlib.Core.Path.{◌≡◌, refl, ◌∙◌}
+use mathlib.Core.Path.{◌≡◌, refl, ◌∙◌, ap}
 use lib.ListN.{length}
 use Rattle.memory.specs.Holding.{tables}
 use Rattle.given.specs.Judging.{Judged}
@@ -22,12 +20,12 @@ is_right-right-requires c = record {
 
 pub returns-then-not-right : goal.returns-then-not-right
 returns-then-not-right c = record {
-  defined = λ h e. wrong_at h.world h.values c.loop-i.i (omega (arith, c.loop-i-test.true, h.told.held.long)) _ (c.is_right-right.ensures.defined (with_column h c.loop-i.invariant.0.1) e) (c.loop-i.invariant.1 h e) c.if-not-right.true;
+  defined = λ h e. wrong_at h.world h.values c.loop-i.i (omega (arith, c.loop-i-test.true, h.told.held.long)) _ (c.is_right-right.ensures.defined (with_column h c.loop-i.invariant.0.1) e) (c.loop-i.invariant.1 h e) (ap not c.if-not-right.true);
   kept = tt;
 }
 
 pub loop-i-preserved : goal.loop-i-preserved
-loop-i-preserved c = ((omega (arith, c.loop-i-test.true), kept_true c.is_right-right.result _ _ c.if-not-right.false c.is_right-right.ensures.kept ∙ c.loop-i.invariant.0.1), λ h e. right_on h.world h.values c.loop-i.i (omega (arith, c.loop-i-test.true, h.told.held.long)) _ (c.is_right-right.ensures.defined (with_column h c.loop-i.invariant.0.1) e) (c.loop-i.invariant.1 h e) c.if-not-right.false)
+loop-i-preserved c = ((omega (arith, c.loop-i-test.true), kept_true c.is_right-right.result _ _ (ap not c.if-not-right.false) c.is_right-right.ensures.kept ∙ c.loop-i.invariant.0.1), λ h e. right_on h.world h.values c.loop-i.i (omega (arith, c.loop-i-test.true, h.told.held.long)) _ (c.is_right-right.ensures.defined (with_column h c.loop-i.invariant.0.1) e) (c.loop-i.invariant.1 h e) (ap not c.if-not-right.false))
 
 pub returns : goal.returns
 returns c = record {

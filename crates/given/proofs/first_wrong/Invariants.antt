@@ -1,7 +1,4 @@
 use Rattle.given.proofs.first_wrong.Given as goal
-use Rattle.given.proofs.first_wrong.Reads as reads
-use Rattle.given.proofs.first_wrong.Lts as lts
-use Rattle.given.proofs.is_right.Reads as is-right-reads
 use native.Mathlib.Omega.{arith}
 use Prim.Native.Nat.{◌-◌, ◌≤◌}
 use mathlib.Core.Path.{◌≡◌, refl, ◌∙◌}
@@ -11,7 +8,7 @@ use Rattle.given.specs.Judging.{Judged}
 use Rattle.given.proofs.Rights.{kept_true, with_column, FirstLeft, right_on, wrong_at, none_wrong}
 
 abbrev pub invariant-loop-i : goal.invariant-loop-i
-invariant-loop-i l = ((l.i ≤ length l.rows) × (l.values ≡ l.initial.values)) × ((h : Judged (tables l.book l.pairs l.states l.stretches l.limits l.rows l.bases l.entries l.entry-values) l.initial.values) → l.recording ≡ h.world.recording → FirstLeft h.world h.values l.i)
+invariant-loop-i l = ((l.i ≤ length l.rows) × (l.values ≡ l.initial.values)) × ((h : Judged (tables l.book l.pairs l.states l.stretches l.limits l.rows l.bases l.entries l.entry_values) l.initial.values) → l.recording ≡ h.world.recording → FirstLeft h.world h.values l.i)
 
 abbrev pub decreases-loop-i : goal.decreases-loop-i
 decreases-loop-i l = length l.rows - l.i

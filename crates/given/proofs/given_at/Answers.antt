@@ -1,9 +1,5 @@
 -- `given::given_at` meets its contract. Assumes nothing.
 use Rattle.given.proofs.given_at.Goals as goal
-use Rattle.given.proofs.given_at.Reads as reads
-use Rattle.given.proofs.given_at.Lts as lts
-use Rattle.given.proofs.is_untouched.Reads as is-untouched-reads
-use Rattle.pass_3.proofs.calculate_value.Reads as calculate-value-reads
 use native.Mathlib.Omega.{arith}
 use mathlib.Core.Path.{refl}
 use lib.ListN.{length-set}
@@ -35,13 +31,13 @@ calculate_value-got-requires c = record {
 }
 
 pub offset_bounds-values-row-3 : goal.offset_bounds-values-row-3
-offset_bounds-values-row-3 c = let k = simp length-set at c.calculate_value-got.auto.0 in omega (arith, c.ranges, c.well_formed, column_inside c.requires.judged c.args.row c.requires.within)
+offset_bounds-values-row-3 c = let k = simp length-set at c.calculate_value-got.auto.values in omega (arith, c.ranges, c.well_formed, column_inside c.requires.judged c.args.row c.requires.within)
 
 pub bounds-values-row-3 : goal.bounds-values-row-3
-bounds-values-row-3 c = let k = simp length-set at c.calculate_value-got.auto.0 in omega (arith, c.ranges, c.well_formed, column_inside c.requires.judged c.args.row c.requires.within)
+bounds-values-row-3 c = let k = simp length-set at c.calculate_value-got.auto.values in omega (arith, c.ranges, c.well_formed, column_inside c.requires.judged c.args.row c.requires.within)
 
 pub shape_of-values : goal.shape_of-values
-shape_of-values c = simp length-set (simp length-set at c.calculate_value-got.auto.0)
+shape_of-values c = simp length-set (simp length-set at c.calculate_value-got.auto.values)
 
 pub returns : goal.returns
 returns c = record {

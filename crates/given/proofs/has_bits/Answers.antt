@@ -1,7 +1,5 @@
 -- `given::has_bits` meets its contract. Assumes nothing.
 use Rattle.given.proofs.has_bits.Goals as goal
-use Rattle.given.proofs.has_bits.Reads as reads
-use Rattle.given.proofs.has_bits.Lts as lts
 use Rattle.given.proofs.Rights.{finite_number, bits_same}
 
 pub float_to_bits-result : goal.float_to_bits-result

@@ -1,10 +1,7 @@
 -- `given::is_right` meets its contract. Assumes nothing.
+use mathlib.Core.Path.{ap}
+use mathlib.Core.Bool.{not}
 use Rattle.given.proofs.is_right.Goals as goal
-use Rattle.given.proofs.is_right.Reads as reads
-use Rattle.given.proofs.is_right.Lts as lts
-use Rattle.given.proofs.given_at.Reads as given-at-reads
-use Rattle.given.proofs.has_bits.Reads as has-bits-reads
-use Rattle.given.proofs.idle.idles_have_strength.Reads as idles-have-strength-reads
 use native.Mathlib.Omega.{arith}
 use Rattle.given.specs.Judging.{calculated_from}
 use Rattle.given.proofs.Judgement.{column_inside}
@@ -39,13 +36,13 @@ has_bits-same-requires c = record { numbers = (got_number (calculated_from c.req
 
 pub returns-then-not-same : goal.returns-then-not-same
 returns-then-not-same c = record {
-  defined = λ h e. other_bits h c.args.row c.in-Value.v c.in-Value.field-1 (rw c.in-Value.is at (c.given_at-got.ensures.defined h)) c.if-listed.false _ c.has_bits-same.ensures.defined c.if-not-same.true;
+  defined = λ h e. other_bits h c.args.row c.in-Value.v c.in-Value.field-1 (rw c.in-Value.is at (c.given_at-got.ensures.defined h)) c.if-listed.false _ c.has_bits-same.ensures.defined (ap not c.if-not-same.true);
   kept = tt;
 }
 
 pub returns-then-not-recording : goal.returns-then-not-recording
 returns-then-not-recording c = record {
-  defined = λ h e. unrecorded_right h c.args.row c.in-Value.v c.in-Value.field-1 (rw c.in-Value.is at (c.given_at-got.ensures.defined h)) c.if-listed.false _ c.has_bits-same.ensures.defined c.if-not-same.false c.args.recording c.if-not-recording.true e;
+  defined = λ h e. unrecorded_right h c.args.row c.in-Value.v c.in-Value.field-1 (rw c.in-Value.is at (c.given_at-got.ensures.defined h)) c.if-listed.false _ c.has_bits-same.ensures.defined (ap not c.if-not-same.false) c.args.recording (ap not c.if-not-recording.true) e;
   kept = rw c.in-Value.is at c.given_at-got.ensures.kept;
 }
 
@@ -57,6 +54,6 @@ idles_have_strength-requires c = record {
 
 pub returns : goal.returns
 returns c = record {
-  defined = λ h e. recorded_right h c.args.row c.in-Value.v c.in-Value.field-1 (rw c.in-Value.is at (c.given_at-got.ensures.defined h)) c.if-listed.false _ c.has_bits-same.ensures.defined c.if-not-same.false c.args.recording c.if-not-recording.false e _ (c.idles_have_strength.ensures.defined (with_column h (rw c.in-Value.is at c.given_at-got.ensures.kept)));
+  defined = λ h e. recorded_right h c.args.row c.in-Value.v c.in-Value.field-1 (rw c.in-Value.is at (c.given_at-got.ensures.defined h)) c.if-listed.false _ c.has_bits-same.ensures.defined (ap not c.if-not-same.false) c.args.recording (ap not c.if-not-recording.false) e _ (c.idles_have_strength.ensures.defined (with_column h (rw c.in-Value.is at c.given_at-got.ensures.kept)));
   kept = kept_any c.idles_have_strength.result _ _ (rw c.in-Value.is at c.given_at-got.ensures.kept);
 }

@@ -1,9 +1,5 @@
 -- `given::is_untouched` meets its contract. Assumes nothing.
 use Rattle.given.proofs.is_untouched.Goals as goal
-use Rattle.given.proofs.is_untouched.Reads as reads
-use Rattle.given.proofs.is_untouched.Lts as lts
-use Rattle.numbers.proofs.integers.signed.Reads as signed-Reads
-use Rattle.reading.proofs.stretches.is_limited.Reads as is-limited-reads
 use native.Mathlib.Omega.{arith}
 use mathlib.Core.Path.{◌≡◌, sym, ap, subst, ◌∙◌}
 use mathlib.Core.Bool.{not, false≢true}
@@ -23,8 +19,10 @@ returns-then-count-ne0 c = record { untouched = λ e. absurd (false≢true e) }
 
 pub returns : goal.returns
 returns c = let id : c.signed-id.result ≡ to_z w32 (get_or (get_or c.args.rows.now c.args.row []) 1 0) = c.signed-id.ensures.defined in
-record { untouched = λ e. record {
-      empty = c.if-count-ne0.false;
-      free = λ k l. subst (λ (a : ℤ). ((get_dogma_attribute k a).min_attribute_id ≡ pos 0) × ((get_dogma_attribute k a).max_attribute_id ≡ pos 0)) (to_z-of_z (sfits_of c.signed-id.type_inv) ∙ id) (c.is_limited-limited.ensures.unlimited k l (sym (not-not c.is_limited-limited.result) ∙ ap not e));
-      deep = λ z. absurd (omega (arith, z));
-    } }
+    record {
+      untouched = λ e. record {
+        empty = c.if-count-ne0.false;
+        free = λ k l. subst (λ (a : ℤ). ((get_dogma_attribute k a).min_attribute_id ≡ pos 0) × ((get_dogma_attribute k a).max_attribute_id ≡ pos 0)) (to_z-of_z {w = w32} (sfits_of c.signed-id.type_inv) ∙ id) (c.is_limited-limited.ensures.unlimited k l (sym (not-not c.is_limited-limited.result) ∙ ap not e));
+        deep = λ z. absurd (omega (arith, z));
+      };
+    }

@@ -1,13 +1,12 @@
 -- `idle::has_strength` meets its contract. Assumes nothing.
 use Rattle.given.proofs.idle.has_strength.Goals as goal
-use Rattle.given.proofs.idle.has_strength.Reads as reads
-use Rattle.given.proofs.idle.has_strength.Lts as lts
-use Rattle.given.proofs.idle.is_held.Reads as is-held-reads
-use Rattle.given.proofs.idle.listed_value.Reads as listed-value-reads
-use Rattle.reading.proofs.entries.is_running.Reads as is-running-reads
 use mathlib.Core.Path.{sym, ◌∙◌}
+use Prim.Native.Nat.{◌<◌, ◌^◌}
+use lib.Signed.{mag}
+use mir.Syntax.{w32}
 use mir.Facts.{to_z-of_z}
 use borrow.Author.Rules.{sfits_of}
+use Rattle.std.proofs.Common.{rules}
 use Rattle.given.proofs.Idling.{running_fine, buff_made, idle_made}
 
 pub returns-then-runs : goal.returns-then-runs
@@ -23,4 +22,4 @@ pub returns-in-Buff : goal.returns-in-Buff
 returns-in-Buff c = record { defined = λ h i row. buff_made h i row c.args.e _ _ c.in-Buff.is }
 
 pub returns-in-Effect : goal.returns-in-Effect
-returns-in-Effect c = record { defined = λ h i row. idle_made h i row c.args.e c.in-Effect.effect_id c.in-Effect.source c.in-Effect.source_category c.in-Effect.attribute_id c.in-Effect.is c.requires.good.sourced _ c.is_running-runs.ensures.defined c.if-runs.false _ _ (rw (to_z-of_z (sfits_of c.known_told-1.given.1.1.1.0.1)) at (c.listed_value-v.ensures.defined h)) (c.is_held.ensures.defined h) }
+returns-in-Effect c = let fits : mag c.in-Effect.attribute_id < 2 ^ 31 = search rules in record { defined = λ h i row. idle_made h i row c.args.e c.in-Effect.effect_id c.in-Effect.source c.in-Effect.source_category c.in-Effect.attribute_id c.in-Effect.is c.requires.good.sourced _ c.is_running-runs.ensures.defined c.if-runs.false _ _ (rw (to_z-of_z {w = w32} (sfits_of fits)) at (c.listed_value-v.ensures.defined h)) (c.is_held.ensures.defined h) }

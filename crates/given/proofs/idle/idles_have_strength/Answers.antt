@@ -1,13 +1,9 @@
 -- `idle::idles_have_strength` meets its contract. Assumes nothing.
+use mathlib.Core.Bool.{not}
 use Rattle.given.proofs.idle.idles_have_strength.Goals as goal
-use Rattle.given.proofs.idle.idles_have_strength.Reads as reads
-use Rattle.given.proofs.idle.idles_have_strength.Lts as lts
-use Rattle.given.proofs.idle.has_strength.Reads as has-strength-reads
-use Rattle.info.proofs.little_endian.index.Reads as index_Reads
-use Rattle.reading.proofs.entries.entry_at.Reads as entry-at-reads
 use native.Mathlib.Omega.{arith}
 use Prim.Native.Nat.{◌-◌, ◌≤◌}
-use mathlib.Core.Path.{refl}
+use mathlib.Core.Path.{refl, ap}
 use Rattle.memory.specs.Holding.{tables}
 use Rattle.memory.specs.Steps.{row_at}
 use Rattle.memory.proofs.Fitting.{fits_below}
@@ -27,10 +23,10 @@ has_strength-strong-requires c = record {
 }
 
 pub returns-then-not-strong : goal.returns-then-not-strong
-returns-then-not-strong c = record { defined = λ h. entry_weak h c.args.row c.requires.within _ _ c.index-first.ensures.defined.0 c.index-count.ensures.defined.0 c.loop-k.k c.loop-k-test.true _ (c.entry_at-e.ensures.defined _ (its_entry h c.args.row c.requires.within _ _ c.index-first.ensures.defined.0 c.index-count.ensures.defined.0 c.loop-k.k c.loop-k-test.true)) _ (c.has_strength-strong.ensures.defined h c.args.row (row_at h.world c.args.row)) (c.loop-k.invariant.1 h) c.if-not-strong.true }
+returns-then-not-strong c = record { defined = λ h. entry_weak h c.args.row c.requires.within _ _ c.index-first.ensures.defined.0 c.index-count.ensures.defined.0 c.loop-k.k c.loop-k-test.true _ (c.entry_at-e.ensures.defined _ (its_entry h c.args.row c.requires.within _ _ c.index-first.ensures.defined.0 c.index-count.ensures.defined.0 c.loop-k.k c.loop-k-test.true)) _ (c.has_strength-strong.ensures.defined h c.args.row (row_at h.world c.args.row)) (c.loop-k.invariant.1 h) (ap not c.if-not-strong.true) }
 
 pub loop-k-preserved : goal.loop-k-preserved
-loop-k-preserved c = (omega (arith, c.loop-k-test.true), λ h. entry_strong h c.args.row c.requires.within _ _ c.index-first.ensures.defined.0 c.index-count.ensures.defined.0 c.loop-k.k c.loop-k-test.true _ (c.entry_at-e.ensures.defined _ (its_entry h c.args.row c.requires.within _ _ c.index-first.ensures.defined.0 c.index-count.ensures.defined.0 c.loop-k.k c.loop-k-test.true)) _ (c.has_strength-strong.ensures.defined h c.args.row (row_at h.world c.args.row)) (c.loop-k.invariant.1 h) c.if-not-strong.false)
+loop-k-preserved c = (omega (arith, c.loop-k-test.true), λ h. entry_strong h c.args.row c.requires.within _ _ c.index-first.ensures.defined.0 c.index-count.ensures.defined.0 c.loop-k.k c.loop-k-test.true _ (c.entry_at-e.ensures.defined _ (its_entry h c.args.row c.requires.within _ _ c.index-first.ensures.defined.0 c.index-count.ensures.defined.0 c.loop-k.k c.loop-k-test.true)) _ (c.has_strength-strong.ensures.defined h c.args.row (row_at h.world c.args.row)) (c.loop-k.invariant.1 h) (ap not c.if-not-strong.false))
 
 pub returns : goal.returns
 returns c = record { defined = λ h. all_done h c.args.row (row_at h.world c.args.row) c.loop-k.k (omega (arith, c.loop-k-test.false, counted h c.args.row c.requires.within _ _ c.index-first.ensures.defined.0 c.index-count.ensures.defined.0)) (c.loop-k.invariant.1 h) }

@@ -1,9 +1,4 @@
 use Rattle.given.proofs.idle.idles_have_strength.Given as goal
-use Rattle.given.proofs.idle.idles_have_strength.Reads as reads
-use Rattle.given.proofs.idle.idles_have_strength.Lts as lts
-use Rattle.given.proofs.idle.has_strength.Reads as has-strength-reads
-use Rattle.info.proofs.little_endian.index.Reads as index_Reads
-use Rattle.reading.proofs.entries.entry_at.Reads as entry-at-reads
 use native.Mathlib.Omega.{arith}
 use Prim.Native.Nat.{◌-◌, ◌≤◌}
 use mathlib.Core.Path.{refl}
@@ -14,7 +9,7 @@ use Rattle.given.specs.Judging.{Judged}
 use Rattle.given.proofs.Idling.{Left, all_done, counted, placed-inside, place_inside, its_entry, its_good, entry_strong, entry_weak}
 
 abbrev pub invariant-loop-k : goal.invariant-loop-k
-invariant-loop-k l = (l.k ≤ l.count) × ((h : Judged (tables l.book l.pairs l.states l.stretches l.limits l.rows l.bases l.entries l.entry-values) l.values) → Left h l.row (row_at h.world l.row) l.k)
+invariant-loop-k l = (l.k ≤ l.count) × ((h : Judged (tables l.book l.pairs l.states l.stretches l.limits l.rows l.bases l.entries l.entry_values) l.values) → Left h l.row (row_at h.world l.row) l.k)
 
 abbrev pub decreases-loop-k : goal.decreases-loop-k
 decreases-loop-k l = l.count - l.k

@@ -1,9 +1,5 @@
 -- `idle::listed_value` meets its contract. Assumes nothing.
 use Rattle.given.proofs.idle.listed_value.Goals as goal
-use Rattle.given.proofs.idle.listed_value.Reads as reads
-use Rattle.given.proofs.idle.listed_value.Lts as lts
-use Rattle.info.proofs.look_ups.get_dogma_attribute.Reads as get-dogma-attribute-reads
-use Rattle.reading.proofs.stretches.find.Reads as find-reads
 use native.Mathlib.Omega.{arith}
 use mathlib.Core.Path.{ap}
 use mir.Facts.{to_z-of_z}

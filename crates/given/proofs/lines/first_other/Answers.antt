@@ -1,11 +1,9 @@
 -- `lines::first_other` meets its contract. Assumes nothing.
 use Rattle.given.proofs.lines.first_other.Goals as goal
-use Rattle.given.proofs.lines.first_other.Reads as reads
-use Rattle.given.proofs.lines.first_other.Lts as lts
-use Rattle.given.proofs.lines.has_key.Reads as has-key-reads
 use native.Mathlib.Omega.{arith}
 use Prim.Native.Nat.{◌-◌, ◌≤◌}
-use mathlib.Core.Path.{refl}
+use mathlib.Core.Path.{refl, ap}
+use mathlib.Core.Bool.{not}
 use mathlib.Core.List.{List}
 use lib.ListN.{length}
 use Rattle.rules.specs.Dispatch.{Row}
@@ -19,10 +17,10 @@ pub returns-then-lines-i : goal.returns-then-lines-i
 returns-then-lines-i c = record { defined = λ rs H. line-missing H c.args.listing.now c.loop-i.i (omega (arith, c.loop-i-test.true, H.long)) c.if-lines-i.true (c.loop-i.invariant.1 rs H) }
 
 pub returns-then-not-same : goal.returns-then-not-same
-returns-then-not-same c = record { defined = λ rs H. keys_differ H c.args.listing.now c.loop-i.i (omega (arith, c.loop-i-test.true, H.long)) (omega (arith, c.if-lines-i.false)) _ c.has_key_lem.ensures.0 c.has_key_lem.ensures.1 (c.loop-i.invariant.1 rs H) c.if-not-same.true }
+returns-then-not-same c = record { defined = λ rs H. keys_differ H c.args.listing.now c.loop-i.i (omega (arith, c.loop-i-test.true, H.long)) (omega (arith, c.if-lines-i.false)) _ c.has_key-same.ensures.defined c.has_key-same.ensures.and_back (c.loop-i.invariant.1 rs H) (ap not c.if-not-same.true) }
 
 pub loop-i-preserved : goal.loop-i-preserved
-loop-i-preserved c = (omega (arith, c.loop-i-test.true), λ rs H. keys_on H c.args.listing.now c.loop-i.i (omega (arith, c.loop-i-test.true, H.long)) (omega (arith, c.if-lines-i.false)) _ c.has_key_lem.ensures.0 c.has_key_lem.ensures.1 (c.loop-i.invariant.1 rs H) c.if-not-same.false)
+loop-i-preserved c = (omega (arith, c.loop-i-test.true), λ rs H. keys_on H c.args.listing.now c.loop-i.i (omega (arith, c.loop-i-test.true, H.long)) (omega (arith, c.if-lines-i.false)) _ c.has_key-same.ensures.defined c.has_key-same.ensures.and_back (c.loop-i.invariant.1 rs H) (ap not c.if-not-same.false))
 
 pub returns-then-n-lines : goal.returns-then-n-lines
 returns-then-n-lines c = record { defined = λ rs H. line-more H c.args.listing.now c.loop-i.i (omega (arith, c.loop-i-test.false, H.long)) (omega (arith, c.loop-i.invariant.0, H.long)) (c.loop-i.invariant.1 rs H) _ H.long c.if-n-lines.true }

@@ -1,7 +1,4 @@
 use Rattle.given.proofs.lines.first_other.Given as goal
-use Rattle.given.proofs.lines.first_other.Reads as reads
-use Rattle.given.proofs.lines.first_other.Lts as lts
-use Rattle.given.proofs.lines.has_key.Reads as has-key-reads
 use native.Mathlib.Omega.{arith}
 use Prim.Native.Nat.{◌-◌, ◌≤◌}
 use mathlib.Core.Path.{refl}

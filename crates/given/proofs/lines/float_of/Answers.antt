@@ -1,7 +1,5 @@
 -- `lines::float_of` meets its contract. Assumes nothing.
 use Rattle.given.proofs.lines.float_of.Goals as goal
-use Rattle.given.proofs.lines.float_of.Reads as reads
-use Rattle.given.proofs.lines.float_of.Lts as lts
 use mathlib.Core.Path.{sym, ◌∙◌}
 use Rattle.info.proofs.Nans.{quotient, above, below}
 

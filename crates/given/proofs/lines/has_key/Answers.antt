@@ -1,8 +1,5 @@
 -- `lines::has_key` meets its contract. Assumes nothing.
 use Rattle.given.proofs.lines.has_key.Goals as goal
-use Rattle.given.proofs.lines.has_key.Reads as reads
-use Rattle.given.proofs.lines.has_key.Lts as lts
-use Rattle.numbers.proofs.integers.signed.Reads as signed-Reads
 use mathlib.Core.Path.{sym, ap, ◌∙◌}
 use mir.Syntax.{w32}
 use mir.Val.{of_z}

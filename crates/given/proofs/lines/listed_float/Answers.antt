@@ -1,10 +1,5 @@
 -- `lines::listed_float` meets its contract. Assumes nothing.
 use Rattle.given.proofs.lines.listed_float.Goals as goal
-use Rattle.given.proofs.lines.listed_float.Reads as reads
-use Rattle.given.proofs.lines.listed_float.Lts as lts
-use Rattle.given.proofs.lines.float_of.Reads as float-of-reads
-use Rattle.given.proofs.lines.wider.Reads as wider-reads
-use Rattle.numbers.proofs.is_finite.Reads as is-finite-reads
 use mathlib.Core.Path.{sym, ◌∙◌}
 use Rattle.info.proofs.Nans.{quotient}
 use Rattle.given.proofs.Lining.{shown_finite, shown_nan}

@@ -1,8 +1,5 @@
 -- `lines::set_listed` meets its contract. Assumes nothing.
 use Rattle.given.proofs.lines.set_listed.Goals as goal
-use Rattle.given.proofs.lines.set_listed.Reads as reads
-use Rattle.given.proofs.lines.set_listed.Lts as lts
-use Rattle.given.proofs.lines.listed_float.Reads as listed-float-reads
 use native.Mathlib.Omega.{arith}
 use Prim.Native.Nat.{◌-◌, ◌≤◌}
 use mathlib.Core.Path.{sym, ap}

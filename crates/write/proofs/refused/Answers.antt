@@ -1,0 +1,13 @@
+-- `refused` meets its contract. Assumes nothing.
+use Rattle.write.proofs.refused.Goals as goal
+use Rattle.write.proofs.refused.Reads as reads
+use Rattle.write.proofs.refused.Lts as lts
+use Rattle.listing.proofs.zero_bytes.Reads as zero-bytes-reads
+use mathlib.Core.Path.{refl, ◌∙◌}
+use Rattle.clear.proofs.Columned.{cleared_zeros}
+
+pub returns : goal.returns
+returns c = record {
+  answer = refl;
+  zeros = c.zero_bytes.ensures.cleared ∙ cleared_zeros 0 c.args.bytes.now;
+}
