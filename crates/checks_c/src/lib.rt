@@ -8,10 +8,10 @@ ghost use Rattle.settled.specs.Lines.{line_of};
 ghost use Rattle.checks.specs.Check.{Checks};
 ghost use Rattle.checks.specs.Checked.{check_columns};
 
-use calculate::{Outcome};
+use calculate::Outcome;
 use columns::{AttributeRow, CollectedRow, EntryRow, PlainRow, States};
-use given::lines::{LineRow};
-use order::{WorkRow};
+use given::lines::LineRow;
+use order::WorkRow;
 
 // Number, place, every list and every state, whatever the bytes, the lists and the listing: nothing is required.
 #[unsafe(no_mangle)]
@@ -34,5 +34,18 @@ pub extern "C" fn dogma_check(
         let given = result_of result states.new lists.exit in
         Checks sheet.now (lent_of lists.entry) (length work.old) lines given }
 {
-    checks::dogma_check(states, collected, collected_values, rows, bases, values, work, entries, entry_values, plain, sheet, listing)
+    checks::dogma_check(
+        states,
+        collected,
+        collected_values,
+        rows,
+        bases,
+        values,
+        work,
+        entries,
+        entry_values,
+        plain,
+        sheet,
+        listing,
+    )
 }

@@ -5,8 +5,11 @@ ghost use Rattle.promises.specs.Pilots.{PilotMeets};
 ghost use Rattle.run.specs.Filled.{lent_columns};
 ghost use Rattle.pilots.specs.Given.{pool_of, told_of};
 
-use calculate::{Outcome};
-use columns::{AttributeRow, CollectedRow, EntryRow, PilotStates, PlainRow, PoolStretches, SourceFloats, SourceRow};
+use calculate::Outcome;
+use columns::{
+    AttributeRow, CollectedRow, EntryRow, PilotStates, PlainRow, PoolStretches, SourceFloats,
+    SourceRow,
+};
 
 // A pilot's lists, states and answer, whatever the bytes, the stretches and the pool: nothing is required.
 #[unsafe(no_mangle)]
@@ -32,5 +35,21 @@ pub extern "C" fn dogma_calculate_pilot(
         let after = pool_of states.new lists.exit in
         PilotMeets book.now fit.now stretches.now pilot before after (told_of result) }
 {
-    pilots::dogma_calculate_pilot(states, collected, collected_values, rows, bases, values, entries, entry_values, plain, sources, source_values, stretches, book, fit, pilot)
+    pilots::dogma_calculate_pilot(
+        states,
+        collected,
+        collected_values,
+        rows,
+        bases,
+        values,
+        entries,
+        entry_values,
+        plain,
+        sources,
+        source_values,
+        stretches,
+        book,
+        fit,
+        pilot,
+    )
 }

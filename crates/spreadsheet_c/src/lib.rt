@@ -5,8 +5,8 @@ ghost use Rattle.run.specs.Filled.{lent_columns, lent_of};
 ghost use Rattle.spreadsheet.specs.Exports.{Exports, result_of};
 
 use columns::{AttributeRow, CollectedRow, EntryRow, PlainRow, SourceFloats, SourceRow, States};
-use csv_text::labels::{LabelRow};
-use spreadsheet::{Exported};
+use csv_text::labels::LabelRow;
+use spreadsheet::Exported;
 
 // The text, every list, every state and the answer, whatever the bytes, the labels and the lists: nothing is required.
 #[unsafe(no_mangle)]
@@ -31,5 +31,21 @@ pub extern "C" fn dogma_export(
         let given = result_of result states.new lists.exit in
         Exports sheet.now (lent_of lists.entry) labels.now label_bytes.now text result.length given }
 {
-    spreadsheet::dogma_export(text, states, collected, collected_values, rows, bases, values, entries, entry_values, plain, sources, source_values, labels, label_bytes, sheet)
+    spreadsheet::dogma_export(
+        text,
+        states,
+        collected,
+        collected_values,
+        rows,
+        bases,
+        values,
+        entries,
+        entry_values,
+        plain,
+        sources,
+        source_values,
+        labels,
+        label_bytes,
+        sheet,
+    )
 }

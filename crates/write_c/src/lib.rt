@@ -6,8 +6,11 @@ ghost use Rattle.tables.specs.Tables.{together, written, written_book, written_f
 ghost use Rattle.tables.specs.At.{book_at, fit_at};
 ghost use Rattle.write.specs.Given.{Gives};
 
-use columns::{AskFields, AttributeFields, BookNumbers, BuffCollectionFields, EffectFields, FitNumbers, ModifierFields, ObjectFields, SheetNumbers, TypeEffectFields};
-use write::{Written};
+use columns::{
+    AskFields, AttributeFields, BookNumbers, BuffCollectionFields, EffectFields, FitNumbers,
+    ModifierFields, ObjectFields, SheetNumbers, TypeEffectFields,
+};
+use write::Written;
 
 // A sheet's bytes and the answer, whatever the tables and the bytes that are lent: nothing is required.
 #[unsafe(no_mangle)]
@@ -32,7 +35,23 @@ pub extern "C" fn dogma_write_sheet(
         let fit = fit_at objects base_attributes base_values ids buffs buff_values asks [] in
         Gives bytes result (written (together header.now book fit)) }
 {
-    write::dogma_write_sheet(bytes, header, attributes, defaults, effects, modifiers, type_effects, buff_collections, objects, base_attributes, base_values, ids, buffs, buff_values, asks)
+    write::dogma_write_sheet(
+        bytes,
+        header,
+        attributes,
+        defaults,
+        effects,
+        modifiers,
+        type_effects,
+        buff_collections,
+        objects,
+        base_attributes,
+        base_values,
+        ids,
+        buffs,
+        buff_values,
+        asks,
+    )
 }
 
 // A book's file: tables 1 to 5 and the three category numbers.
@@ -50,7 +69,16 @@ pub extern "C" fn dogma_write_book(
     ensures the_book { let t = book_at attributes defaults effects modifiers type_effects buff_collections header.now in
         Gives bytes result (written_book t) }
 {
-    write::dogma_write_book(bytes, header, attributes, defaults, effects, modifiers, type_effects, buff_collections)
+    write::dogma_write_book(
+        bytes,
+        header,
+        attributes,
+        defaults,
+        effects,
+        modifiers,
+        type_effects,
+        buff_collections,
+    )
 }
 
 // A fit's file: tables 6 to 10, depth and recording. Its places are plus 20.
@@ -69,5 +97,15 @@ pub extern "C" fn dogma_write_fit(
     ensures the_fit { let t = fit_at objects base_attributes base_values ids buffs buff_values asks header.now in
         Gives bytes result (written_fit t) }
 {
-    write::dogma_write_fit(bytes, header, objects, base_attributes, base_values, ids, buffs, buff_values, asks)
+    write::dogma_write_fit(
+        bytes,
+        header,
+        objects,
+        base_attributes,
+        base_values,
+        ids,
+        buffs,
+        buff_values,
+        asks,
+    )
 }
