@@ -1,5 +1,5 @@
 -- What the program for M-111 says, of a sheet and a text of another planner's figures. Definitions only.
-use Rattle.std.specs.Prelude.{ℕ, true, false, cond, List, [], ◌++◌, map, ltb, length, get_or}
+use Rattle.std.specs.Prelude.{ℕ, cond, List, [], ◌++◌, map, ltb, length, get_or}
 use Rattle.std.specs.Float.{binary64}
 use Rattle.std.specs.Float.Ieee.{to_bits}
 use Rattle.laws.specs.Floats.{zero_f}

@@ -8,7 +8,10 @@ use text::TEXT_BYTES;
 fn main(rt: HostRuntime) {
     let bits = is_word(&rt, 1, b"figures");
     if (1 < arg_count(&rt)) & !bits {
-        complain(&rt.stderr(), b"usage: sheet <SHEET, or sheet figures <SHEET\n");
+        complain(
+            &rt.stderr(),
+            b"usage: sheet <SHEET, or sheet figures <SHEET\n",
+        );
         return;
     }
     let mut buffer = [0u8; 65536];

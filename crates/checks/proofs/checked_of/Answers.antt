@@ -1,8 +1,5 @@
 -- `checks::checked_of` meets its contract. Assumes nothing.
 use Rattle.checks.proofs.checked_of.Goals as goal
-use Rattle.checks.proofs.checked_of.Reads as reads
-use Rattle.checks.proofs.checked_of.Lts as lts
-use Rattle.checks.proofs.no_counts.Reads as no-counts-reads
 use mathlib.Core.Path.{refl, sym, ap, ◌∙◌}
 use Rattle.checks.specs.Checked.{counts_by}
 use Rattle.checks.specs.declared.verdict.Verdict.{Verdict}

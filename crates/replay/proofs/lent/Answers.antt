@@ -14,7 +14,7 @@ pub slice_bounds-calculated-end-3 : goal.slice_bounds-calculated-end-3
 slice_bounds-calculated-end-3 c = c.held-n2.ensures.inside
 
 pub slice_bounds-calculated-end-4 : goal.slice_bounds-calculated-end-4
-slice_bounds-calculated-end-4 c = sym (length-take-le c.held-n2.result c.args.collected-values.now c.held-n2.ensures.inside)
+slice_bounds-calculated-end-4 c = sym (length-take-le c.held-n2.result c.args.collected_values.now c.held-n2.ensures.inside)
 
 pub slice_bounds-calculated-end-5 : goal.slice_bounds-calculated-end-5
 slice_bounds-calculated-end-5 c = c.held-n3.ensures.inside
@@ -44,7 +44,7 @@ pub slice_bounds-calculated-end-13 : goal.slice_bounds-calculated-end-13
 slice_bounds-calculated-end-13 c = c.held-n7.ensures.inside
 
 pub slice_bounds-calculated-end-14 : goal.slice_bounds-calculated-end-14
-slice_bounds-calculated-end-14 c = sym (length-take-le c.held-n7.result c.args.entry-values.now c.held-n7.ensures.inside)
+slice_bounds-calculated-end-14 c = sym (length-take-le c.held-n7.result c.args.entry_values.now c.held-n7.ensures.inside)
 
 pub slice_bounds-calculated-end-15 : goal.slice_bounds-calculated-end-15
 slice_bounds-calculated-end-15 c = c.held-n8.ensures.inside
@@ -62,4 +62,4 @@ pub slice_bounds-calculated-end-19 : goal.slice_bounds-calculated-end-19
 slice_bounds-calculated-end-19 c = c.held-n10.ensures.inside
 
 pub slice_bounds-calculated-end-20 : goal.slice_bounds-calculated-end-20
-slice_bounds-calculated-end-20 c = sym (length-take-le c.held-n10.result c.args.source-values.now c.held-n10.ensures.inside)
+slice_bounds-calculated-end-20 c = sym (length-take-le c.held-n10.result c.args.source_values.now c.held-n10.ensures.inside)

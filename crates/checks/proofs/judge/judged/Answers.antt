@@ -1,12 +1,5 @@
 -- `judge::judged` meets its contract. Assumes nothing.
 use Rattle.checks.proofs.judge.judged.Goals as goal
-use Rattle.checks.proofs.judge.judged.Reads as reads
-use Rattle.checks.proofs.judge.judged.Lts as lts
-use Rattle.checks.proofs.verdict.verdict_of.Reads as verdict-of-reads
-use Rattle.given.proofs.first_bad.Reads as first-bad-reads
-use Rattle.loops.proofs.loop_of.Reads as loop-of-reads
-use Rattle.reading.proofs.stretches.set_limits.Reads as set-limits-reads
-use Rattle.reading.proofs.stretches.set_stretches.Reads as set-stretches-reads
 use native.Mathlib.Omega.{arith}
 use mathlib.Core.Path.{◌≡◌, refl, sym, ◌∙◌}
 use mathlib.Core.List.{map}
@@ -59,5 +52,5 @@ returns-in-At c = record {
 pub returns-in-Nothing : goal.returns-in-Nothing
 returns-in-Nothing c = record {
   defined = c.verdict_of.ensures.defined ∙ by_lines (world_of (book_of c.args.sheet.now c.args.pairs.now) (fit_of c.args.sheet.now c.args.pairs.now) 0) (map line_of c.args.listing.now) (rw c.in-Nothing.is at (c.loop_of-looped.ensures.defined (knows c.args.sheet.now c.args.pairs.now c.requires.sound_book c.requires.sound_fit c.args.n c.args.recording c.requires.listed (c.set_stretches-stretches.ensures.stretched (rows_in (book_of c.args.sheet.now c.args.pairs.now) (fit_of c.args.sheet.now c.args.pairs.now)) (rows_held c.args.sheet.now c.args.pairs.now c.requires.sound_book c.requires.sound_fit c.args.n c.args.recording c.requires.listed)) c.set_limits-limits.ensures.limits))) c.first_bad-bad.result (c.first_bad-bad.ensures.defined (awaits c.args.sheet.now c.args.pairs.now c.requires.sound_book c.requires.sound_fit c.args.n c.args.recording c.requires.listed (c.set_stretches-stretches.ensures.stretched (rows_in (book_of c.args.sheet.now c.args.pairs.now) (fit_of c.args.sheet.now c.args.pairs.now)) (rows_held c.args.sheet.now c.args.pairs.now c.requires.sound_book c.requires.sound_fit c.args.n c.args.recording c.requires.listed)) c.set_limits-limits.ensures.limits (rw c.in-Nothing.is at (c.loop_of-looped.ensures.defined (knows c.args.sheet.now c.args.pairs.now c.requires.sound_book c.requires.sound_fit c.args.n c.args.recording c.requires.listed (c.set_stretches-stretches.ensures.stretched (rows_in (book_of c.args.sheet.now c.args.pairs.now) (fit_of c.args.sheet.now c.args.pairs.now)) (rows_held c.args.sheet.now c.args.pairs.now c.requires.sound_book c.requires.sound_fit c.args.n c.args.recording c.requires.listed)) c.set_limits-limits.ensures.limits))) c.args.values.now c.requires.few.0) (is_recording c.args.sheet.now c.args.pairs.now c.requires.sound_book c.requires.sound_fit c.args.n c.args.recording c.requires.listed));
-  laid = rw c.verdict_of.ensures.defined (is-laid c.first_bad-bad.result c.args.n c.args.listing.now c.args.values.now c.first_bad-bad.new.0 _ c.requires.few.0 (c.first_bad-bad.auto.0 ∙ length-take-le c.args.n c.args.values.now c.requires.few.0) c.first_bad-bad.ensures.laid refl);
+  laid = rw c.verdict_of.ensures.defined (is-laid c.first_bad-bad.result c.args.n c.args.listing.now c.args.values.now c.first_bad-bad.new.values _ c.requires.few.0 (c.first_bad-bad.auto.values ∙ length-take-le c.args.n c.args.values.now c.requires.few.0) c.first_bad-bad.ensures.laid refl);
 }

@@ -1,13 +1,9 @@
 -- `lists::rooms_of` meets its contract. Assumes nothing.
 use Rattle.checks.proofs.lists.rooms_of.Goals as goal
-use Rattle.checks.proofs.lists.rooms_of.Reads as reads
-use Rattle.checks.proofs.lists.rooms_of.Lts as lts
-use Rattle.checks.proofs.lists.least_of.Reads as least-of-reads
-use Rattle.checks.proofs.lists.room_of.Reads as room-of-reads
 use Prim.Native.Nat.{ℕ, min}
 use mathlib.Core.Path.{ap, ◌∙◌}
 use Rattle.checks.specs.Checked.{lengths}
 use Rattle.checks.proofs.Entering.{rooms_are}
 
 pub returns : goal.returns
-returns c = record { defined = rooms_are (lengths c.args.collected c.args.collected-values c.args.rows c.args.bases c.args.values c.args.entries c.args.entry-values c.args.plain) c.args.work c.room_of.ensures.defined c.room_of-2.ensures.defined (c.least_of-least.ensures.defined ∙ ap (λ (m : ℕ). min c.args.bases m) c.least_of.ensures.defined) c.room_of-3.ensures.defined c.room_of-4.ensures.defined }
+returns c = record { defined = rooms_are (lengths c.args.collected c.args.collected_values c.args.rows c.args.bases c.args.values c.args.entries c.args.entry_values c.args.plain) c.args.work c.room_of.ensures.defined c.room_of-2.ensures.defined (c.least_of-least.ensures.defined ∙ ap (λ (m : ℕ). min c.args.bases m) c.least_of.ensures.defined) c.room_of-3.ensures.defined c.room_of-4.ensures.defined }

@@ -1,7 +1,5 @@
 -- `verdict::verdict_of` meets its contract. Assumes nothing.
 use Rattle.checks.proofs.verdict.verdict_of.Goals as goal
-use Rattle.checks.proofs.verdict.verdict_of.Reads as reads
-use Rattle.checks.proofs.verdict.verdict_of.Lts as lts
 use mathlib.Core.Path.{refl}
 
 pub returns-in-At : goal.returns-in-At
