@@ -27,7 +27,10 @@ fn with_labels(rt: &HostRuntime, sheet: &[u8]) {
         return;
     }
     if file.more {
-        complain(&rt.stderr(), b"export: the labels have more than 327,680 bytes\n");
+        complain(
+            &rt.stderr(),
+            b"export: the labels have more than 327,680 bytes\n",
+        );
         return;
     }
     let n = file.bytes;
@@ -45,7 +48,10 @@ fn main(rt: HostRuntime) {
         return;
     }
     if file.more {
-        complain(&rt.stderr(), b"export: the sheet has more than 65,536 bytes\n");
+        complain(
+            &rt.stderr(),
+            b"export: the sheet has more than 65,536 bytes\n",
+        );
         return;
     }
     let n = file.bytes;

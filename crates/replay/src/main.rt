@@ -543,8 +543,13 @@ fn run(rt: &HostRuntime, data: &[u8]) -> Tally {
     tally
 }
 
+// Zeros, for the kept sheets: what it holds does not matter to who has it by this call.
+fn blank() -> [u8; 524288] {
+    [0u8; 524288]
+}
+
 fn main(rt: HostRuntime) {
-    let mut data = [0u8; 524288];
+    let mut data = blank();
     let n = fill(&mut data, &mut rt.reader());
     let tally = run(&rt, &data[..n]);
     print(&rt, tally.sheets);
