@@ -1,7 +1,7 @@
 #!/usr/bin/env python3
 """Chooses the kept sheets and writes them with the oracle's answers, every list of them.
 
-Usage: make_kept.py [OUT], OUT cases/kept.bin where none is said, which is a link to the standard input of the program `replay`;
+Usage: make_kept.py [OUT], OUT cases/kept.bin where none is said, and then the standard input of the program `replay` too;
 and cases/KEPT.md, which names each. Needs the guarded oracle (oracle/build.py --guarded) to make them, nothing to replay them.
 
 For each slip of oracle/slips.py the smallest of the first sheets on which it shows; for each list one that is full to the row and
@@ -179,7 +179,10 @@ def main():
             seen.add(key)
             unlike.append((name, case))
     parts = [encoded(case, text) for (_, case), text in zip(unlike, oracle_texts(unlike))]
-    out.write_bytes(b"".join(parts))
+    kept = b"".join(parts)
+    out.write_bytes(kept)
+    if len(sys.argv) == 1:
+        (HERE.parent / "crates/replay/stdin").write_bytes(kept)
     longest = max(len(case.data) for _, case in unlike)
     lent = [max(case.lent[c] for _, case in unlike) for c in range(10)]
     account = ["# Kept sheets", "", f"Made by `cases/make_kept.py` (seed \"{SEED}\"), which says how `kept.bin` is read: {len(unlike)} sheets, {sum(map(len, parts)):,} bytes, with the answers of the",
