@@ -163,8 +163,7 @@ fn answered(
 }
 
 // Number, place, every list and every state, whatever the bytes, the lists and the listing: nothing is required.
-#[unsafe(no_mangle)]
-pub extern "C" fn dogma_check(
+pub fn dogma_check(
     states: &mut States,
     collected: &mut [CollectedRow],
     collected_values: &mut [f64],

@@ -191,8 +191,7 @@ fn fit_written(
 }
 
 // A sheet's bytes and the answer, whatever the tables and the bytes that are lent: nothing is required.
-#[unsafe(no_mangle)]
-pub extern "C" fn dogma_write_sheet(
+pub fn dogma_write_sheet(
     bytes: &mut [u8],
     header: &SheetNumbers,
     attributes: &[AttributeFields],
@@ -252,8 +251,7 @@ pub extern "C" fn dogma_write_sheet(
 }
 
 // A book's file: tables 1 to 5 and the three category numbers.
-#[unsafe(no_mangle)]
-pub extern "C" fn dogma_write_book(
+pub fn dogma_write_book(
     bytes: &mut [u8],
     header: &BookNumbers,
     attributes: &[AttributeFields],
@@ -290,8 +288,7 @@ pub extern "C" fn dogma_write_book(
 }
 
 // A fit's file: tables 6 to 10, depth and recording. Its places are plus 20.
-#[unsafe(no_mangle)]
-pub extern "C" fn dogma_write_fit(
+pub fn dogma_write_fit(
     bytes: &mut [u8],
     header: &FitNumbers,
     objects: &[ObjectFields],
