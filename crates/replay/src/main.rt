@@ -543,7 +543,7 @@ fn run(rt: &HostRuntime, data: &[u8]) -> Tally {
     tally
 }
 
-// Zeros, for the kept sheets: what it holds does not matter to who has it by this call.
+// Zeros by a call: where a literal of this length is lent, the check would compute every element.
 fn blank() -> [u8; 524288] {
     [0u8; 524288]
 }

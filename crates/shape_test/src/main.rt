@@ -150,7 +150,7 @@ fn run(sheet: &mut [u8], rt: &HostRuntime) -> Tally {
     tally
 }
 
-// A sheet of zeros, longer than the longest: what it holds does not matter to who has it by this call.
+// Zeros by a call: where a literal of this length is lent, the check would compute every element.
 fn blank() -> [u8; 540672] {
     [0u8; 540672]
 }
