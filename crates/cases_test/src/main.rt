@@ -34,14 +34,12 @@ fn equal(text: &[u8; TEXT_BYTES], n: usize, expected: &[u8]) -> bool {
     if expected.len() != n {
         return false;
     }
-    let mut i = 0;
-    while i < n {
+    for i in 0..n {
         let found = text[i];
         let wanted = expected[i];
         if found != wanted {
             return false;
         }
-        i += 1;
     }
     true
 }

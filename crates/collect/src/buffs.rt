@@ -109,11 +109,9 @@ pub fn collect_buffs(
 {
     let mut a = used;
     let mut b = used_plain;
-    let mut i = 0;
     let end = count_of(pairs, TABLE_BUFFS);
-    while i < end {
+    for i in 0..end {
         let x = projected_buff(fit, pairs, i);
-        i += 1;
         let got = collect_buff(collected, collected_values, book, pairs, rooms, a, b, x);
         match got {
             Counted::At(k, l) => {

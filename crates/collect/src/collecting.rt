@@ -40,11 +40,10 @@ pub fn collect_modifiers(
 {
     let mut a = used;
     let mut b = used_plain;
-    let mut i = index(first);
-    let end = i + index(count);
-    while i < end {
+    let start = index(first);
+    let end = start + index(count);
+    for i in start..end {
         let m = modifier(book, pairs, i);
-        i += 1;
         let x = move_of(cause, m);
         let got = put(collected, collected_values, rooms, a, b, x);
         match got {
@@ -80,11 +79,10 @@ pub fn collect_own(
 {
     let mut a = used;
     let mut b = used_plain;
-    let mut i = index(e.first_modifier);
-    let end = i + index(e.modifiers);
-    while i < end {
+    let start = index(e.first_modifier);
+    let end = start + index(e.modifiers);
+    for i in start..end {
         let m = modifier(book, pairs, i);
-        i += 1;
         let x = own_move(w, e, category, m);
         let got = put(collected, collected_values, rooms, a, b, x);
         match got {

@@ -143,11 +143,9 @@ pub fn collect_effects(
     let total = own.count + base.count;
     let mut a = used;
     let mut b = used_plain;
-    let mut i = 0;
-    while i < total {
+    for i in 0..total {
         let t = effect_at(book, pairs, own, base, i);
         let over = is_doubled(book, pairs, own, i, t);
-        i += 1;
         if !over {
             let got = collect_effect(
                 collected,

@@ -124,10 +124,8 @@ fn collect_objects(
 {
     let mut a = used;
     let mut b = used_plain;
-    let mut i = first;
-    while i < end {
+    for i in first..end {
         let o = object(fit, pairs, i);
-        i += 1;
         let got = collect_object(
             collected,
             collected_values,

@@ -23,11 +23,10 @@ fn has_id(fit: &[u8], pairs: &TablePairs, first: u32, count: u32, id: i32) -> bo
     requires inside { first + count ≤ count_of pairs.now 8 }
     ensures defined { result ≡ some? (eq_z id) (span first count (fit_at fit pairs).ids) }
 {
-    let mut i = index(first);
-    let end = i + index(count);
-    while i < end {
+    let start = index(first);
+    let end = start + index(count);
+    for i in start..end {
         let x = id_at(fit, pairs, i);
-        i += 1;
         if id == x {
             return true;
         }

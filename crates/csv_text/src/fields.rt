@@ -31,11 +31,9 @@ fn any_special(text: &[u8]) -> bool
     ensures defined { result ≡ some? (λ b. special (class_of b)) text.now }
 {
     let mut found = false;
-    let mut i = 0;
-    while i < text.len() {
+    for i in 0..text.len() {
         let own = is_special(text[i]);
         found = found | own;
-        i += 1;
     }
     found
 }
@@ -60,11 +58,9 @@ fn put_doubled(out: &mut [u8], at: usize, text: &[u8]) -> usize
     ensures within { result ≤ at + 2 * length text.now }
 {
     let mut end = at;
-    let mut i = 0;
-    while i < text.len() {
+    for i in 0..text.len() {
         let b = text[i];
         end = put_twice(out, end, b);
-        i += 1;
     }
     end
 }

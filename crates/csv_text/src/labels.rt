@@ -52,11 +52,9 @@ fn all_allowed(text: &[u8]) -> bool
     ensures defined { result ≡ every? rule.allowed text.now }
 {
     let mut good = true;
-    let mut i = 0;
-    while i < text.len() {
+    for i in 0..text.len() {
         let own = is_allowed(text[i]);
         good = good & own;
-        i += 1;
     }
     good
 }
@@ -100,14 +98,12 @@ pub fn bad_label(labels: &[LabelRow], bytes: &[u8]) -> Table
     ensures defined { bad_label result ≡ label_bad bytes.now labels.now }
 {
     let clean = all_allowed(bytes);
-    let mut i = 0;
-    while i < labels.len() {
+    for i in 0..labels.len() {
         let after = stands(labels, i);
         let good = after & label_good(labels[i], bytes, clean);
         if !good {
             return Table::Bad(i);
         }
-        i += 1;
     }
     Table::Good
 }
@@ -157,13 +153,11 @@ pub fn part_of(labels: &[LabelRow], bytes: &[u8], id: i32) -> Part
 
 // The places of labels by their ids, told to the look-ups: of no promise.
 pub fn tell(places: &mut AttributePlaces, labels: &[LabelRow]) {
-    let mut i = 0;
-    while i < labels.len() {
+    for i in 0..labels.len() {
         let id = signed(labels[i][LABEL_ID]);
         let at = attribute_slot(id);
         let place = (i % 65536) as u16;
         places[at] = place;
-        i += 1;
     }
 }
 

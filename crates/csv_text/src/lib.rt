@@ -105,8 +105,7 @@ fn put_records(
     tell(&mut places, labels);
     let mut line = [0u8; LINE_BYTES];
     let mut end = put_text(text, 0, b"object,attribute,label,value\r\n");
-    let mut next = 0;
-    while next < n {
+    for next in 0..n {
         let row = rows[next];
         let value = values[next];
         let put = put_row(
@@ -127,7 +126,6 @@ fn put_records(
                 end = e;
             }
         }
-        next += 1;
     }
     Filled::To(end)
 }

@@ -21,12 +21,10 @@ pub fn base_total(fit: &[u8], pairs: &TablePairs) -> usize
 {
     let objects = count_of(pairs, TABLE_OBJECTS);
     let mut total: usize = 0;
-    let mut i = 0;
-    while i < objects {
+    for i in 0..objects {
         let o = object(fit, pairs, i);
         let attributes = index(o.attributes);
         total += attributes;
-        i += 1;
     }
     total
 }
@@ -36,13 +34,11 @@ fn has_row(rows: &[AttributeRow], n: usize, object: u32, attribute: u32) -> bool
     requires inside { n ≤ length rows.now }
     ensures defined { result ≡ some? (is_row object attribute) (take n rows.now) }
 {
-    let mut k = 0;
-    while k < n {
+    for k in 0..n {
         let row = rows[k];
         if (row[ROW_OBJECT] == object) & (row[ROW_ATTRIBUTE] == attribute) {
             return true;
         }
-        k += 1;
     }
     false
 }

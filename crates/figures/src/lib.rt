@@ -68,12 +68,10 @@ fn rows_figured(out: &mut [u8], rows: &[AttributeRow], values: &[f64], n: usize)
     ensures the_lines { (d : Done) → Shown d n rows.now values.now → Begins out.new result (figures_text (ok d)) }
 {
     let mut end = 0;
-    let mut next = 0;
-    while next < n {
+    for next in 0..n {
         let row = rows[next];
         let value = values[next];
         end = figure(out, end, row[ROW_OBJECT], signed(row[ROW_ATTRIBUTE]), value);
-        next += 1;
     }
     end
 }

@@ -45,8 +45,7 @@ fn standing(pairs: &TablePairs, first: usize, h: usize, n: usize) -> bool
 {
     let last = first + 5;
     let mut end = h;
-    let mut t = first;
-    while t < last {
+    for t in first..last {
         let count = count_of(pairs, t);
         let offset = offset_of(pairs, t);
         let limit = limit_of(t);
@@ -57,7 +56,6 @@ fn standing(pairs: &TablePairs, first: usize, h: usize, n: usize) -> bool
             return false;
         }
         end = offset + width_of(t) * count;
-        t += 1;
     }
     end == n
 }

@@ -34,9 +34,7 @@ pub fn store(table: &mut [Stretch], t: [Stretch; 17])
     requires room { 17 ≤ length table.old }
     ensures defined { table.new ≡ stored table.old t }
 {
-    let mut i = 0;
-    while i < 17 {
+    for i in 0..17 {
         table[i] = t[i];
-        i += 1;
     }
 }

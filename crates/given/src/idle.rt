@@ -191,8 +191,7 @@ pub fn idles_have_strength(
 {
     let first = index(rows[row][ROW_FIRST_ENTRY]);
     let count = index(rows[row][ROW_ENTRY_COUNT]);
-    let mut k: usize = 0;
-    while k < count {
+    for k in 0..count {
         let e = entry_at(entries, entry_values, first + k);
         let strong = has_strength(
             values,
@@ -207,7 +206,6 @@ pub fn idles_have_strength(
             entry_values,
             e,
         );
-        k += 1;
         if !strong {
             return false;
         }

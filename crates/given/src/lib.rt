@@ -191,8 +191,7 @@ pub fn first_wrong(
     ensures kept { KeptUnless result values }
 {
     let n = rows.len();
-    let mut i: usize = 0;
-    while i < n {
+    for i in 0..n {
         let right = is_right(
             values,
             book,
@@ -210,7 +209,6 @@ pub fn first_wrong(
         if !right {
             return Found::At(i);
         }
-        i += 1;
     }
     Found::Nothing
 }

@@ -62,12 +62,10 @@ pub fn set_listed(values: &mut [f64], listing: &[LineRow])
     ensures laid { Col shown_in listing.now values.old values.new }
 {
     let n = listing.len();
-    let mut i: usize = 0;
-    while i < n {
+    for i in 0..n {
         let line = listing[i];
         let x = listed_float(line[LINE_LOW], line[LINE_HIGH]);
         values[i] = x;
-        i += 1;
     }
 }
 
@@ -92,8 +90,7 @@ pub fn first_other(rows: &[AttributeRow], listing: &[LineRow]) -> Found
 {
     let n = rows.len();
     let lines = listing.len();
-    let mut i: usize = 0;
-    while i < n {
+    for i in 0..n {
         if lines <= i {
             return Found::At(i);
         }
@@ -103,7 +100,6 @@ pub fn first_other(rows: &[AttributeRow], listing: &[LineRow]) -> Found
         if !same {
             return Found::At(i);
         }
-        i += 1;
     }
     if n < lines {
         return Found::At(n);

@@ -104,11 +104,9 @@ pub fn required_skills(fit: &[u8], pairs: &TablePairs, i: usize) -> SkillRow
     let first = index(o.first_attribute);
     let n = index(o.attributes);
     let mut row = [NO_SKILL; SKILL_WIDTH];
-    let mut k = 0;
-    while k < n {
+    for k in 0..n {
         let b = base_attribute(fit, pairs, first + k);
         let slot = slot_of(b.attribute_id);
-        k += 1;
         if slot < SKILL_WIDTH {
             let skill = bits(cut(b.value));
             row[slot] = skill as u64;
@@ -124,11 +122,9 @@ pub fn skill_table(rows: &mut [SkillRow], fit: &[u8], pairs: &TablePairs)
     ensures defined { SkillsAt fit pairs rows.new }
 {
     let objects = count_of(pairs, TABLE_OBJECTS);
-    let mut i = 0;
-    while i < objects {
+    for i in 0..objects {
         let row = required_skills(fit, pairs, i);
         rows[i] = row;
-        i += 1;
     }
 }
 
@@ -140,10 +136,8 @@ pub fn reach_table(rows: &mut [ReachRow], book: &[u8], fit: &[u8], pairs: &Table
     ensures defined { ReachAt (book_at book pairs) fit pairs rows.new }
 {
     let objects = count_of(pairs, TABLE_OBJECTS);
-    let mut i = 0;
-    while i < objects {
+    for i in 0..objects {
         let row = reach_of(book, fit, pairs, i);
         rows[i] = row;
-        i += 1;
     }
 }

@@ -12,12 +12,10 @@ fn mark(wanted: &mut SkillMarks, row: SkillRow)
     requires even { length wanted.old ≡ 1024 }
     ensures defined { Marking wanted.old wanted.new row 6 }
 {
-    let mut k = 0;
-    while k < SKILL_WIDTH {
+    for k in 0..SKILL_WIDTH {
         let required = row[k];
         let at = (required % 1024) as usize;
         wanted[at] = 1;
-        k += 1;
     }
 }
 
@@ -27,11 +25,9 @@ pub fn wanted_of(skills: &[SkillRow], objects: usize) -> SkillMarks
     ensures marked { AllMarked objects result skills.now }
 {
     let mut wanted = [0u8; SKILL_MARKS];
-    let mut i = 0;
-    while i < objects {
+    for i in 0..objects {
         let row = skills[i];
         mark(&mut wanted, row);
-        i += 1;
     }
     wanted
 }

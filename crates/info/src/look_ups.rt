@@ -80,13 +80,11 @@ fn lower(b: &[u8], at: usize, w: usize, n: usize, id: i32) -> usize
     ensures defined { Lower b.now at w n id result }
 {
     let window = narrowed(b, at, w, n, id);
-    let mut k = window.low;
-    let end = k + window.left;
-    let mut found = k;
-    while k < end {
+    let end = window.low + window.left;
+    let mut found = window.low;
+    for k in window.low..end {
         let key = key_at(b, at, w, k);
         found = found + step(1, key < id);
-        k += 1;
     }
     found
 }

@@ -35,13 +35,11 @@ fn tell_effects(places: &mut EffectPlaces, book: &[u8], pairs: &TablePairs)
     requires held_book { HeldBook book.now pairs.now }
 {
     let n = count_of(pairs, TABLE_EFFECTS);
-    let mut i = 0;
-    while i < n {
+    for i in 0..n {
         let e = effect(book, pairs, i);
         let at = effect_slot(e.id);
         let place = i as u16;
         places[at][PLACE_EFFECT] = place;
-        i += 1;
     }
 }
 
@@ -76,13 +74,11 @@ pub fn attribute_places(book: &[u8], pairs: &TablePairs) -> AttributePlaces
 {
     let mut places = [0u16; ATTRIBUTE_SLOTS];
     let n = count_of(pairs, TABLE_ATTRIBUTES);
-    let mut i = 0;
-    while i < n {
+    for i in 0..n {
         let a = attribute(book, pairs, i);
         let at = attribute_slot(a.id);
         let place = i as u16;
         places[at] = place;
-        i += 1;
     }
     places
 }

@@ -19,12 +19,10 @@ fn attributes_good(attributes: &[AttributeFields], defaults: &[f64]) -> bool
     ensures defined { result ≡ attributes_good (attributes_alone attributes.now defaults.now) }
 {
     let mut last = 0;
-    let mut i = 0usize;
-    while i < attributes.len() {
+    for i in 0usize..attributes.len() {
         let r = attribute(attributes, defaults, i);
         let good = attribute_good(i, last, r);
         last = r.id;
-        i += 1;
         if !good {
             return false;
         }
@@ -39,12 +37,10 @@ fn effects_good(effects: &[EffectFields], modifiers: &[ModifierFields]) -> bool
 {
     let count = modifiers.len();
     let mut last = 0;
-    let mut i = 0usize;
-    while i < effects.len() {
+    for i in 0usize..effects.len() {
         let r = effect(effects, i);
         let good = effect_good(i, last, r, count);
         last = r.id;
-        i += 1;
         if !good {
             return false;
         }
@@ -57,12 +53,10 @@ fn type_effects_good(type_effects: &[TypeEffectFields]) -> bool
     ensures defined { result ≡ type_effects_good (type_effects_alone type_effects.now) }
 {
     let mut last = 0;
-    let mut i = 0usize;
-    while i < type_effects.len() {
+    for i in 0usize..type_effects.len() {
         let r = type_effect(type_effects, i);
         let good = type_effect_good(i, last, r);
         last = r.type_id;
-        i += 1;
         if !good {
             return false;
         }
@@ -80,12 +74,10 @@ fn buff_collections_good(
 {
     let count = modifiers.len();
     let mut last = 0;
-    let mut i = 0usize;
-    while i < buff_collections.len() {
+    for i in 0usize..buff_collections.len() {
         let r = buff_collection(buff_collections, i);
         let good = buff_collection_good(i, last, r, count);
         last = r.id;
-        i += 1;
         if !good {
             return false;
         }

@@ -25,14 +25,12 @@ fn objects_good(objects: &[ObjectFields], base_attributes: &[u32], ids: &[u32]) 
     let bases = base_attributes.len();
     let count = ids.len();
     let mut last = SHIP;
-    let mut i = 0usize;
-    while i < objects.len() {
+    for i in 0usize..objects.len() {
         let o = object(objects, i);
         let kind = o.kind;
         let standing = stands(i, last, kind);
         let good = standing & object_good(o, bases, count);
         last = kind;
-        i += 1;
         if !good {
             return false;
         }
@@ -44,11 +42,9 @@ fn objects_good(objects: &[ObjectFields], base_attributes: &[u32], ids: &[u32]) 
 fn all_finite(values: &[f64]) -> bool
     ensures defined { result ≡ every? finite values.now }
 {
-    let mut i = 0usize;
-    while i < values.len() {
+    for i in 0usize..values.len() {
         let x = values[i];
         let good = is_finite(x);
-        i += 1;
         if !good {
             return false;
         }
@@ -63,12 +59,10 @@ fn range_ascends(base_attributes: &[u32], base_values: &[f64], first: usize, n: 
     ensures defined { result ≡ ascends (map (λ x. x.attribute_id) (span first n (bases_alone [] base_attributes.now base_values.now).bases)) }
 {
     let mut last = 0;
-    let mut i = 0usize;
-    while i < n {
+    for i in 0usize..n {
         let r = base_attribute(base_attributes, base_values, first + i);
         let good = base_attribute_stands(i, last, r);
         last = r.attribute_id;
-        i += 1;
         if !good {
             return false;
         }
@@ -89,13 +83,11 @@ fn bases_ascend(
     ensures defined { let f = bases_alone objects.now base_attributes.now base_values.now in
         result ≡ every? (range_ascends f) f.objects }
 {
-    let mut i = 0usize;
-    while i < objects.len() {
+    for i in 0usize..objects.len() {
         let o = object(objects, i);
         let first = index(o.first_attribute);
         let count = index(o.attributes);
         let good = range_ascends(base_attributes, base_values, first, count);
-        i += 1;
         if !good {
             return false;
         }
@@ -108,12 +100,10 @@ fn asks_good(asks: &[AskFields], objects: &[ObjectFields]) -> bool
     ensures defined { result ≡ asks_good (asks_alone asks.now objects.now) }
 {
     let count = objects.len();
-    let mut i = 0usize;
-    while i < asks.len() {
+    for i in 0usize..asks.len() {
         let a = ask(asks, i);
         let o = index(a.object);
         let good = o < count;
-        i += 1;
         if !good {
             return false;
         }

@@ -141,10 +141,8 @@ pub fn zero_bytes(bytes: &mut [u8], from: usize)
     ensures cleared { ClearedFrom bytes 0 from }
 {
     let n = bytes.len();
-    let mut i = from;
-    while i < n {
+    for i in from..n {
         bytes[i] = 0;
-        i += 1;
     }
 }
 
@@ -193,12 +191,10 @@ fn rows_listed(out: &mut [u8], rows: &[AttributeRow], values: &[f64], n: usize) 
     ensures the_lines { (d : Done) → Shown d n rows.now values.now → Begins out.new result (listing (ok d)) }
 {
     let mut end = head(out, n as u64);
-    let mut next = 0;
-    while next < n {
+    for next in 0..n {
         let row = rows[next];
         let value = values[next];
         end = line(out, end, row[ROW_OBJECT], signed(row[ROW_ATTRIBUTE]), value);
-        next += 1;
     }
     end
 }

@@ -64,10 +64,8 @@ fn meet(
     let at = index(work[head][WORK_PLACED]);
     let slots = slots_of(rows, at);
     let mut last = end;
-    let mut s: usize = 0;
-    while s < slots {
+    for s in 0..slots {
         let found = need_at(book, pairs, stretches, limits, rows, entries, at, s);
-        s += 1;
         match found {
             Found::Nothing => {}
             Found::At(k) => {
@@ -100,12 +98,10 @@ pub fn leads_back(
     ensures earlier { Earlier (length rows.now) (row + 1) work.new }
 {
     let mut end = queued(work, row, row as u32 + 1, 0);
-    let mut head: usize = 0;
-    while head < end {
+    for head in 0..end {
         let met = meet(
             work, book, pairs, stretches, limits, rows, entries, row, head, end,
         );
-        head += 1;
         match met {
             Met::Back => return true,
             Met::To(e) => end = e,
@@ -130,13 +126,11 @@ pub fn lowest(
 {
     let n = rows.len();
     unmet(work, n);
-    let mut i: usize = 0;
-    while i < n {
+    for i in 0..n {
         let back = leads_back(work, book, pairs, stretches, limits, rows, entries, i);
         if back {
             return Looped::At(rows[i][ROW_OBJECT]);
         }
-        i += 1;
     }
     Looped::Nothing
 }

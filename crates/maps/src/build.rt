@@ -102,10 +102,8 @@ fn mark_keys(
         → MadeBy result width location (and_keys has (keep is_key keys) i) (firsts ks (keep is_key keys)) words.new heads.new }
 {
     let mut n = maps;
-    let mut k = 0;
-    while k < KEY_WIDTH {
+    for k in 0..KEY_WIDTH {
         let key = keys[k];
-        k += 1;
         if key != NO_SKILL {
             let made = mark(words, heads, width, n, key, i);
             let Made::Maps(m) = made else {
@@ -123,11 +121,9 @@ fn mark_columns(words: &mut [u64], width: usize, row: ReachRow, i: usize)
     ensures marked { (location has : ℕ → ℕ → Bool) (ks hs : List ℕ) → Mapped width location has ks words.old hs
         → Mapped width (and_columns location row 6 i) has ks words.new hs }
 {
-    let mut c = 0;
-    while c < LOCATIONS {
+    for c in 0..LOCATIONS {
         let at = c * width;
         let flag = row[c];
-        c += 1;
         if flag != 0 {
             set_bit(words, at, i);
         }
@@ -202,14 +198,12 @@ pub fn build(
     }
     clear_map(words, 0, all);
     let mut n = 0;
-    let mut i = 0;
-    while i < objects {
+    for i in 0..objects {
         let made = mark_object(words, heads, book, fit, pairs, width, n, i);
         let Made::Maps(m) = made else {
             return 0;
         };
         n = m;
-        i += 1;
     }
     head_of(width, n)
 }

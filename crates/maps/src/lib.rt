@@ -71,14 +71,12 @@ pub fn entries_added(words: &[u64], c: Cut) -> usize
     let b = c.test;
     let n = c.words;
     let mut total: usize = 0;
-    let mut w: usize = 0;
-    while w < n {
+    for w in 0..n {
         let x = words[a + w];
         let y = words[b + w];
         let cut = x & y;
         let ones = u64::count_ones(cut);
         total += ones as usize;
-        w += 1;
     }
     total
 }
@@ -88,10 +86,8 @@ pub fn clear_map(words: &mut [u64], at: usize, n: usize)
     requires inside { at + n ≤ length words.old }
     ensures cleared { Zeroed at n words.old words.new }
 {
-    let mut k = 0;
-    while k < n {
+    for k in 0..n {
         words[at + k] = 0;
-        k += 1;
     }
 }
 

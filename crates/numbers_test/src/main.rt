@@ -28,11 +28,9 @@ fn field(s: &[u8], at: usize) -> u64
     requires inside { at + 16 ≤ length s.now }
 {
     let mut n: u64 = 0;
-    let mut i: usize = 0;
-    while i < 16 {
+    for i in 0..16 {
         let d = digit(s[at + i]);
         n = n % 0x1000_0000_0000_0000 * 16 + d;
-        i += 1;
     }
     n
 }

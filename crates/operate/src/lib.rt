@@ -192,11 +192,9 @@ pub fn put_copies(
 {
     let mut n = count;
     let mut source = first;
-    let mut k: u32 = 0;
-    while k < copies {
+    for _ in 0..copies {
         n = insert(values, sources, n, x, source);
         source += step;
-        k += 1;
     }
     n
 }

@@ -63,10 +63,8 @@ pub fn unmet(work: &mut [WorkRow], n: usize)
     requires inside { n ≤ length work.old }
     ensures unmet { Unmet n work.new }
 {
-    let mut k: usize = 0;
-    while k < n {
+    for k in 0..n {
         work[k] = [0, 0, 0, 0];
-        k += 1;
     }
 }
 
@@ -231,14 +229,12 @@ pub fn ordered(
         depth: 0,
         placed: 0,
     };
-    let mut k: usize = 0;
-    while k < turns {
+    for _ in 0..turns {
         let next = walk.next;
         if n <= next {
             return true;
         }
         let to = turn(work, book, pairs, stretches, limits, rows, entries, walk);
-        k += 1;
         match to {
             Turned::On(w) => walk = w,
             Turned::Stop => return false,

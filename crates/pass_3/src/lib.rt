@@ -351,11 +351,9 @@ fn operated(
     let mut value = bases[row];
     let mut own: u32 = 0;
     let mut u = used;
-    let mut code: u32 = 0;
-    while code < 9 {
+    for code in 0u32..9 {
         let operator = operator_of(code);
         let mark = marks[code as usize];
-        code += 1;
         if mark != 0 {
             let part = gathered(
                 values,
@@ -459,8 +457,7 @@ fn gathered(
     let mut negatives = [0.0; 8];
     let mut negative_sources = [0u32; 8];
     let mut p = empty(found, own, used);
-    let mut k: usize = 0;
-    while k < count {
+    for k in 0..count {
         p = with_entry(
             values,
             sources,
@@ -486,7 +483,6 @@ fn gathered(
             left,
             p,
         );
-        k += 1;
         let stop = p.stop;
         match stop {
             Stop::No => {}

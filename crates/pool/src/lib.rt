@@ -63,8 +63,7 @@ fn overlaps_lower(stretches: &PoolStretches, p: usize, list: usize) -> bool
         result ≡ some? (λ q. rule.overlaps (stretch_at ss p list) (stretch_at ss q list)) (from 0 p) }
 {
     let own = stretches[p][list];
-    let mut q = 0;
-    while q < p {
+    for q in 0..p {
         let other = stretches[q][list];
         if overlaps(
             own[POOL_FIRST],
@@ -74,7 +73,6 @@ fn overlaps_lower(stretches: &PoolStretches, p: usize, list: usize) -> bool
         ) {
             return true;
         }
-        q += 1;
     }
     false
 }
@@ -96,12 +94,10 @@ fn astray(stretches: &PoolStretches, rooms: &PoolRooms, p: usize) -> bool
     requires a_pilot { p < 16 }
     ensures defined { result ≡ rule.astray rooms.now stretches.now p }
 {
-    let mut list = 0;
-    while list < LISTS {
+    for list in 0..LISTS {
         if astray_in(stretches, rooms, p, list) {
             return true;
         }
-        list += 1;
     }
     false
 }
@@ -111,13 +107,11 @@ fn has_row(stretches: &PoolStretches, p: usize) -> bool
     requires a_pilot { p < 16 }
     ensures defined { result ≡ rule.has_row stretches.now p }
 {
-    let mut list = 0;
-    while list < LISTS {
+    for list in 0..LISTS {
         let length = stretches[p][list][POOL_LENGTH];
         if 0 < length {
             return true;
         }
-        list += 1;
     }
     false
 }
@@ -140,12 +134,10 @@ pub fn pool(stretches: &PoolStretches, rooms: &PoolRooms, pilot: u32) -> Pooled
     if !seated(stretches, pilot) {
         return Pooled::Refused(pilot);
     }
-    let mut p = 0;
-    while p < PILOTS {
+    for p in 0..PILOTS {
         if astray(stretches, rooms, p) {
             return Pooled::Refused(p as u32);
         }
-        p += 1;
     }
     Pooled::Lent
 }

@@ -46,15 +46,13 @@ pub fn put_attributes(
     ensures end { result ≡ at + 24 * length attributes.now }
 {
     let mut place = at;
-    let mut k = 0usize;
-    while k < attributes.len() {
+    for k in 0usize..attributes.len() {
         let numbers = attributes[k];
         let value = defaults[k];
         four(numbers);
         let middle = put_words(bytes, place, &numbers[..2]);
         let back = put_float(bytes, middle, value);
         place = put_words(bytes, back, &numbers[2..]);
-        k += 1;
     }
     place
 }
@@ -66,12 +64,10 @@ pub fn put_effects(bytes: &mut [u8], at: usize, effects: &[EffectFields]) -> usi
     ensures end { result ≡ at + 24 * length effects.now }
 {
     let mut place = at;
-    let mut k = 0usize;
-    while k < effects.len() {
+    for k in 0usize..effects.len() {
         let numbers = effects[k];
         six(numbers);
         place = put_words(bytes, place, &numbers);
-        k += 1;
     }
     place
 }
@@ -83,12 +79,10 @@ pub fn put_modifiers(bytes: &mut [u8], at: usize, modifiers: &[ModifierFields]) 
     ensures end { result ≡ at + 28 * length modifiers.now }
 {
     let mut place = at;
-    let mut k = 0usize;
-    while k < modifiers.len() {
+    for k in 0usize..modifiers.len() {
         let numbers = modifiers[k];
         seven(numbers);
         place = put_words(bytes, place, &numbers);
-        k += 1;
     }
     place
 }
@@ -100,12 +94,10 @@ pub fn put_type_effects(bytes: &mut [u8], at: usize, type_effects: &[TypeEffectF
     ensures end { result ≡ at + 12 * length type_effects.now }
 {
     let mut place = at;
-    let mut k = 0usize;
-    while k < type_effects.len() {
+    for k in 0usize..type_effects.len() {
         let numbers = type_effects[k];
         three(numbers);
         place = put_words(bytes, place, &numbers);
-        k += 1;
     }
     place
 }
@@ -121,12 +113,10 @@ pub fn put_buff_collections(
     ensures end { result ≡ at + 16 * length buff_collections.now }
 {
     let mut place = at;
-    let mut k = 0usize;
-    while k < buff_collections.len() {
+    for k in 0usize..buff_collections.len() {
         let numbers = buff_collections[k];
         four(numbers);
         place = put_words(bytes, place, &numbers);
-        k += 1;
     }
     place
 }
@@ -138,12 +128,10 @@ pub fn put_objects(bytes: &mut [u8], at: usize, objects: &[ObjectFields]) -> usi
     ensures end { result ≡ at + 68 * length objects.now }
 {
     let mut place = at;
-    let mut k = 0usize;
-    while k < objects.len() {
+    for k in 0usize..objects.len() {
         let numbers = objects[k];
         seventeen(numbers);
         place = put_words(bytes, place, &numbers);
-        k += 1;
     }
     place
 }
@@ -155,12 +143,10 @@ pub fn put_asks(bytes: &mut [u8], at: usize, asks: &[AskFields]) -> usize
     ensures end { result ≡ at + 8 * length asks.now }
 {
     let mut place = at;
-    let mut k = 0usize;
-    while k < asks.len() {
+    for k in 0usize..asks.len() {
         let numbers = asks[k];
         two(numbers);
         place = put_words(bytes, place, &numbers);
-        k += 1;
     }
     place
 }
@@ -173,13 +159,11 @@ pub fn put_values(bytes: &mut [u8], at: usize, ids: &[u32], values: &[f64]) -> u
     ensures end { result ≡ at + 12 * length ids.now }
 {
     let mut place = at;
-    let mut k = 0usize;
-    while k < ids.len() {
+    for k in 0usize..ids.len() {
         let id = ids[k];
         let value = values[k];
         let next = put_word(bytes, place, id);
         place = put_float(bytes, next, value);
-        k += 1;
     }
     place
 }

@@ -22,11 +22,9 @@ pub fn put_words(bytes: &mut [u8], at: usize, numbers: &[u32]) -> usize
     ensures written { Added bytes at result (words numbers.now) }
 {
     let mut place = at;
-    let mut i = 0usize;
-    while i < numbers.len() {
+    for i in 0usize..numbers.len() {
         let x = numbers[i];
         place = put_word(bytes, place, x);
-        i += 1;
     }
     place
 }

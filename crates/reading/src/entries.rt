@@ -119,10 +119,8 @@ pub fn operators_in(entries: &[EntryRow], first: usize, end: usize) -> OperatorM
     ensures marked { (c : ℕ) → c < 9 → is_marked result c ≡ some? (has_code c) (span first (end - first) entries.now) }
 {
     let mut marks = [0u32; OPERATORS];
-    let mut i = first;
-    while i < end {
+    for i in first..end {
         let code = index(entries[i][ENTRY_OPERATOR]);
-        i += 1;
         if code < OPERATORS {
             marks[code] = 1;
         }

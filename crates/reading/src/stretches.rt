@@ -69,8 +69,7 @@ pub fn set_stretches(rows: &[AttributeRow]) -> Stretches
     let none = [n, n];
     let mut stretches = [none; OBJECTS];
     let mut first: usize = 0;
-    let mut object: u32 = 0;
-    while object < 1024 {
+    for object in 0u32..1024 {
         if rows.len() <= first {
             return stretches;
         }
@@ -78,7 +77,6 @@ pub fn set_stretches(rows: &[AttributeRow]) -> Stretches
         let at = index(object);
         stretches[at] = [first as u32, end as u32];
         first = end;
-        object += 1;
     }
     stretches
 }
@@ -98,11 +96,9 @@ pub fn set_limits(book: &[u8], pairs: &TablePairs) -> Limits
 {
     let attributes = count_of(pairs, TABLE_ATTRIBUTES);
     let mut marks = [0u32; LIMIT_MARKS];
-    let mut i = 0;
-    while i < attributes {
+    for i in 0..attributes {
         let a = attribute(book, pairs, i);
         let at = index(bits(a.id) % 1024);
-        i += 1;
         if (a.min_attribute_id != 0) | (a.max_attribute_id != 0) {
             marks[at] = 1;
         }

@@ -92,11 +92,9 @@ fn see(seen: Seen, data: &[u8], found: u64, kept: bool) -> Seen {
 
 fn see_row(seen: Seen, data: &[u8], row: &[u32], kept: bool) -> Seen {
     let mut so_far = seen;
-    let mut k = 0;
-    while k < row.len() {
+    for k in 0..row.len() {
         let found = row[k];
         so_far = see(so_far, data, wide(found), kept);
-        k += 1;
     }
     so_far
 }
@@ -114,11 +112,9 @@ fn see_row_2(seen: Seen, data: &[u8], row: [u32; 2], kept: bool) -> Seen {
 
 fn see_2(seen: Seen, data: &[u8], column: &[[u32; 2]], count: usize) -> Seen {
     let mut so_far = seen;
-    let mut i = 0;
-    while i < column.len() {
+    for i in 0..column.len() {
         let row = column[i];
         so_far = see_row_2(so_far, data, row, i < count);
-        i += 1;
     }
     so_far
 }
@@ -129,11 +125,9 @@ fn see_attribute_row(seen: Seen, data: &[u8], row: AttributeRow, kept: bool) -> 
 
 fn see_rows(seen: Seen, data: &[u8], column: &[AttributeRow], count: usize) -> Seen {
     let mut so_far = seen;
-    let mut i = 0;
-    while i < column.len() {
+    for i in 0..column.len() {
         let row = column[i];
         so_far = see_attribute_row(so_far, data, row, i < count);
-        i += 1;
     }
     so_far
 }
@@ -144,11 +138,9 @@ fn see_source_row(seen: Seen, data: &[u8], row: SourceRow, kept: bool) -> Seen {
 
 fn see_sources(seen: Seen, data: &[u8], column: &[SourceRow], count: usize) -> Seen {
     let mut so_far = seen;
-    let mut i = 0;
-    while i < column.len() {
+    for i in 0..column.len() {
         let row = column[i];
         so_far = see_source_row(so_far, data, row, i < count);
-        i += 1;
     }
     so_far
 }
@@ -159,11 +151,9 @@ fn see_entry_row(seen: Seen, data: &[u8], row: EntryRow, kept: bool) -> Seen {
 
 fn see_entries(seen: Seen, data: &[u8], column: &[EntryRow], count: usize) -> Seen {
     let mut so_far = seen;
-    let mut i = 0;
-    while i < column.len() {
+    for i in 0..column.len() {
         let row = column[i];
         so_far = see_entry_row(so_far, data, row, i < count);
-        i += 1;
     }
     so_far
 }
@@ -174,34 +164,28 @@ fn see_collected_row(seen: Seen, data: &[u8], row: CollectedRow, kept: bool) -> 
 
 fn see_collected(seen: Seen, data: &[u8], column: &[CollectedRow], count: usize) -> Seen {
     let mut so_far = seen;
-    let mut i = 0;
-    while i < column.len() {
+    for i in 0..column.len() {
         let row = column[i];
         so_far = see_collected_row(so_far, data, row, i < count);
-        i += 1;
     }
     so_far
 }
 
 fn see_floats(seen: Seen, data: &[u8], column: &[f64], count: usize) -> Seen {
     let mut so_far = seen;
-    let mut i = 0;
-    while i < column.len() {
+    for i in 0..column.len() {
         let found = column[i];
         so_far = see_float(so_far, data, found, i < count);
-        i += 1;
     }
     so_far
 }
 
 fn see_pairs(seen: Seen, data: &[u8], column: &[SourceFloats], count: usize) -> Seen {
     let mut so_far = seen;
-    let mut i = 0;
-    while i < column.len() {
+    for i in 0..column.len() {
         let pair = column[i];
         let first = see_float(so_far, data, pair[0], i < count);
         so_far = see_float(first, data, pair[1], i < count);
-        i += 1;
     }
     so_far
 }

@@ -140,8 +140,7 @@ pub fn all_lists(
     let objects = count_of(pairs, TABLE_OBJECTS);
     let mut n: usize = 0;
     let mut from: usize = 0;
-    let mut i: usize = 0;
-    while i < objects {
+    for i in 0..objects {
         let end = index(ends[i]);
         let got = object_lists(
             &mut rows[n..room],
@@ -163,7 +162,6 @@ pub fn all_lists(
         };
         n += more;
         from = end;
-        i += 1;
     }
     Laid::Rows(n)
 }

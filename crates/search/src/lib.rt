@@ -35,13 +35,11 @@ pub fn lower(rows: &[AttributeRow], id: i32) -> usize
     ensures defined { Lower rows.now id result result }
 {
     let window = narrowed(rows, id);
-    let mut k = window.low;
-    let end = k + window.left;
-    let mut found = k;
-    while k < end {
+    let end = window.low + window.left;
+    let mut found = window.low;
+    for k in window.low..end {
         let own = signed(rows[k][ROW_ATTRIBUTE]);
         found = found + step(1, own < id);
-        k += 1;
     }
     found
 }

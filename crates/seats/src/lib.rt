@@ -70,12 +70,10 @@ fn same_five(stretches: &PoolStretches, p: usize) -> bool
 fn differ(stretches: &PoolStretches) -> bool
     ensures defined { result ≡ some? (λ p. not (same_five stretches.now p)) (from 0 16) }
 {
-    let mut p = 0;
-    while p < PILOTS {
+    for p in 0..PILOTS {
         if !same_five(stretches, p) {
             return true;
         }
-        p += 1;
     }
     false
 }
@@ -99,11 +97,9 @@ fn ordered(t: [Stretch; 17], n: usize) -> bool
     requires few { n ≤ 17 }
     ensures defined { result ≡ apart (take n t) }
 {
-    let mut i = 0;
-    while i < n {
+    for i in 0..n {
         let long = t[i].length;
         let touching = touches(t, n, i);
-        i += 1;
         if (long == 0) | touching {
             return false;
         }
@@ -120,10 +116,8 @@ fn with_free(t: [Stretch; 17], n: usize) -> [Stretch; 33]
         start: 0,
         length: 0,
     }; 33];
-    let mut i = 0;
-    while i < n {
+    for i in 0..n {
         all[i] = t[i];
-        i += 1;
     }
     all
 }
@@ -133,8 +127,7 @@ fn with_pilots(free: [Stretch; 33], stretches: &PoolStretches) -> [Stretch; 33]
     ensures defined { result ≡ take 17 free ++ map (seat_of stretches.now) (from 0 16) }
 {
     let mut all = free;
-    let mut p = 0;
-    while p < PILOTS {
+    for p in 0..PILOTS {
         let low = stretches[p][0][POOL_FIRST];
         let long = stretches[p][0][POOL_LENGTH];
         let i = p + 17;
@@ -142,7 +135,6 @@ fn with_pilots(free: [Stretch; 33], stretches: &PoolStretches) -> [Stretch; 33]
             start: low,
             length: long,
         };
-        p += 1;
     }
     all
 }
@@ -151,14 +143,12 @@ fn with_pilots(free: [Stretch; 33], stretches: &PoolStretches) -> [Stretch; 33]
 fn all_inside(all: [Stretch; 33], pool: usize) -> bool
     ensures defined { result ≡ every? (inside pool) all }
 {
-    let mut i = 0;
-    while i < 33 {
+    for i in 0..33 {
         let start = all[i].start;
         let long = all[i].length;
         if leaves(pool, start, long) {
             return false;
         }
-        i += 1;
     }
     true
 }
@@ -170,14 +160,12 @@ fn clear_later(all: [Stretch; 33], i: usize) -> bool
 {
     let start = all[i].start;
     let long = all[i].length;
-    let mut j = i + 1;
-    while j < 33 {
+    for j in i + 1..33 {
         let other = all[j].start;
         let other_long = all[j].length;
         if overlaps(start, long, other, other_long) {
             return false;
         }
-        j += 1;
     }
     true
 }
@@ -186,12 +174,10 @@ fn clear_later(all: [Stretch; 33], i: usize) -> bool
 fn all_clear(all: [Stretch; 33]) -> bool
     ensures defined { result ≡ clear_of all }
 {
-    let mut i = 0;
-    while i < 33 {
+    for i in 0..33 {
         if !clear_later(all, i) {
             return false;
         }
-        i += 1;
     }
     true
 }
@@ -201,11 +187,9 @@ fn total(all: [Stretch; 33]) -> usize
     ensures defined { result ≡ lengths all }
 {
     let mut sum = 0;
-    let mut i = 0;
-    while i < 33 {
+    for i in 0..33 {
         let long = wide(all[i].length);
         sum += long;
-        i += 1;
     }
     sum
 }
@@ -236,12 +220,10 @@ fn first_long(t: [Stretch; 17], n: usize, wanted: u32) -> usize
     requires few { n ≤ 17 }
     ensures defined { result ≡ first_from t wanted 0 n }
 {
-    let mut i = 0;
-    while i < n {
+    for i in 0..n {
         if wanted <= t[i].length {
             return i;
         }
-        i += 1;
     }
     n
 }
@@ -252,10 +234,8 @@ fn shut(t: [Stretch; 17], n: usize, i: usize) -> [Stretch; 17]
     ensures defined { result ≡ shut_of t n i }
 {
     let mut u = t;
-    let mut j = i + 1;
-    while j < n {
+    for j in i + 1..n {
         u[j - 1] = u[j];
-        j += 1;
     }
     u[n - 1] = Stretch {
         start: 0,
@@ -359,12 +339,10 @@ fn first_behind(t: [Stretch; 17], n: usize, start: u32) -> usize
     requires few { n ≤ 17 }
     ensures defined { result ≡ place_of start (take n t) }
 {
-    let mut i = 0;
-    while i < n {
+    for i in 0..n {
         if start < t[i].start {
             return i;
         }
-        i += 1;
     }
     n
 }
@@ -392,13 +370,11 @@ fn emptied(t: [Stretch; 17], n: usize) -> [Stretch; 17]
     ensures defined { result ≡ replicate n empty ++ drop n t }
 {
     let mut u = t;
-    let mut i = 0;
-    while i < n {
+    for i in 0..n {
         u[i] = Stretch {
             start: 0,
             length: 0,
         };
-        i += 1;
     }
     u
 }

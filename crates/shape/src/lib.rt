@@ -49,8 +49,7 @@ fn placed(pairs: &TablePairs, n: usize) -> bool
     ensures defined { result ≡ every? (rule.placed pairs.now) (from 0 10) && eqb (end_of pairs.now 10) n }
 {
     let mut end = 100;
-    let mut t = 0;
-    while t < 10 {
+    for t in 0..10 {
         let count = count_of(pairs, t + 1);
         let offset = offset_of(pairs, t + 1);
         let limit = limit_of(t + 1);
@@ -61,7 +60,6 @@ fn placed(pairs: &TablePairs, n: usize) -> bool
             return false;
         }
         end = offset + width_of(t + 1) * count;
-        t += 1;
     }
     end == n
 }

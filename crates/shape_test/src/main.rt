@@ -42,12 +42,10 @@ fn put(sheet: &mut [u8], at: usize, x: u32) {
 fn put_all(sheet: &mut [u8], at: u32, x: u32, n: u32, stride: u32, more: u32) {
     let mut place = at;
     let mut value = x;
-    let mut k = 0;
-    while k < n {
+    for _ in 0..n {
         put(sheet, index(place), value);
         place = wrapping_add_u32(place, stride);
         value = wrapping_add_u32(value, more);
-        k += 1;
     }
 }
 

@@ -34,11 +34,9 @@ pub fn set_penalties(floats: &mut [SourceFloats], run: Recording, first: u32, b:
     let count = b.count;
     let sources = b.sources;
     let n = kept(count);
-    let mut p: usize = 0;
-    while p < n {
+    for p in 0..n {
         let source = sources[p];
         let penalty = weight(p);
         set_penalty(floats, run, first, source, penalty);
-        p += 1;
     }
 }

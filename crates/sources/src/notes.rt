@@ -50,10 +50,8 @@ fn note_copies(
 {
     let mut a = own;
     let mut b = used;
-    let mut n: u32 = 0;
-    while n < copies {
+    for _ in 0..copies {
         let got = note(sources, floats, run, first, s, a, b);
-        n += 1;
         match got {
             Noted::At(x, y) => {
                 a = x;

@@ -43,14 +43,12 @@ fn sources_of_row(
     ensures few { result ≤ count * 9 }
 {
     let mut total: usize = 0;
-    let mut i: usize = 0;
-    while i < count {
+    for i in 0..count {
         let e = entry_at(entries, values, first + i);
         let origin = e.origin;
         let running = is_running(states, origin);
         let more = sources_of(e, running);
         total += more as usize;
-        i += 1;
     }
     total
 }
@@ -78,8 +76,7 @@ pub fn set_sources(
         → rows.new ≡ planned_numbers 0 0 rs (counts_by states.now rs) ++ drop n rows.old }
 {
     let mut first: u32 = 0;
-    let mut k: usize = 0;
-    while k < n {
+    for k in 0..n {
         let r = rows[k];
         let sources = sources_of_row(
             entries,
@@ -99,6 +96,5 @@ pub fn set_sources(
             count,
         ];
         first = end;
-        k += 1;
     }
 }

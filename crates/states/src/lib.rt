@@ -68,10 +68,8 @@ pub fn has_effect(
     ensures defined { result ≡ among (span first count (book_at book pairs).type_effects) t }
 {
     let end = first + count;
-    let mut i = first;
-    while i < end {
+    for i in first..end {
         let e = type_effect(book, pairs, i);
-        i += 1;
         if e.effect_id == t.effect_id {
             return true;
         }
@@ -217,11 +215,9 @@ fn mark_effects(marks: &mut RaiseMarks, book: &[u8], pairs: &TablePairs)
     ensures marked { EffectsMarked (book_at book pairs) marks.new }
 {
     let n = count_of(pairs, 2);
-    let mut i = 0;
-    while i < n {
+    for i in 0..n {
         let e = effect(book, pairs, i);
         let at = index(bits(e.id) % 1024);
-        i += 1;
         // Online, Active, Overload
         if e.category != 0 {
             if e.category < 4 {
@@ -239,13 +235,11 @@ fn mark_types(marks: &mut RaiseMarks, raising: &RaiseMarks, book: &[u8], pairs: 
     ensures marked { TypesMarked (book_at book pairs) marks.new }
 {
     let n = count_of(pairs, 4);
-    let mut i = 0;
-    while i < n {
+    for i in 0..n {
         let t = type_effect(book, pairs, i);
         let by = index(bits(t.effect_id) % 1024);
         let at = index(bits(t.type_id) % 1024);
         let raises = raising[by];
-        i += 1;
         if raises != 0 {
             marks[at] = 1;
         }
@@ -286,11 +280,9 @@ fn reached(
     let base = base_effects(book, pairs, places, mutated(o), o.mutation_base);
     let total = own.count + base.count;
     let mut top = o.max_state;
-    let mut k = 0;
-    while k < total {
+    for k in 0..total {
         let t = effect_at(book, pairs, own, base, k);
         let over = is_doubled(book, pairs, own, k, t);
-        k += 1;
         if !over {
             let reach = reach_by(book, pairs, places, o, t);
             top = higher(top, reach);
@@ -376,11 +368,9 @@ pub fn correct_states(
     let zeros = [0u32; STATE_WIDTH];
     let blank = [zeros; OBJECTS];
     *states = blank;
-    let mut i = 0;
-    while i < n {
+    for i in 0..n {
         let o = object(fit, pairs, i);
         let row = states_of(book, fit, pairs, places, &marks, c, structure, o);
         states[i] = row;
-        i += 1;
     }
 }

@@ -183,11 +183,9 @@ fn count(
 {
     let c = categories_of(book, pairs);
     let n = count_of(pairs, TABLE_OBJECTS);
-    let mut i = 0;
-    while i < n {
+    for i in 0..n {
         let o = object(fit, pairs, i);
         let more = pieces(c, o);
-        i += 1;
         if 0 < more {
             add_object(sums, keys, least, most, o, more);
         }

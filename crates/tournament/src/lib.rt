@@ -94,14 +94,12 @@ fn line_good(line: RuleLine) -> bool
 fn bad_line(lines: &[RuleLine]) -> Table
     ensures defined { bad_line result ≡ rule.bad_from 0 none (map line_of lines.now) }
 {
-    let mut i = 0;
-    while i < lines.len() {
+    for i in 0..lines.len() {
         let after = stands(lines, i);
         let good = after & line_good(lines[i]);
         if !good {
             return Table::Bad(i);
         }
-        i += 1;
     }
     Table::Good
 }

@@ -57,8 +57,7 @@ fn asks(
     let n = count_of(pairs, TABLE_ASKS);
     let depth = depth_of(fit, pairs);
     let mut used: u32 = 0;
-    let mut i: usize = 0;
-    while i < n {
+    for i in 0..n {
         let a = ask(fit, pairs, i);
         let object = a.object;
         let attribute = a.attribute_id;
@@ -81,7 +80,6 @@ fn asks(
             depth,
             used,
         );
-        i += 1;
         match got {
             Got::Value(_, u) => used = u,
             Got::Refused(y) => return Valued::Refused(y),
@@ -191,8 +189,7 @@ fn walk(
     let depth = depth_of(fit, pairs);
     let turns = turns_of(rows, fit, pairs);
     let mut used = before;
-    let mut k: usize = 0;
-    while k < n {
+    for k in 0..n {
         let row = walked(turns, k);
         let got = walk_row(
             values,
@@ -212,7 +209,6 @@ fn walk(
             depth,
             used,
         );
-        k += 1;
         match got {
             Got::Value(_, u) => used = u,
             Got::Refused(y) => return Valued::Refused(y),

@@ -13,6 +13,3 @@ use Rattle.csv_text.proofs.Filling.{Laid, header-laid, row_more, row-full, all_l
 
 abbrev pub invariant-loop-next : goal.invariant-loop-next
 invariant-loop-next l = Laid (labels_of l.label_bytes l.labels) l.n l.rows l.values (length l.initial.text) l.text l.end l.next × (172 ≡ length l.line)
-
-abbrev pub decreases-loop-next : goal.decreases-loop-next
-decreases-loop-next l = l.n - l.next

@@ -8,6 +8,3 @@ use Rattle.figures.proofs.Figured.{Figured, figured-start, figure_room, one_more
 
 abbrev pub invariant-loop-next : goal.invariant-loop-next
 invariant-loop-next l = Figured l.n l.rows l.values (length l.initial.out) l.out l.end l.next
-
-abbrev pub decreases-loop-next : goal.decreases-loop-next
-decreases-loop-next l = l.n - l.next

@@ -13,6 +13,3 @@ use Rattle.files.proofs.Following.{Stood, stood_first, stood_all, too_many, else
 
 abbrev pub invariant-loop-t : goal.invariant-loop-t
 invariant-loop-t l = Stood l.pairs l.n (rule.standing l.pairs l.h (from l.first 5) l.n) l.last l.t l.end
-
-abbrev pub decreases-loop-t : goal.decreases-loop-t
-decreases-loop-t l = l.last - l.t

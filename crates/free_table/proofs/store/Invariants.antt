@@ -9,6 +9,3 @@ invariant-loop-i l = record {
   laid_is : laid l.table l.t l.i (17 - l.i) ≡ laid l.initial.table l.t 0 17;
   below : l.i ≤ 17;
 }
-
-abbrev pub decreases-loop-i : goal.decreases-loop-i
-decreases-loop-i l = 17 - l.i

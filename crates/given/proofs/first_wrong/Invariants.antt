@@ -9,6 +9,3 @@ use Rattle.given.proofs.Rights.{kept_true, with_column, FirstLeft, right_on, wro
 
 abbrev pub invariant-loop-i : goal.invariant-loop-i
 invariant-loop-i l = ((l.i ≤ length l.rows) × (l.values ≡ l.initial.values)) × ((h : Judged (tables l.book l.pairs l.states l.stretches l.limits l.rows l.bases l.entries l.entry_values) l.initial.values) → l.recording ≡ h.world.recording → FirstLeft h.world h.values l.i)
-
-abbrev pub decreases-loop-i : goal.decreases-loop-i
-decreases-loop-i l = length l.rows - l.i

@@ -14,6 +14,3 @@ use Rattle.listing.proofs.Lined.{Lined, head_lined, line_room, one_more, all_lin
 
 abbrev pub invariant-loop-next : goal.invariant-loop-next
 invariant-loop-next l = Lined l.n l.rows l.values (length l.initial.out) l.out l.end l.next
-
-abbrev pub decreases-loop-next : goal.decreases-loop-next
-decreases-loop-next l = l.n - l.next

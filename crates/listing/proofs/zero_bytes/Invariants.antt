@@ -7,6 +7,3 @@ use Rattle.clear.proofs.Zeros.{Clearing, clearing_none, clearing_next, clearing_
 
 abbrev pub invariant-loop-i : goal.invariant-loop-i
 invariant-loop-i l = Clearing 0 l.from l.initial.bytes l.bytes l.i
-
-abbrev pub decreases-loop-i : goal.decreases-loop-i
-decreases-loop-i l = l.n - l.i

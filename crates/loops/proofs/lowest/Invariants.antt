@@ -12,6 +12,3 @@ use Rattle.loops.proofs.Firsts.{left_start, left_found, left_next, left_none}
 
 abbrev pub invariant-loop-i : goal.invariant-loop-i
 invariant-loop-i l = (l.i ≤ l.n) × ((length l.work ≡ length l.initial.work) × (Earlier (length l.rows) l.i l.work × ((h : KnowsNeeds (record { book = l.book; pairs = l.pairs; stretches = l.stretches; limits = l.limits; rows = l.rows; entries = l.entries })) → loop_at h.world ≡ loop_among h.world (from l.i (l.n - l.i)))))
-
-abbrev pub decreases-loop-i : goal.decreases-loop-i
-decreases-loop-i l = l.n - l.i

@@ -10,6 +10,3 @@ use Rattle.loops.proofs.Spreads.{take-inside, spread_take, spread_pass, spread_m
 
 abbrev pub invariant-loop-s : goal.invariant-loop-s
 invariant-loop-s l = (l.s ≤ l.slots) × ((length l.work ≡ length l.initial.work) × Spreading (record { book = l.book; pairs = l.pairs; stretches = l.stretches; limits = l.limits; rows = l.rows; entries = l.entries }) l.row l.at l.s (l.head + 1) l.last l.work)
-
-abbrev pub decreases-loop-s : goal.decreases-loop-s
-decreases-loop-s l = l.slots - l.s

@@ -8,6 +8,3 @@ use Rattle.maps.proofs.Zeros.{zeroed_none, zeroed_next, zeroed_done}
 
 abbrev pub invariant-loop-k : goal.invariant-loop-k
 invariant-loop-k l = (l.k ≤ l.n) × Zeroed l.at l.k l.initial.words l.words
-
-abbrev pub decreases-loop-k : goal.decreases-loop-k
-decreases-loop-k l = l.n - l.k

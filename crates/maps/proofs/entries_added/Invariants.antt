@@ -9,6 +9,3 @@ use Rattle.maps.proofs.Cuts.{first, next, fits_word, fits_more, more_few, last}
 
 abbrev pub invariant-loop-w : goal.invariant-loop-w
 invariant-loop-w l = (l.w ≤ l.n) × ((l.total ≤ l.w * 64) × (l.total ≡ ones_cut l.words l.a l.b l.w))
-
-abbrev pub decreases-loop-w : goal.decreases-loop-w
-decreases-loop-w l = l.n - l.w

@@ -4,6 +4,3 @@ use Rattle.std.proofs.Common.{◌-◌, ◌≤◌, rules}
 
 abbrev pub invariant-loop-i : goal.invariant-loop-i
 invariant-loop-i l = l.i ≤ 16
-
-abbrev pub decreases-loop-i : goal.decreases-loop-i
-decreases-loop-i l = 16 - l.i

@@ -6,6 +6,3 @@ use Rattle.order.specs.Walks.{Walking}
 
 abbrev pub invariant-loop-k : goal.invariant-loop-k
 invariant-loop-k l = (l.k ≤ l.turns) × ((length l.work ≡ length l.initial.work) × Walking (record { book = l.book; pairs = l.pairs; stretches = l.stretches; limits = l.limits; rows = l.rows; entries = l.entries }) l.walk l.work)
-
-abbrev pub decreases-loop-k : goal.decreases-loop-k
-decreases-loop-k l = l.turns - l.k

@@ -6,6 +6,3 @@ use Rattle.order.specs.Ranks.{Unmet}
 
 abbrev pub invariant-loop-k : goal.invariant-loop-k
 invariant-loop-k l = (l.k ≤ l.n) × ((length l.work ≡ length l.initial.work) × Unmet l.k l.work)
-
-abbrev pub decreases-loop-k : goal.decreases-loop-k
-decreases-loop-k l = l.n - l.k

@@ -9,6 +9,3 @@ use Rattle.pool.proofs.Below.{Failing, failing_none, failing_next, some_passing,
 
 abbrev pub invariant-loop-list : goal.invariant-loop-list
 invariant-loop-list l = Failing (astray_at l.rooms l.stretches l.p) 5 l.list
-
-abbrev pub decreases-loop-list : goal.decreases-loop-list
-decreases-loop-list l = 5 - l.list

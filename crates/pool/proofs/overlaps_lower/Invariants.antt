@@ -9,6 +9,3 @@ use Rattle.pool.proofs.Below.{Failing, failing_none, failing_next, some_passing,
 
 abbrev pub invariant-loop-q : goal.invariant-loop-q
 invariant-loop-q l = Failing (λ o. overlaps (stretch_at l.stretches l.p l.list) (stretch_at l.stretches o l.list)) l.p l.q
-
-abbrev pub decreases-loop-q : goal.decreases-loop-q
-decreases-loop-q l = l.p - l.q

@@ -10,6 +10,3 @@ use Rattle.pool.proofs.Answers.{not-seated, one-astray, none_astray}
 
 abbrev pub invariant-loop-p : goal.invariant-loop-p
 invariant-loop-p l = Failing (astray l.rooms l.stretches) 16 l.p
-
-abbrev pub decreases-loop-p : goal.decreases-loop-p
-decreases-loop-p l = 16 - l.p

@@ -4,6 +4,3 @@ use Rattle.std.proofs.Common.{◌-◌, ◌≤◌, length, rules}
 
 abbrev pub invariant-loop-i : goal.invariant-loop-i
 invariant-loop-i l = l.i ≤ length l.column
-
-abbrev pub decreases-loop-i : goal.decreases-loop-i
-decreases-loop-i l = length l.column - l.i

@@ -4,6 +4,3 @@ use Rattle.std.proofs.Common.{◌-◌, ◌≤◌, length, rules}
 
 abbrev pub invariant-loop-k : goal.invariant-loop-k
 invariant-loop-k l = l.k ≤ length l.row
-
-abbrev pub decreases-loop-k : goal.decreases-loop-k
-decreases-loop-k l = length l.row - l.k

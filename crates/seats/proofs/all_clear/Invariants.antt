@@ -10,6 +10,3 @@ use Rattle.seats.proofs.Loops.{Left, left_none, left_end, clear_next, clear_stop
 
 abbrev pub invariant-loop-i : goal.invariant-loop-i
 invariant-loop-i l = Left clear_of l.all 0 l.i
-
-abbrev pub decreases-loop-i : goal.decreases-loop-i
-decreases-loop-i l = 33 - l.i

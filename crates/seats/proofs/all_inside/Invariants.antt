@@ -12,6 +12,3 @@ use Rattle.seats.proofs.Loops.{Left, left_none, every_pass, every_fail, every_en
 
 abbrev pub invariant-loop-i : goal.invariant-loop-i
 invariant-loop-i l = Left (every? (inside l.pool)) l.all 0 l.i
-
-abbrev pub decreases-loop-i : goal.decreases-loop-i
-decreases-loop-i l = 33 - l.i

@@ -14,6 +14,3 @@ use Rattle.seats.proofs.Loops.{Left, left_none, every_pass, every_fail, every_en
 
 abbrev pub invariant-loop-j : goal.invariant-loop-j
 invariant-loop-j l = Left (every? (λ t. not (overlaps (get_or l.all l.i empty) t))) l.all (l.i + 1) l.j
-
-abbrev pub decreases-loop-j : goal.decreases-loop-j
-decreases-loop-j l = 33 - l.j

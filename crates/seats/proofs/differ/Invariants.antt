@@ -10,6 +10,3 @@ use Rattle.pool.proofs.Below.{Failing, failing_none, failing_next, some_passing,
 
 abbrev pub invariant-loop-p : goal.invariant-loop-p
 invariant-loop-p l = Failing (λ q. not (same_five l.stretches q)) 16 l.p
-
-abbrev pub decreases-loop-p : goal.decreases-loop-p
-decreases-loop-p l = 16 - l.p

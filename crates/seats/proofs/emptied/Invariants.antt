@@ -7,6 +7,3 @@ use Rattle.seats.proofs.Join.{Emptying, emptying_none, emptying_next, emptying_e
 
 abbrev pub invariant-loop-i : goal.invariant-loop-i
 invariant-loop-i l = Emptying l.initial.u l.n l.u l.i
-
-abbrev pub decreases-loop-i : goal.decreases-loop-i
-decreases-loop-i l = l.n - l.i

@@ -7,6 +7,3 @@ use Rattle.seats.proofs.Join.{Placing, placing_none, placing-hit, placing-next, 
 
 abbrev pub invariant-loop-i : goal.invariant-loop-i
 invariant-loop-i l = Placing l.start l.t l.n l.i
-
-abbrev pub decreases-loop-i : goal.decreases-loop-i
-decreases-loop-i l = l.n - l.i

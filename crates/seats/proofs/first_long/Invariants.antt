@@ -7,6 +7,3 @@ use Rattle.seats.proofs.First.{Seeking, seek_none, seek_hit, seek_next, seek_end
 
 abbrev pub invariant-loop-i : goal.invariant-loop-i
 invariant-loop-i l = Seeking l.t l.n l.wanted l.i
-
-abbrev pub decreases-loop-i : goal.decreases-loop-i
-decreases-loop-i l = l.n - l.i

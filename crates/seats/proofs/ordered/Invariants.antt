@@ -10,6 +10,3 @@ use Rattle.seats.proofs.Loops.{Left, left_none, ordered_next, ordered_stop, orde
 
 abbrev pub invariant-loop-i : goal.invariant-loop-i
 invariant-loop-i l = Left apart (take l.n l.t) 0 l.i
-
-abbrev pub decreases-loop-i : goal.decreases-loop-i
-decreases-loop-i l = l.n - l.i

@@ -7,6 +7,3 @@ use Rattle.seats.proofs.Down.{Moving, moving_none, moving_next, moving_end}
 
 abbrev pub invariant-loop-j : goal.invariant-loop-j
 invariant-loop-j l = Moving l.initial.u l.n l.i l.u l.j
-
-abbrev pub decreases-loop-j : goal.decreases-loop-j
-decreases-loop-j l = l.n - l.j

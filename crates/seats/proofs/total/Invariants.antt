@@ -8,6 +8,3 @@ use Rattle.seats.proofs.Loops.{Summing, summing_none, summing_next, summing_end}
 
 abbrev pub invariant-loop-i : goal.invariant-loop-i
 invariant-loop-i l = Summing l.all l.sum l.i
-
-abbrev pub decreases-loop-i : goal.decreases-loop-i
-decreases-loop-i l = 33 - l.i

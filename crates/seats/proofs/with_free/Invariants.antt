@@ -7,6 +7,3 @@ use Rattle.seats.proofs.Gather.{Filling, filling_none, filling_next, filling_end
 
 abbrev pub invariant-loop-i : goal.invariant-loop-i
 invariant-loop-i l = Filling l.t l.n l.all l.i
-
-abbrev pub decreases-loop-i : goal.decreases-loop-i
-decreases-loop-i l = l.n - l.i

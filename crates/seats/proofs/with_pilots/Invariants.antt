@@ -8,6 +8,3 @@ use Rattle.seats.proofs.Gather.{Seating, seating_none, seating_next, seating_end
 
 abbrev pub invariant-loop-p : goal.invariant-loop-p
 invariant-loop-p l = Seating (seat_of l.stretches) l.initial.all l.all l.p
-
-abbrev pub decreases-loop-p : goal.decreases-loop-p
-decreases-loop-p l = 16 - l.p

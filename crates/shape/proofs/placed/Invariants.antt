@@ -6,6 +6,3 @@ use Rattle.shape.proofs.Headers.{Placed, placed-start, too_many, elsewhere, smal
 
 abbrev pub invariant-loop-t : goal.invariant-loop-t
 invariant-loop-t l = Placed l.pairs l.n l.t l.end
-
-abbrev pub decreases-loop-t : goal.decreases-loop-t
-decreases-loop-t l = 10 - l.t

@@ -12,6 +12,3 @@ use Rattle.states.proofs.Raising.{among-start, found_here, found_on, found_end, 
 
 abbrev pub invariant-loop-i : goal.invariant-loop-i
 invariant-loop-i l = among (span l.first l.count (book_of l.book l.pairs).type_effects) l.t ≡ among (span l.i (l.end - l.i) (book_of l.book l.pairs).type_effects) l.t
-
-abbrev pub decreases-loop-i : goal.decreases-loop-i
-decreases-loop-i l = l.end - l.i

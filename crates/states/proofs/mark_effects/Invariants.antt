@@ -15,6 +15,3 @@ use Rattle.states.proofs.Marking.{Marking, effect_slot, IdleEffect, mark_place, 
 
 abbrev pub invariant-loop-i : goal.invariant-loop-i
 invariant-loop-i l = Marking effect_slot IdleEffect (book_of l.book l.pairs).effects l.marks l.i
-
-abbrev pub decreases-loop-i : goal.decreases-loop-i
-decreases-loop-i l = l.n - l.i

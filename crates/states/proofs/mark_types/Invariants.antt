@@ -14,6 +14,3 @@ use Rattle.states.proofs.Marking.{Marking, type_slot, IdleType, mark_place, mark
 
 abbrev pub invariant-loop-i : goal.invariant-loop-i
 invariant-loop-i l = Marking type_slot (IdleType (book_of l.book l.pairs)) (book_of l.book l.pairs).type_effects l.marks l.i
-
-abbrev pub decreases-loop-i : goal.decreases-loop-i
-decreases-loop-i l = l.n - l.i

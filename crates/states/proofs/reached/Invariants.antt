@@ -25,6 +25,3 @@ use Rattle.states.proofs.Raising.{is_meant, run_of, base_of_lem, reached_start, 
 
 abbrev pub invariant-loop-k : goal.invariant-loop-k
 invariant-loop-k l = reached_of (book_of l.book l.pairs) l.o ≡ highest l.top (map (λ x. reach_on (book_of l.book l.pairs) l.o x.effect) (keep is_meant (span l.k (l.total - l.k) (turns_of (span l.own.first l.own.count (book_of l.book l.pairs).type_effects) (span l.base.first l.base.count (book_of l.book l.pairs).type_effects)))))
-
-abbrev pub decreases-loop-k : goal.decreases-loop-k
-decreases-loop-k l = l.total - l.k

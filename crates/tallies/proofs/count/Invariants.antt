@@ -18,6 +18,3 @@ use Rattle.tallies.proofs.Blocks.{summed_skip, summed_more}
 
 abbrev pub invariant-loop-i : goal.invariant-loop-i
 invariant-loop-i l = (l.i ≤ l.n) × Summed (book_of l.book l.pairs) (fit_of l.fit l.pairs) l.keys l.i l.sums
-
-abbrev pub decreases-loop-i : goal.decreases-loop-i
-decreases-loop-i l = l.n - l.i

@@ -6,6 +6,3 @@ use Rattle.tournament.proofs.Judging.{Scanned, scanned_none, scanned_more, scann
 
 abbrev pub invariant-loop-i : goal.invariant-loop-i
 invariant-loop-i l = Scanned l.lines l.i
-
-abbrev pub decreases-loop-i : goal.decreases-loop-i
-decreases-loop-i l = length l.lines - l.i

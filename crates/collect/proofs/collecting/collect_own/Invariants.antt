@@ -20,6 +20,3 @@ use Rattle.info.proofs.Elements.{modifiers_length}
 
 abbrev pub invariant-loop-i : goal.invariant-loop-i
 invariant-loop-i l = Left l.rooms (λ (x : Case (Own l.w l.e l.category)). modifier_moves (book_of l.book l.pairs) x.fit l.w.item l.e l.category) (book_of l.book l.pairs).modifiers l.initial.i l.end (λ x. at l.initial.a l.initial.b l.initial.collected l.initial.collected_values x.column) (λ x. at l.a l.b l.collected l.collected_values x.column) l.i × ((length l.collected ≡ length l.initial.collected) × (length l.collected_values ≡ length l.initial.collected_values))
-
-abbrev pub decreases-loop-i : goal.decreases-loop-i
-decreases-loop-i l = l.end - l.i

@@ -30,6 +30,3 @@ use Rattle.collect.proofs.Own.{own_turns}
 
 abbrev pub invariant-loop-i : goal.invariant-loop-i
 invariant-loop-i l = Left l.rooms (λ (x : Unit {0}). turn_moves (book_of l.book l.pairs) (fit_of l.fit l.pairs) l.w.item) (turns_of (span l.own.first l.own.count (book_of l.book l.pairs).type_effects) (span l.base.first l.base.count (book_of l.book l.pairs).type_effects)) 0 l.total (λ x. at l.initial.a l.initial.b l.initial.collected l.initial.collected_values l.initial.plain) (λ x. at l.a l.b l.collected l.collected_values l.plain) l.i × ((length l.collected ≡ length l.initial.collected) × ((length l.collected_values ≡ length l.initial.collected_values) × (length l.plain ≡ length l.initial.plain)))
-
-abbrev pub decreases-loop-i : goal.decreases-loop-i
-decreases-loop-i l = l.total - l.i

@@ -19,6 +19,3 @@ use Rattle.collect.proofs.Ranges.{ranged_all}
 
 abbrev pub invariant-loop-i : goal.invariant-loop-i
 invariant-loop-i l = Left l.rooms (λ (x : Unit {0}). object_moves (book_of l.book l.pairs) (fit_of l.fit l.pairs) l.phase) (fit_of l.fit l.pairs).objects l.first l.end (λ x. at l.initial.a l.initial.b l.initial.collected l.initial.collected_values l.initial.plain) (λ x. at l.a l.b l.collected l.collected_values l.plain) l.i × ((length l.collected ≡ length l.initial.collected) × ((length l.collected_values ≡ length l.initial.collected_values) × (length l.plain ≡ length l.initial.plain)))
-
-abbrev pub decreases-loop-i : goal.decreases-loop-i
-decreases-loop-i l = l.end - l.i

@@ -10,6 +10,3 @@ use Rattle.collect.proofs.Seeking.{Seeking, seeking, sought_on, sought_here, sou
 
 abbrev pub invariant-loop-i : goal.invariant-loop-i
 invariant-loop-i l = Seeking (fit_of l.fit l.pairs).ids l.id l.first l.count l.end l.i
-
-abbrev pub decreases-loop-i : goal.decreases-loop-i
-decreases-loop-i l = l.end - l.i

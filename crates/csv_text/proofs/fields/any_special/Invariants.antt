@@ -8,6 +8,3 @@ use Rattle.csv_text.proofs.Special.{Plain, plain_none, plain_more, plain-all}
 
 abbrev pub invariant-loop-i : goal.invariant-loop-i
 invariant-loop-i l = Plain l.text l.i l.found
-
-abbrev pub decreases-loop-i : goal.decreases-loop-i
-decreases-loop-i l = length l.text - l.i

@@ -9,6 +9,3 @@ use Rattle.csv_text.proofs.Special.{Doubled, doubled_none, doubled_long, doubled
 
 abbrev pub invariant-loop-i : goal.invariant-loop-i
 invariant-loop-i l = Doubled l.text l.at l.initial.out l.i l.end l.out
-
-abbrev pub decreases-loop-i : goal.decreases-loop-i
-decreases-loop-i l = length l.text - l.i

@@ -8,6 +8,3 @@ use Rattle.csv_text.proofs.Judging.{Passed, passed_none, passed-more, passed-all
 
 abbrev pub invariant-loop-i : goal.invariant-loop-i
 invariant-loop-i l = Passed l.text l.i l.good
-
-abbrev pub decreases-loop-i : goal.decreases-loop-i
-decreases-loop-i l = length l.text - l.i

@@ -12,6 +12,3 @@ use Rattle.csv_text.proofs.Judging.{Scanned, scanned_none, scanned_more, scanned
 
 abbrev pub invariant-loop-i : goal.invariant-loop-i
 invariant-loop-i l = Scanned l.bytes l.labels l.i
-
-abbrev pub decreases-loop-i : goal.decreases-loop-i
-decreases-loop-i l = length l.labels - l.i

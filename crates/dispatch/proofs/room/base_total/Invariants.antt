@@ -9,6 +9,3 @@ use Rattle.dispatch.proofs.Bases.{keys_to, base_next, base_all}
 
 abbrev pub invariant-loop-i : goal.invariant-loop-i
 invariant-loop-i l = (l.i ≤ count_of l.pairs 6) × (l.total ≡ length (keys_to (fit_of l.fit l.pairs) l.i)) × (l.total ≤ l.i * 4294967296)
-
-abbrev pub decreases-loop-i : goal.decreases-loop-i
-decreases-loop-i l = count_of l.pairs 6 - l.i

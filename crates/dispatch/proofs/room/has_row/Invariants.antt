@@ -11,6 +11,3 @@ use Rattle.dispatch.proofs.Bases.{scan_next, scan_here, scan_end}
 
 abbrev pub invariant-loop-k : goal.invariant-loop-k
 invariant-loop-k l = (l.k ≤ l.n) × (some? (is_row l.object l.attribute) (take l.k l.rows) ≡ false)
-
-abbrev pub decreases-loop-k : goal.decreases-loop-k
-decreases-loop-k l = l.n - l.k

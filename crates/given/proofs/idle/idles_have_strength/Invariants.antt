@@ -10,6 +10,3 @@ use Rattle.given.proofs.Idling.{Left, all_done, counted, placed-inside, place_in
 
 abbrev pub invariant-loop-k : goal.invariant-loop-k
 invariant-loop-k l = (l.k ≤ l.count) × ((h : Judged (tables l.book l.pairs l.states l.stretches l.limits l.rows l.bases l.entries l.entry_values) l.values) → Left h l.row (row_at h.world l.row) l.k)
-
-abbrev pub decreases-loop-k : goal.decreases-loop-k
-decreases-loop-k l = l.count - l.k

@@ -10,6 +10,3 @@ use Rattle.given.proofs.Lining.{OtherLeft, line-missing, keys_on, keys_differ, l
 
 abbrev pub invariant-loop-i : goal.invariant-loop-i
 invariant-loop-i l = (l.i ≤ length l.rows) × ((rs : List Row) (H : RowsHeld rs l.rows) → OtherLeft H l.listing l.i)
-
-abbrev pub decreases-loop-i : goal.decreases-loop-i
-decreases-loop-i l = length l.rows - l.i

@@ -13,6 +13,3 @@ use Rattle.given.specs.Judging.{shown_in}
 
 abbrev pub invariant-loop-i : goal.invariant-loop-i
 invariant-loop-i l = (l.i ≤ length l.listing) × Col shown_in (take l.i l.listing) l.initial.values l.values
-
-abbrev pub decreases-loop-i : goal.decreases-loop-i
-decreases-loop-i l = length l.listing - l.i

@@ -13,6 +13,3 @@ use Rattle.hits.proofs.Telling.{Telling, telling_none, telling_more, telling_all
 
 abbrev pub invariant-loop-i : goal.invariant-loop-i
 invariant-loop-i l = Telling (reach_of (book_of l.book l.pairs) (fit_of l.fit l.pairs)) (fit_of l.fit l.pairs) l.objects l.initial.rows l.rows l.i
-
-abbrev pub decreases-loop-i : goal.decreases-loop-i
-decreases-loop-i l = l.objects - l.i

@@ -15,6 +15,3 @@ use Rattle.hits.proofs.Filled.{Filled, filled_none, filled_here, filled_on, base
 
 abbrev pub invariant-loop-k : goal.invariant-loop-k
 invariant-loop-k l = Filled (fit_of l.fit l.pairs).bases l.first l.n l.row l.k
-
-abbrev pub decreases-loop-k : goal.decreases-loop-k
-decreases-loop-k l = l.n - l.k

@@ -9,6 +9,3 @@ use Rattle.hits.proofs.Marking.{marking_none, marking_more, marking_all}
 
 abbrev pub invariant-loop-k : goal.invariant-loop-k
 invariant-loop-k l = Marking l.initial.wanted l.wanted l.row l.k
-
-abbrev pub decreases-loop-k : goal.decreases-loop-k
-decreases-loop-k l = 6 - l.k

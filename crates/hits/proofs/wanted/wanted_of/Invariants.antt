@@ -10,6 +10,3 @@ use Rattle.hits.proofs.Marking.{all_none, all_more, all-marked}
 
 abbrev pub invariant-loop-i : goal.invariant-loop-i
 invariant-loop-i l = AllMarked l.i l.wanted l.skills
-
-abbrev pub decreases-loop-i : goal.decreases-loop-i
-decreases-loop-i l = l.objects - l.i

@@ -15,6 +15,3 @@ use Rattle.info.proofs.Searches.{CountedBelow, bounds_back, bounds_high, counts-
 
 abbrev pub invariant-loop-k : goal.invariant-loop-k
 invariant-loop-k l = CountedBelow l.b l.at l.w l.n l.id l.k l.found
-
-abbrev pub decreases-loop-k : goal.decreases-loop-k
-decreases-loop-k l = l.end - l.k

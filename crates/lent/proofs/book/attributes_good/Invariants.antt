@@ -16,6 +16,3 @@ use Rattle.lent.proofs.Nths.{attribute_nth, attributes_long}
 
 abbrev pub invariant-loop-i : goal.invariant-loop-i
 invariant-loop-i l = AttributeScan (attributes_alone l.attributes l.defaults) (length l.attributes) l.i l.last
-
-abbrev pub decreases-loop-i : goal.decreases-loop-i
-decreases-loop-i l = length l.attributes - l.i

@@ -16,6 +16,3 @@ use Rattle.lent.proofs.Nths.{buff_collection_nth, buff_collections_long, modifie
 
 abbrev pub invariant-loop-i : goal.invariant-loop-i
 invariant-loop-i l = BuffCollectionScan (buff_collections_alone l.buff_collections l.modifiers) (length l.buff_collections) (length l.modifiers) l.i l.last
-
-abbrev pub decreases-loop-i : goal.decreases-loop-i
-decreases-loop-i l = length l.buff_collections - l.i

@@ -16,6 +16,3 @@ use Rattle.lent.proofs.Nths.{effect_nth, effects_long, modifiers_long}
 
 abbrev pub invariant-loop-i : goal.invariant-loop-i
 invariant-loop-i l = EffectScan (effects_alone l.effects l.modifiers) (length l.effects) (length l.modifiers) l.i l.last
-
-abbrev pub decreases-loop-i : goal.decreases-loop-i
-decreases-loop-i l = length l.effects - l.i

@@ -16,6 +16,3 @@ use Rattle.lent.proofs.Nths.{type_effect_nth, type_effects_long}
 
 abbrev pub invariant-loop-i : goal.invariant-loop-i
 invariant-loop-i l = TypeEffectScan (type_effects_alone l.type_effects) (length l.type_effects) l.i l.last
-
-abbrev pub decreases-loop-i : goal.decreases-loop-i
-decreases-loop-i l = length l.type_effects - l.i

@@ -17,6 +17,3 @@ use Rattle.tables.proofs.Numbers.{float_any}
 
 abbrev pub invariant-loop-i : goal.invariant-loop-i
 invariant-loop-i l = Each finite (every? finite l.values) l.values (length l.values) l.i
-
-abbrev pub decreases-loop-i : goal.decreases-loop-i
-decreases-loop-i l = length l.values - l.i

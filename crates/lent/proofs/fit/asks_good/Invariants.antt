@@ -18,6 +18,3 @@ use Rattle.lent.proofs.Nths.{ask_nth, asks_long, objects_long}
 
 abbrev pub invariant-loop-i : goal.invariant-loop-i
 invariant-loop-i l = Each (λ a. ltb a.object (length (asks_alone l.asks l.objects).objects)) (asks_good (asks_alone l.asks l.objects)) (asks_alone l.asks l.objects).asks (length l.asks) l.i
-
-abbrev pub decreases-loop-i : goal.decreases-loop-i
-decreases-loop-i l = length l.asks - l.i

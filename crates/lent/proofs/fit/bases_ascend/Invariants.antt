@@ -23,6 +23,3 @@ use Rattle.lent.proofs.Nths.{object-nth, objects_long, bases_long, same_bases}
 
 abbrev pub invariant-loop-i : goal.invariant-loop-i
 invariant-loop-i l = Each (range_ascends (bases_alone l.objects l.base_attributes l.base_values)) (every? (range_ascends (bases_alone l.objects l.base_attributes l.base_values)) (bases_alone l.objects l.base_attributes l.base_values).objects) (bases_alone l.objects l.base_attributes l.base_values).objects (length l.objects) l.i
-
-abbrev pub decreases-loop-i : goal.decreases-loop-i
-decreases-loop-i l = length l.objects - l.i

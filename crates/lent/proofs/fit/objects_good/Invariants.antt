@@ -16,6 +16,3 @@ use Rattle.lent.proofs.Nths.{object-nth, objects_long, bases_long, ids_long}
 
 abbrev pub invariant-loop-i : goal.invariant-loop-i
 invariant-loop-i l = ObjectScan (objects_alone l.objects l.base_attributes l.ids) (length l.objects) l.i l.last
-
-abbrev pub decreases-loop-i : goal.decreases-loop-i
-decreases-loop-i l = length l.objects - l.i

@@ -17,6 +17,3 @@ use Rattle.lent.proofs.Nths.{base_nth, bases_long}
 
 abbrev pub invariant-loop-i : goal.invariant-loop-i
 invariant-loop-i l = RangeScan (bases_alone [] l.base_attributes l.base_values) l.first l.n l.i l.last
-
-abbrev pub decreases-loop-i : goal.decreases-loop-i
-decreases-loop-i l = l.n - l.i

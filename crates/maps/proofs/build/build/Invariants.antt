@@ -19,6 +19,3 @@ use Rattle.maps.proofs.Building.{Making, making_start, making_counting, making_m
 
 abbrev pub invariant-loop-i : goal.invariant-loop-i
 invariant-loop-i l = (l.i ≤ l.objects) × ((length l.words ≡ length l.initial.words) × ((length l.heads ≡ length l.initial.heads) × Making (book_of l.book l.pairs) (fit_of l.fit l.pairs) l.width l.i l.n l.words l.heads))
-
-abbrev pub decreases-loop-i : goal.decreases-loop-i
-decreases-loop-i l = l.objects - l.i

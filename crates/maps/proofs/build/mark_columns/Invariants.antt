@@ -14,6 +14,3 @@ use Rattle.maps.proofs.Building.{columns_none, columns_here, columns_on, columns
 
 abbrev pub invariant-loop-c : goal.invariant-loop-c
 invariant-loop-c l = (l.c ≤ 6) × ((length l.words ≡ length l.initial.words) × ((location has : ℕ → ℕ → Bool) (ks hs : List ℕ) → Mapped l.width location has ks l.initial.words hs → Mapped l.width (and_columns location l.row l.c l.i) has ks l.words hs))
-
-abbrev pub decreases-loop-c : goal.decreases-loop-c
-decreases-loop-c l = 6 - l.c

@@ -13,6 +13,3 @@ use Rattle.maps.proofs.Building.{Keyed, keyed_none, keyed_marked, keyed_short, k
 
 abbrev pub invariant-loop-k : goal.invariant-loop-k
 invariant-loop-k l = (l.k ≤ 7) × ((length l.words ≡ length l.initial.words) × ((length l.heads ≡ length l.initial.heads) × ((location has : ℕ → ℕ → Bool) (ks : List ℕ) → Mapped l.width location has ks l.initial.words l.initial.heads → l.maps ≡ length ks → Keyed l.width location has ks l.keys l.i l.k l.n l.words l.heads)))
-
-abbrev pub decreases-loop-k : goal.decreases-loop-k
-decreases-loop-k l = 7 - l.k

@@ -14,6 +14,3 @@ use Rattle.put_tables.proofs.Steps.{Laid, laid_none, laid_long, laid_room, laid_
 
 abbrev pub invariant-loop-k : goal.invariant-loop-k
 invariant-loop-k l = (l.k ≤ length l.asks) × Laid 8 (λ k. words (fields 2 (row l.asks k))) l.at l.initial.bytes l.place l.k l.bytes
-
-abbrev pub decreases-loop-k : goal.decreases-loop-k
-decreases-loop-k l = length l.asks - l.k

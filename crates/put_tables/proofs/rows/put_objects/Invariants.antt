@@ -14,6 +14,3 @@ use Rattle.put_tables.proofs.Steps.{Laid, laid_none, laid_long, laid_room, laid_
 
 abbrev pub invariant-loop-k : goal.invariant-loop-k
 invariant-loop-k l = (l.k ≤ length l.objects) × Laid 68 (λ k. words (fields 17 (row l.objects k))) l.at l.initial.bytes l.place l.k l.bytes
-
-abbrev pub decreases-loop-k : goal.decreases-loop-k
-decreases-loop-k l = length l.objects - l.k

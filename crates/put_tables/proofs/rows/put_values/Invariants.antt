@@ -8,6 +8,3 @@ use Rattle.put_tables.proofs.Steps.{Laid, laid_none, laid_long, laid_room, laid_
 
 abbrev pub invariant-loop-k : goal.invariant-loop-k
 invariant-loop-k l = (l.k ≤ length l.ids) × Laid 12 (λ k. value_bytes (number l.ids k) (value l.values k)) l.at l.initial.bytes l.place l.k l.bytes
-
-abbrev pub decreases-loop-k : goal.decreases-loop-k
-decreases-loop-k l = length l.ids - l.k

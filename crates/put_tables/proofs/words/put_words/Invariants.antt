@@ -9,6 +9,3 @@ use Rattle.put_tables.proofs.Steps.{word_none, word_next, word_room, word-all, a
 
 abbrev pub invariant-loop-i : goal.invariant-loop-i
 invariant-loop-i l = (l.i ≤ length l.numbers) × (put l.place l.bytes ≡ puts (words (take l.i l.numbers)) (put l.at l.initial.bytes))
-
-abbrev pub decreases-loop-i : goal.decreases-loop-i
-decreases-loop-i l = length l.numbers - l.i

@@ -5,6 +5,3 @@ use Rattle.reading.proofs.Limiting.{Marking}
 
 abbrev pub invariant-loop-i : goal.invariant-loop-i
 invariant-loop-i l = Marking (book_of l.book l.pairs).attributes l.marks l.i
-
-abbrev pub decreases-loop-i : goal.decreases-loop-i
-decreases-loop-i l = l.attributes - l.i

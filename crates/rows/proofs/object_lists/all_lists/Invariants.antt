@@ -14,6 +14,3 @@ use Rattle.rows.proofs.Together.{part_long, Turns, turns_none, turn_ordered, tur
 
 abbrev pub invariant-loop-i : goal.invariant-loop-i
 invariant-loop-i l = Turns (book_of l.book l.pairs) (fit_of l.fit l.pairs) l.collected l.collected_values (count_of l.pairs 6) l.initial.rows l.initial.bases l.initial.entries l.initial.values l.ends l.room l.i l.n l.from l.rows l.bases l.entries l.values
-
-abbrev pub decreases-loop-i : goal.decreases-loop-i
-decreases-loop-i l = count_of l.pairs 6 - l.i

@@ -6,6 +6,3 @@ use Rattle.sources.proofs.Changing.{AllMarked}
 
 abbrev pub invariant-loop-p : goal.invariant-loop-p
 invariant-loop-p l = ((l.p ≤ l.n) × (l.n ≤ 8)) × (length l.sources ≡ 8) × (length l.floats ≡ length l.initial.floats) × AllMarked l.run l.first l.sources l.n l.initial.floats l.p l.floats
-
-abbrev pub decreases-loop-p : goal.decreases-loop-p
-decreases-loop-p l = l.n - l.p

@@ -17,6 +17,3 @@ use Rattle.values.proofs.Startings.{Asking, asking_starts, asking_ready, asking_
 
 abbrev pub invariant-loop-k : goal.invariant-loop-k
 invariant-loop-k l = ((l.k ≤ l.n) × (length l.values ≡ length l.initial.values) × (length l.sources ≡ length l.initial.sources) × (length l.floats ≡ length l.initial.floats)) × ((h : Walkable (tables l.book l.pairs l.states l.stretches l.limits l.rows l.bases l.entries l.entry_values) l.run l.initial.values l.initial.sources l.initial.floats l.before l.fit) → Asking h.ready.world h.ready.sources₀ h.ready.floats₀ l.depth (map ask_of (walk_order (fit_of l.fit l.pairs).objects h.ready.world.rows)) h.ready.mem l.k l.values l.sources l.floats l.used)
-
-abbrev pub decreases-loop-k : goal.decreases-loop-k
-decreases-loop-k l = l.n - l.k
