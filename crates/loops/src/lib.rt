@@ -98,10 +98,12 @@ pub fn leads_back(
     ensures earlier { Earlier (length rows.now) (row + 1) work.new }
 {
     let mut end = queued(work, row, row as u32 + 1, 0);
-    for head in 0..end {
+    let mut head: usize = 0;
+    while head < end {
         let met = meet(
             work, book, pairs, stretches, limits, rows, entries, row, head, end,
         );
+        head += 1;
         match met {
             Met::Back => return true,
             Met::To(e) => end = e,
