@@ -26,9 +26,6 @@ key_at-key-requires c = record { inside = key_inside _ _ _ _ c.requires.keyed _ 
 pub overflow_add-found : goal.overflow_add-found
 overflow_add-found c = omega (arith, c.loop-k.invariant.within, bounds_high _ _ _ _ _ c.requires.keyed c.narrowed-window.ensures.narrowed, c.loop-k-test.true, c.ranges.n.fits)
 
-pub overflow_add-k : goal.overflow_add-k
-overflow_add-k c = omega (arith, c.loop-k.invariant.within, bounds_high _ _ _ _ _ c.requires.keyed c.narrowed-window.ensures.narrowed, c.loop-k-test.true, c.ranges.n.fits)
-
 pub loop-k-preserved : goal.loop-k-preserved
 loop-k-preserved c = counts-more _ _ _ _ _ c.requires.keyed c.loop-k.invariant (omega (arith, bounds_high _ _ _ _ _ c.requires.keyed c.narrowed-window.ensures.narrowed, c.loop-k-test.true)) (key_less (sfits_of c.key_at-key.type_inv) c.key_at-key.ensures.defined _ _ refl) c.step-found.ensures.defined
 

@@ -20,8 +20,5 @@ attribute-a-requires c = record {
 pub overflow_cast-place : goal.overflow_cast-place
 overflow_cast-place c = omega (arith, c.loop-i-test.true, c.count_of-n.ensures.defined, c.requires.held_book.attributes.few)
 
-pub overflow_add-i : goal.overflow_add-i
-overflow_add-i c = omega (arith, c.loop-i-test.true, c.count_of-n.ensures.defined, c.requires.held_book.attributes.few)
-
 pub loop-i-preserved : goal.loop-i-preserved
 loop-i-preserved c = tt

@@ -20,8 +20,5 @@ effect-e-requires c = record {
 pub overflow_cast-place : goal.overflow_cast-place
 overflow_cast-place c = omega (arith, c.loop-i-test.true, c.count_of-n.ensures.defined, c.requires.held_book.effects.few)
 
-pub overflow_add-i : goal.overflow_add-i
-overflow_add-i c = omega (arith, c.loop-i-test.true, c.count_of-n.ensures.defined, c.requires.held_book.effects.few)
-
 pub loop-i-preserved : goal.loop-i-preserved
 loop-i-preserved c = tt
