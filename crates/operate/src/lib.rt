@@ -192,7 +192,7 @@ pub fn put_copies(
 {
     let mut n = count;
     let mut source = first;
-    for _ in 0..copies {
+    for _k in 0..copies {
         n = insert(values, sources, n, x, source);
         source += step;
     }
