@@ -12,8 +12,8 @@ use Rattle.rules.specs.Answer.{Res, ok, refused, number, place}
 use Rattle.rules.specs.Columns.{Counts, collected_numbers, origin_value, rows_numbers, entry_numbers, plain_numbers, source_numbers, source_floats, collected_column, collected_value_column, row_column, base_column, value_column, entry_column, entry_value_column, plain_column, source_column, source_float_column, state_column}
 use Rattle.rules.specs.Outcome.{Done}
 use Rattle.rules.specs.declared.Refusal.{Refusal}
-use Rattle.rules.specs.declared.Answer.{Answer}
-use Rattle.rules.specs.declared.Answer.TheVariants as answer
+use Rattle.rules.specs.Answer.{Answer}
+use Rattle.rules.specs.Answer as answer
 use Rattle.clear.specs.Ends.{cleared}
 use Rattle.clear.specs.declared.KeptCounts as clear
 use Rattle.clear.proofs.Columned.{cleared_column, cleared-all, cleared_same}

@@ -1,9 +1,10 @@
 // Document 01's number and place of each answer.
 ghost use Rattle.std.specs.Prelude.{◌≡◌};
 ghost use Rattle.rules.specs.Answer.{number, place};
-ghost use Rattle.rules.specs.declared.Answer.TheVariants.{Refused};
+ghost use Rattle.calculate.specs.Given.{answer_from};
+ghost use Rattle.rules.specs.Answer.{Refused};
 
-use rules::{Answer, Refusal};
+use rules::Refusal;
 
 // The number of a refusal.
 fn refusal_number(r: Refusal) -> u32
@@ -40,21 +41,21 @@ fn refusal_place(r: Refusal) -> u32
 }
 
 // The number that a caller gets.
-pub fn number_of(a: Answer) -> u32
-    ensures defined { result ≡ number a }
+pub fn number_of(answer: Result<(), Refusal>) -> u32
+    ensures defined { result ≡ number (answer_from answer) }
 {
-    match a {
-        Answer::Done => 0,
-        Answer::Refused(r) => refusal_number(r),
+    match answer {
+        Ok(()) => 0,
+        Err(r) => refusal_number(r),
     }
 }
 
 // The place that a caller gets beside it.
-pub fn place_of(a: Answer) -> u32
-    ensures defined { result ≡ place a }
+pub fn place_of(answer: Result<(), Refusal>) -> u32
+    ensures defined { result ≡ place (answer_from answer) }
 {
-    match a {
-        Answer::Done => 0,
-        Answer::Refused(r) => refusal_place(r),
+    match answer {
+        Ok(()) => 0,
+        Err(r) => refusal_place(r),
     }
 }

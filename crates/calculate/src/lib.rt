@@ -8,7 +8,7 @@ ghost use Rattle.rules.specs.Outcome.{rooms_of};
 ghost use Rattle.promises.specs.Result.{MeetsFor, Meets};
 ghost use Rattle.shape.specs.Shaped.{SoundBy};
 ghost use Rattle.run.specs.Filled.{lent_columns, lent_of, decided};
-ghost use Rattle.calculate.specs.Given.{counts_given, answer_given, result_of};
+ghost use Rattle.calculate.specs.Given.{counts_given, answer_from, answer_given, result_of};
 
 use answers::{number_of, place_of};
 use clear::{KeptCounts, clear};
@@ -16,7 +16,7 @@ use columns::{
     AttributeRow, CollectedRow, EntryRow, PlainRow, SourceFloats, SourceRow, States, TablePairs,
 };
 use info::header::pairs_of;
-use rules::Answer;
+use rules::Refusal;
 use run::Ran;
 use run::outcome::filled;
 use shape::{Shaped, shape};
@@ -52,12 +52,12 @@ fn counts_of(ran: Ran) -> KeptCounts
 }
 
 // The answer without its counts.
-fn answer_of(ran: Ran) -> Answer
-    ensures defined { result ≡ answer_given ran }
+fn answer_of(ran: Ran) -> Result<(), Refusal>
+    ensures defined { answer_from result ≡ answer_given ran }
 {
     match ran {
-        Ran::Done(_) => Answer::Done,
-        Ran::Refused(y) => Answer::Refused(y),
+        Ran::Done(_) => Ok(()),
+        Ran::Refused(y) => Err(y),
     }
 }
 

@@ -9,8 +9,8 @@ use Rattle.rules.specs.Outcome.{Done}
 use Rattle.rules.specs.declared.Source.{Source}
 use Rattle.rules.specs.declared.Refusal.{Refusal}
 use Rattle.rules.specs.declared.Refusal.TheVariants.{Shape}
-use Rattle.rules.specs.declared.Answer.{Answer}
-use Rattle.rules.specs.declared.Answer.TheVariants as answer
+use Rattle.rules.specs.Answer.{Answer}
+use Rattle.rules.specs.Answer as answer
 use Rattle.clear.specs.Ends.{cleared}
 use Rattle.clear.specs.declared.KeptCounts.{KeptCounts}
 use Rattle.promises.specs.Result.{MeetsFor}

@@ -1,4 +1,5 @@
 -- M-111's promises, of every result that meets the contract of `dogma_check`.
+use Rattle.std.specs.Prelude.{None}
 use Prim.Native.Nat.{ℕ, ◌<◌}
 use native.Mathlib.Omega.{arith}
 use mathlib.Core.Path.{◌≡◌, refl, sym, ap, subst, ◌∙◌}
@@ -18,7 +19,7 @@ use Rattle.rules.specs.Sheet.{Book, Fit}
 use Rattle.rules.specs.Value.{World, Mem}
 use Rattle.rules.specs.declared.Refusal.{Refusal}
 use Rattle.rules.specs.declared.Refusal.TheVariants as refusal
-use Rattle.rules.specs.declared.Answer.TheVariants.{Refused}
+use Rattle.rules.specs.Answer.{Refused}
 use Rattle.info.specs.Sound.{SoundBook, SoundFit}
 use Rattle.shape.specs.Shaped.{shaped_of}
 use Rattle.shape.proofs.Shapes.{sound_book, sound_fit}
@@ -37,7 +38,6 @@ use Rattle.settled.proofs.Ours.{ours_accepted, accepted_same}
 use Rattle.settled.proofs.TendsReads.{Tended, done, wanting, OnlyRoom, room5, lifted, accepted_lifted}
 use Rattle.promises.proofs.Ranks.{Within}
 use Rattle.reading.specs.Held.{ascending}
-use Rattle.reading.specs.declared.rows.Found.TheVariants.{Nothing}
 use Rattle.loops.specs.Loop.{loop_at}
 use Rattle.checks.specs.Check.{number_of, place_of, checked_in, checked_after, checked_for, checked, check_rooms, Checks}
 use Rattle.checks.specs.Promised.{world_at, Dispatched, Lowest, IsListing, DoneWith, listed, no_room}
@@ -218,7 +218,7 @@ module _ (b : List ℕ) (l : Lent) (work : ℕ) (ls : List Line) (r : Result) (c
       keys = own.keys ∙ ap (map key_of) rows
 
       accepted : verdict ≡ Accepted
-      accepted = past b (check_rooms l work) ls s ∙ sym (by_lines (world_at b) ls (none_found b s.shape free) Nothing (accepted_not_bad (world_at b) ls keys right))
+      accepted = past b (check_rooms l work) ls s ∙ sym (by_lines (world_at b) ls (none_found b s.shape free) None (accepted_not_bad (world_at b) ls keys right))
 
   module _ (zero : r.number ≡ 0) where
     accepts : Came b (check_rooms l work) ls Accepted

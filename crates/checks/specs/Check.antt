@@ -11,7 +11,7 @@ use Rattle.rules.specs.Sheet.{Book, Fit, book_of, fit_of}
 use Rattle.rules.specs.Value.{World}
 use Rattle.rules.specs.declared.Refusal.{Refusal}
 use Rattle.rules.specs.declared.Refusal.TheVariants.{Shape}
-use Rattle.rules.specs.declared.Answer.TheVariants.{Refused}
+use Rattle.rules.specs.Answer.{Refused}
 use Rattle.promises.specs.NoMemory.{book_in, fit_in}
 use Rattle.promises.specs.Result.{Result}
 use Rattle.settled.specs.Lines.{Line, values_of, first_bad}

@@ -1,12 +1,10 @@
 -- What the parts of a check answer, and what they leave in the columns. Definitions only.
-use Rattle.std.specs.Prelude.{ℕ, ◌≡◌, Bool, List, [], Float, length}
+use Rattle.std.specs.Prelude.{ℕ, ◌≡◌, Bool, List, [], Float, length, None, Option, Some}
 use denote.Triple.Both.{Both}
 use Rattle.columns.specs.Lending.{LentColumn}
 use Rattle.laws.specs.Columns.{Col}
 use Rattle.rules.specs.Outcome.{Lent, Done}
 use Rattle.rules.specs.declared.Refusal.{Refusal}
-use Rattle.reading.specs.declared.rows.Found.{Found}
-use Rattle.reading.specs.declared.rows.Found.TheVariants.{At, Nothing}
 use Rattle.sources.specs.declared.Recording.{Recording}
 use Rattle.clear.specs.declared.KeptCounts.{KeptCounts}
 use Rattle.run.specs.Filled.{Columns, columns, Filled}
@@ -17,9 +15,9 @@ use Rattle.checks.specs.declared.verdict.Verdict.{Verdict}
 use Rattle.checks.specs.declared.verdict.Verdict.TheVariants.{Accepted, Engine, Loop, Listing}
 
 -- the verdict where there is no loop
-abbrev pub verdict_by : Found → Verdict
-verdict_by (At i) = Listing i
-verdict_by Nothing = Accepted
+abbrev pub verdict_by : Option ℕ → Verdict
+verdict_by (Some i) = Listing i
+verdict_by None = Accepted
 
 -- list 5 has no room
 abbrev pub run : Bool → Recording

@@ -4,8 +4,7 @@ ghost use Rattle.checks.specs.Check.{number_of, place_of};
 ghost use Rattle.checks.specs.Checked.{verdict_by};
 
 use calculate::answers::{number_of, place_of};
-use reading::rows::Found;
-use rules::{Answer, Refusal};
+use rules::Refusal;
 
 // It is ours; or a refusal of the engine up to dispatch; or the lowest object on a loop; or the first bad line.
 #[derive(Clone, Copy)]
@@ -17,12 +16,12 @@ pub enum Verdict {
 }
 
 // The verdict where there is no loop.
-pub fn verdict_of(bad: Found) -> Verdict
+pub fn verdict_of(bad: Option<usize>) -> Verdict
     ensures defined { result ≡ verdict_by bad }
 {
     match bad {
-        Found::At(i) => Verdict::Listing(i),
-        Found::Nothing => Verdict::Accepted,
+        Some(i) => Verdict::Listing(i),
+        None => Verdict::Accepted,
     }
 }
 
@@ -32,7 +31,7 @@ pub fn verdict_number(v: Verdict) -> u64
 {
     match v {
         Verdict::Accepted => 0,
-        Verdict::Engine(x) => number_of(Answer::Refused(x)) as u64,
+        Verdict::Engine(x) => number_of(Err(x)) as u64,
         Verdict::Loop(_) => 10,
         Verdict::Listing(_) => 15,
     }
@@ -44,7 +43,7 @@ pub fn verdict_place(v: Verdict) -> u64
 {
     match v {
         Verdict::Accepted => 0,
-        Verdict::Engine(x) => place_of(Answer::Refused(x)) as u64,
+        Verdict::Engine(x) => place_of(Err(x)) as u64,
         Verdict::Loop(o) => o as u64,
         Verdict::Listing(i) => i as u64,
     }

@@ -1,4 +1,5 @@
 -- Every effect that collection takes from a sound sheet points at objects of the fit, and its ids have 32 bits.
+use Rattle.std.specs.Prelude.{None, Some}
 use Prim.Native.Nat.{ℕ, ◌<◌}
 use native.Mathlib.Omega.{arith}
 use mathlib.Core.Path.{sym, subst}
@@ -23,8 +24,7 @@ use Rattle.rules.specs.declared.Item.{Item}
 use Rattle.rules.specs.declared.BaseAttribute.{BaseAttribute}
 use Rattle.rules.specs.declared.DogmaEffect.{DogmaEffect}
 use Rattle.rules.specs.declared.DogmaModifier.{DogmaModifier}
-use Rattle.rules.specs.declared.OptionalId.{OptionalId}
-use Rattle.rules.specs.declared.OptionalId.TheVariants.{Absent, Given}
+use Rattle.rules.specs.Ids.{OptionalId}
 use Rattle.rules.specs.declared.Pass2Effect.{Pass2Effect}
 use Rattle.rules.specs.declared.ProjectedBuff.{ProjectedBuff}
 use Rattle.rules.proofs.Verdicts.{objects_good_lem}
@@ -54,14 +54,14 @@ named_narrow : (x : Option BaseAttribute) → SFits w32 (elim x [ none ↦ pos 0
 named_narrow none = zero_narrow
 named_narrow (some r) = cut_narrow r.value
 
-unless_narrow : (b : Bool) (a : ℤ) (o : OptionalId) → SFits w32 a → NarrowId o → NarrowId (cond b o (Given a))
+unless_narrow : (b : Bool) (a : ℤ) (o : OptionalId) → SFits w32 a → NarrowId o → NarrowId (cond b o (Some a))
 unless_narrow true a o h g = g
 unless_narrow false a o h g = h
 
 resistance_narrow : (f : Fit) (o : Item) (e : DogmaEffect) → SFits w32 e.resistance_attribute_id → NarrowId (resistance_of f o e)
 resistance_narrow f o e h =
-    unless_narrow (eq_z (named f o) (pos 0)) (named f o) (unless_zero e.resistance_attribute_id Absent) (named_narrow (get_base f o remote_resistance))
-    (unless_narrow (eq_z e.resistance_attribute_id (pos 0)) e.resistance_attribute_id Absent h tt)
+    unless_narrow (eq_z (named f o) (pos 0)) (named f o) (unless_zero e.resistance_attribute_id None) (named_narrow (get_base f o remote_resistance))
+    (unless_narrow (eq_z e.resistance_attribute_id (pos 0)) e.resistance_attribute_id None h tt)
 
 -- ---- by what an effect is collected for
 

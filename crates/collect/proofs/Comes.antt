@@ -1,4 +1,5 @@
 -- Every effect that collection takes comes of a modifier of table 3, for an object and its effect or for a buff.
+use Rattle.std.specs.Prelude.{None}
 use Prim.Native.Nat.{ℕ, zero, suc, suc-le-suc, zero-le}
 use native.Mathlib.Omega.{arith}
 use mathlib.Core.Path.{◌≡◌, refl, sym, subst, ◌∙◌}
@@ -21,7 +22,6 @@ use Rattle.rules.specs.declared.DogmaModifier.{DogmaModifier}
 use Rattle.rules.specs.declared.EffectCategory.{EffectCategory}
 use Rattle.rules.specs.declared.EffectOperator.{EffectOperator}
 use Rattle.rules.specs.declared.Item.{Item}
-use Rattle.rules.specs.declared.OptionalId.TheVariants.{Absent}
 use Rattle.rules.specs.declared.Pass2Effect.{Pass2Effect}
 use Rattle.rules.specs.declared.ProjectedBuff.{ProjectedBuff}
 use Rattle.rules.specs.declared.TypeDogmaEffect.{TypeDogmaEffect}
@@ -125,7 +125,7 @@ module _ (k : Book) (f : Fit) where
     category_all e none h i g = subst Here (projected_bad k f o e h g) tt
     category_all e (some c) h i g =
         subst Here (projected_modifiers k f o e c h g)
-        (each_span (Collects k f) (projected_modifier_moves f o e c) e.first_modifier e.modifiers k.modifiers (λ m l. of_cause (cause.Projected (owner_of o) e c Absent) (n, i) m l))
+        (each_span (Collects k f) (projected_modifier_moves f o e c) e.first_modifier e.modifiers k.modifiers (λ m l. of_cause (cause.Projected (owner_of o) e c None) (n, i) m l))
 
     projected_by_lem : (x : Option DogmaEffect) → get_dogma_effect k o.projected_effect ≡ x → Here (projected_moves k f o)
     unfolding get_dogma_effect

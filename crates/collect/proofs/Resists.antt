@@ -1,4 +1,5 @@
 -- The resistance that a projected effect meets, as the code finds it.
+use Rattle.std.specs.Prelude.{None}
 use mathlib.Core.Path.{◌≡◌, refl, sym, ap, ◌∙◌}
 use mathlib.Core.Option.{Option, none, some}
 use lib.IntN.{ℤ, pos}
@@ -12,8 +13,7 @@ use Rattle.rules.specs.Number.{cut}
 use Rattle.rules.specs.Collect.{unless_zero, named}
 use Rattle.rules.specs.declared.Item.{Item}
 use Rattle.rules.specs.declared.BaseAttribute.{BaseAttribute}
-use Rattle.rules.specs.declared.OptionalId.{OptionalId}
-use Rattle.rules.specs.declared.OptionalId.TheVariants.{Absent}
+use Rattle.rules.specs.Ids.{OptionalId}
 
 module _ (f : Fit) (o : Item) where
   abbrev name_in : Option BaseAttribute → ℤ
@@ -31,6 +31,6 @@ module _ (f : Fit) (o : Item) where
   named_some r e h = h ∙ sym (named-is (get_base f o remote_resistance) ∙ ap name_in e)
 
 -- the effect's own, where none is named
-pub resists : (y x : ℤ) {n : ℤ} {own met : OptionalId} → SFits w32 y → own ≡ unless_zero (to_z w32 (of_z w32 y)) Absent → SFits w32 x → x ≡ n → met ≡ unless_zero (to_z w32 (of_z w32 x)) own → met ≡ unless_zero n (unless_zero y Absent)
+pub resists : (y x : ℤ) {n : ℤ} {own met : OptionalId} → SFits w32 y → own ≡ unless_zero (to_z w32 (of_z w32 y)) None → SFits w32 x → x ≡ n → met ≡ unless_zero (to_z w32 (of_z w32 x)) own → met ≡ unless_zero n (unless_zero y None)
 resists y x {n} {own} fy a fx e b =
-    b ∙ ap (λ (i : ℤ). unless_zero i own) (to_z-of_z w32 x fx ∙ e) ∙ ap (unless_zero n) (a ∙ ap (λ (i : ℤ). unless_zero i Absent) (to_z-of_z w32 y fy))
+    b ∙ ap (λ (i : ℤ). unless_zero i own) (to_z-of_z w32 x fx ∙ e) ∙ ap (unless_zero n) (a ∙ ap (λ (i : ℤ). unless_zero i None) (to_z-of_z w32 y fy))

@@ -1,4 +1,5 @@
 -- Every effect that a modifier gives is of that modifier, and of what it is collected for.
+use Rattle.std.specs.Prelude.{None}
 use Prim.Native.Nat.{ℕ, zero, suc, ◌<◌}
 use native.Mathlib.Nat.{not-suc-le-zero, le_of_suc-le-suc}
 use mathlib.Core.Path.{◌≡◌, refl, subst}
@@ -17,8 +18,7 @@ use Rattle.rules.specs.declared.Pass2Effect.{Pass2Effect}
 use Rattle.rules.specs.declared.DogmaEffect.{DogmaEffect}
 use Rattle.rules.specs.declared.EffectCategory.{EffectCategory}
 use Rattle.rules.specs.declared.EffectOperator.{EffectOperator}
-use Rattle.rules.specs.declared.OptionalId.{OptionalId}
-use Rattle.rules.specs.declared.OptionalId.TheVariants.{Absent}
+use Rattle.rules.specs.Ids.{OptionalId}
 use Rattle.rules.specs.declared.ProjectedBuff.{ProjectedBuff}
 use Rattle.rules.specs.declared.Refusal.TheVariants.{Func}
 use Rattle.modifier.specs.declared.codes.Owner.{Owner}
@@ -73,7 +73,7 @@ module _ (f : Fit) (m : DogmaModifier) where
   unfolding modifier_moves
   own_each k w e c =
       let P = Of f (cause.Own w e c) m in
-      let T : Modifier → EffectOperator → ℕ → Pass2Effect = λ func op n. effect_of w.item e m (source_of w.item e m c) Absent func op n in
+      let T : Modifier → EffectOperator → ℕ → Pass2Effect = λ func op n. effect_of w.item e m (source_of w.item e m c) None func op n in
       each_then P (test_func m) _ (λ func h. each_then P (test_operation m.operation m.number) _ (λ op i. each_own_target P f w.item m (λ n. taken (T func op n) ∷ []) (λ n j u. one (cause.Own w e c) (T func op n) h j u refl refl refl)))
 
   projected_each : (w : Owner) (e : DogmaEffect) (c : EffectCategory) (r : OptionalId) → Each (Of f (cause.Projected w e c r) m) (projected_modifier_moves f w.item e c m)

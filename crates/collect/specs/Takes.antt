@@ -1,5 +1,5 @@
 -- What the effects are that moves take: each is of a modifier, and of what it is collected for, and these are in the tables. Definitions only.
-use Rattle.std.specs.Prelude.{ℕ, ◌<◌, ◌≡◌, Bool, false, ◌&&◌, not, cond, List, [], ◌∷◌, eqb, length}
+use Rattle.std.specs.Prelude.{ℕ, ◌<◌, ◌≡◌, Bool, false, ◌&&◌, not, cond, List, [], ◌∷◌, eqb, length, None}
 use Rattle.laws.specs.Lists.{eq_z}
 use Rattle.rules.specs.Constants.{upgrade_load}
 use Rattle.rules.specs.Sheet.{Book, Fit}
@@ -7,8 +7,7 @@ use Rattle.rules.specs.Item.{is_rig, is_item, has_charge}
 use Rattle.rules.specs.Collect.{Move, taken, plain, refuse, Test, go, over, bad, test_func, test_domain, test_projected_domain}
 use Rattle.rules.specs.declared.DogmaModifier.{DogmaModifier}
 use Rattle.rules.specs.declared.EffectCategory.TheVariants.{Passive}
-use Rattle.rules.specs.declared.OptionalId.{OptionalId}
-use Rattle.rules.specs.declared.OptionalId.TheVariants.{Absent}
+use Rattle.rules.specs.Ids.{OptionalId}
 use Rattle.rules.specs.declared.Origin.{Origin}
 use Rattle.rules.specs.declared.Origin.TheVariants as origin
 use Rattle.rules.specs.declared.Pass2Effect.{Pass2Effect}
@@ -47,9 +46,9 @@ unmet f (cause.Projected w e c r) m = false
 unmet f (cause.Buff b o) m = false
 
 abbrev pub met_by : Fit → Cause → OptionalId
-met_by f (cause.Own w e c) = Absent
+met_by f (cause.Own w e c) = None
 met_by f (cause.Projected w e c r) = resistance_of f w.item e
-met_by f (cause.Buff b o) = Absent
+met_by f (cause.Buff b o) = None
 
 pub record Of (f : Fit) (c : Cause) (m : DogmaModifier) (t : Pass2Effect) : Type 0 where
   pub func : test_func m ≡ go t.modifier

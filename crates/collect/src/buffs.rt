@@ -12,7 +12,7 @@ ghost use Rattle.modifier.specs.Ran.{Lent, RunsCollected};
 use super::collecting::collect_modifiers;
 use columns::{CollectedRow, TABLE_BUFFS, TablePairs};
 use info::header::count_of;
-use info::look_ups::{FoundCollection, get_dbuff_collection};
+use info::look_ups::get_dbuff_collection;
 use info::records::projected_buff;
 use modifier::causes::Cause;
 use modifier::codes::{OperationTest, get_effect_operator};
@@ -76,7 +76,7 @@ fn collect_buff(
 {
     let found = get_dbuff_collection(book, pairs, b.id);
     match found {
-        FoundCollection::At(r) => collect_collection(
+        Some(r) => collect_collection(
             collected,
             collected_values,
             book,
@@ -87,7 +87,7 @@ fn collect_buff(
             b,
             r,
         ),
-        FoundCollection::Nothing => Counted::At(used, used_plain),
+        None => Counted::At(used, used_plain),
     }
 }
 

@@ -12,8 +12,7 @@ ghost use Rattle.collect.specs.OfFit.{OfFit};
 use super::collecting::collect_own;
 use super::uses::is_used;
 use columns::{CollectedRow, EffectPlaces, PlainRow, TablePairs};
-use info::look_ups::{FoundEffect, get_dogma_effect, get_dogma_effects};
-use item::CategoryFound;
+use info::look_ups::{get_dogma_effect, get_dogma_effects};
 use item::codes::category_at;
 use item::kinds::mutated;
 use item::states::category_on;
@@ -48,7 +47,7 @@ fn collect_found(
     let o = w.item;
     let found = category_at(e.category);
     match found {
-        CategoryFound::At(category) => {
+        Some(category) => {
             let on = category_on(o, category);
             let in_use = is_used(fit, pairs, o, e, t, on);
             if in_use {
@@ -70,7 +69,7 @@ fn collect_found(
             }
             Counted::At(used, used_plain)
         }
-        CategoryFound::Nothing => Counted::Refused(Refusal::Category(e.number)),
+        None => Counted::Refused(Refusal::Category(e.number)),
     }
 }
 
@@ -98,7 +97,7 @@ fn collect_effect(
 {
     let found = get_dogma_effect(book, pairs, places, t.effect_id);
     match found {
-        FoundEffect::At(e) => collect_found(
+        Some(e) => collect_found(
             collected,
             collected_values,
             plain,
@@ -112,7 +111,7 @@ fn collect_effect(
             t,
             e,
         ),
-        FoundEffect::Nothing => Counted::At(used, used_plain),
+        None => Counted::At(used, used_plain),
     }
 }
 

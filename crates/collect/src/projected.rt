@@ -14,23 +14,22 @@ ghost use Rattle.collect.specs.OfFit.{OfFit};
 
 use super::collecting::collect_modifiers;
 use columns::{CollectedRow, EffectPlaces, TablePairs};
-use info::look_ups::{FoundBase, FoundEffect, get_base, get_dogma_effect};
-use item::CategoryFound;
+use info::look_ups::{get_base, get_dogma_effect};
 use item::codes::category_at;
 use modifier::causes::Cause;
 use modifier::codes::Owner;
 use modifier::moves::{CollectedRooms, Counted};
 use numbers::integers::cut;
-use rules::{ATTRIBUTE_REMOTE_RESISTANCE_ID, DogmaEffect, Item, OptionalId, Refusal};
+use rules::{ATTRIBUTE_REMOTE_RESISTANCE_ID, DogmaEffect, Item, Refusal};
 
 // An id, or what it is where it is 0: 0 is none.
-fn unless_zero(id: i32, other: OptionalId) -> OptionalId
+fn unless_zero(id: i32, other: Option<i32>) -> Option<i32>
     ensures defined { result ≡ unless_zero id other }
 {
     if id == 0 {
         return other;
     }
-    OptionalId::Given(id)
+    Some(id)
 }
 
 // The resistance that attribute 2138 names.
@@ -40,21 +39,21 @@ fn named_resistance(fit: &[u8], pairs: &TablePairs, o: Item) -> i32
     ensures defined { result ≡ named (fit_at fit pairs) o }
 {
     let found = get_base(fit, pairs, o, ATTRIBUTE_REMOTE_RESISTANCE_ID);
-    let FoundBase::At(b) = found else {
+    let Some(b) = found else {
         return 0;
     };
     cut(b.value)
 }
 
 // Attribute 2138 names it, or else the effect does.
-fn get_resistance(fit: &[u8], pairs: &TablePairs, o: Item, e: DogmaEffect) -> OptionalId
+fn get_resistance(fit: &[u8], pairs: &TablePairs, o: Item, e: DogmaEffect) -> Option<i32>
     requires held_fit { HeldFit fit.now pairs.now }
     requires based { Based (fit_of fit.now pairs.now) o }
     ensures defined { result ≡ resistance_of (fit_at fit pairs) o e }
 {
     let own = e.resistance_attribute_id;
     let named = named_resistance(fit, pairs, o);
-    let other = unless_zero(own, OptionalId::Absent);
+    let other = unless_zero(own, None);
     unless_zero(named, other)
 }
 
@@ -69,7 +68,7 @@ pub fn collect_projected_effect(
     used_plain: usize,
     w: Owner,
     e: DogmaEffect,
-    resistance: OptionalId,
+    resistance: Option<i32>,
 ) -> Counted
     requires lent { Lent rooms collected.old collected_values.old }
     requires held_book { HeldBook book.now pairs.now }
@@ -79,7 +78,7 @@ pub fn collect_projected_effect(
 {
     let found = category_at(e.category);
     match found {
-        CategoryFound::At(category) => {
+        Some(category) => {
             let cause = Cause::Projected(w, e, category, resistance);
             collect_modifiers(
                 collected,
@@ -94,7 +93,7 @@ pub fn collect_projected_effect(
                 e.modifiers,
             )
         }
-        CategoryFound::Nothing => Counted::Refused(Refusal::Category(e.number)),
+        None => Counted::Refused(Refusal::Category(e.number)),
     }
 }
 
@@ -121,7 +120,7 @@ pub fn collect_projected(
     let o = w.item;
     let found = get_dogma_effect(book, pairs, places, o.projected_effect);
     match found {
-        FoundEffect::At(e) => {
+        Some(e) => {
             let resistance = get_resistance(fit, pairs, o, e);
             collect_projected_effect(
                 collected,
@@ -136,6 +135,6 @@ pub fn collect_projected(
                 resistance,
             )
         }
-        FoundEffect::Nothing => Counted::At(used, used_plain),
+        None => Counted::At(used, used_plain),
     }
 }

@@ -17,7 +17,7 @@ use Rattle.rules.specs.Answer.{Res, ok, refused, number, place}
 use Rattle.rules.specs.Columns.{value_list}
 use Rattle.rules.specs.Listing.{ascii, natural, listing}
 use Rattle.rules.specs.Outcome.{Rooms, Done, outcome}
-use Rattle.rules.specs.declared.Answer.TheVariants.{Refused}
+use Rattle.rules.specs.Answer.{Refused}
 use Rattle.rules.specs.declared.Refusal.{Refusal}
 use Rattle.rules.specs.declared.Refusal.TheVariants as refusal_is
 use Rattle.reading.specs.Held.{no_row}

@@ -16,7 +16,7 @@ use Rattle.laws.proofs.Laid.{column_length}
 use Rattle.laws.proofs.Maps.{map_itself}
 use Rattle.rules.specs.Answer.{Res, ok, refused, number, place}
 use Rattle.rules.specs.Listing.{ascii, listing}
-use Rattle.rules.specs.declared.Answer.TheVariants.{Refused}
+use Rattle.rules.specs.Answer.{Refused}
 use Rattle.rules.specs.declared.Refusal.{Refusal}
 use Rattle.rules.specs.declared.Refusal.TheVariants as refusal_is
 use Rattle.rules.specs.Outcome.{Lent, Done, outcome}

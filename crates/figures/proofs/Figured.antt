@@ -21,7 +21,7 @@ use Rattle.rules.specs.Columns.{value_list}
 use Rattle.rules.specs.Dispatch.{Row}
 use Rattle.rules.specs.Listing.{natural, integer, listing}
 use Rattle.rules.specs.Outcome.{Done}
-use Rattle.rules.specs.declared.Answer.TheVariants.{Refused}
+use Rattle.rules.specs.Answer.{Refused}
 use Rattle.rules.specs.declared.Refusal.{Refusal}
 use Rattle.listing.specs.Pieces.{Shown, Tells}
 use Rattle.listing.specs.Put.{put, puts, Begins}

@@ -1,4 +1,5 @@
 -- An entry more: what its source rows and its values make of a pile.
+use Rattle.std.specs.Prelude.{None, Some}
 use Prim.Native.Nat.{ℕ, zero, suc, ◌-◌, ◌<◌, min}
 use native.Mathlib.Omega.{arith}
 use mathlib.Core.Path.{◌≡◌, refl, sym, ap, ◌∙◌}
@@ -19,7 +20,6 @@ use Rattle.rules.specs.declared.EffectOperator.{EffectOperator}
 use Rattle.rules.specs.declared.EffectOperator.TheVariants.{PreAssign, PreMul, PreDiv, ModAdd, ModSub, PostMul, PostDiv, PostPercent, PostAssign}
 use Rattle.rules.specs.declared.Refusal.{Refusal}
 use Rattle.rules.specs.declared.Refusal.TheVariants.{Number}
-use Rattle.rules.specs.declared.Step.TheVariants.{Finite, NotFinite}
 use Rattle.rules.specs.declared.Source.{Source}
 use Rattle.operate.specs.Held as bucket
 use Rattle.operate.specs.SoFar.{RunningOf, copies_from, with_copies}
@@ -115,15 +115,15 @@ stack_negative x (suc n) g = refl
 
 -- an entry that runs: what its simplified value says
 module _ (w : World) (i : ℕ) (row : Row) (e : Effect) (v : Float) (g : Gathered) where
-  pub not_finite : simplified e.operator v ≡ NotFinite → entered w i row true e v g ≡ refused (Number row.object)
+  pub not_finite : simplified e.operator v ≡ None → entered w i row true e v g ≡ refused (Number row.object)
   unfolding entered contribute number_at
   not_finite h = rw h refl
 
-  pub with_penalty_lem : (x : Float) → simplified e.operator v ≡ Finite x → e.penalty && has_penalty e.operator ≡ true → entered w i row true e v g ≡ penalised w i row e v x g
+  pub with_penalty_lem : (x : Float) → simplified e.operator v ≡ Some x → e.penalty && has_penalty e.operator ≡ true → entered w i row true e v g ≡ penalised w i row e v x g
   unfolding entered contribute number_at
   with_penalty_lem x h p = rw h (rw p refl)
 
-  pub without_penalty : (x : Float) → simplified e.operator v ≡ Finite x → e.penalty && has_penalty e.operator ≡ false → entered w i row true e v g ≡ unpenalised w i row e v x g
+  pub without_penalty : (x : Float) → simplified e.operator v ≡ Some x → e.penalty && has_penalty e.operator ≡ false → entered w i row true e v g ≡ unpenalised w i row e v x g
   unfolding entered contribute number_at
   without_penalty x h p = rw h (rw p refl)
 
@@ -140,7 +140,7 @@ neg-finite (inf s) h = absurd h
 neg-finite (fin s m e) h = tt
 
 -- what an operator makes of a finite strength is finite, or nothing
-pub finite_of : (op : EffectOperator) (v x : Float) → T (finite v) → simplified op v ≡ Finite x → T (finite x)
+pub finite_of : (op : EffectOperator) (v x : Float) → T (finite v) → simplified op v ≡ Some x → T (finite x)
 unfolding simplified
 finite_of PreAssign v x h e = kept h e
 finite_of PreMul v x h e = step_good _ e

@@ -18,7 +18,7 @@ use numbers::{less, simplified};
 use operate::buckets::Bucket;
 use operate::{Running, more, put_copies, start};
 use reading::entries::has_penalty;
-use rules::{Effect, EffectOperator, Refusal, Step};
+use rules::{Effect, EffectOperator, Refusal};
 use sources::notes::{kept, note, note_penalised};
 use sources::rows::to_source;
 use sources::{Noted, Recording};
@@ -300,7 +300,7 @@ fn add_running(
     let operator = e.operator;
     let step = simplified(operator, strength);
     match step {
-        Step::Finite(x) => {
+        Some(x) => {
             if e.penalty & has_penalty(operator) {
                 return add_penalised(
                     positives,
@@ -319,7 +319,7 @@ fn add_running(
             }
             add_plain(sources, floats, run, first, high, e, strength, x, p)
         }
-        Step::NotFinite => stopped(p, Refusal::Number(object)),
+        None => stopped(p, Refusal::Number(object)),
     }
 }
 

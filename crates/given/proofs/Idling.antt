@@ -1,4 +1,5 @@
 -- Values read off the listing, and whether entries that do not run have a strength by it.
+use Rattle.std.specs.Prelude.{None, Some}
 use Prim.Native.Nat.{ℕ, zero, suc, ◌+◌, ◌≤◌, ◌<◌}
 use native.Mathlib.Omega.{arith}
 use mathlib.Core.Path.{◌≡◌, refl, sym, ap, subst, ◌∙◌}
@@ -26,12 +27,10 @@ use Rattle.rules.specs.Value.{World, Mem, Read, Found, find_row, state_of, resis
 use Rattle.rules.specs.Fresh.{unrecorded}
 use Rattle.rules.specs.declared.Effect.{Effect}
 use Rattle.rules.specs.declared.EffectCategory.{EffectCategory}
-use Rattle.rules.specs.declared.OptionalId.{OptionalId}
-use Rattle.rules.specs.declared.OptionalId.TheVariants.{Absent, Given}
+use Rattle.rules.specs.Ids.{OptionalId}
 use Rattle.rules.specs.declared.Origin.{Origin}
 use Rattle.rules.specs.declared.Origin.TheVariants as origin
-use Rattle.rules.specs.declared.Step.{Step}
-use Rattle.rules.specs.declared.Step.TheVariants.{Finite, NotFinite}
+use Rattle.rules.specs.Number.{Step}
 use Rattle.info.proofs.Defaults.{defaults_finite}
 use Rattle.reading.specs.Held.{index_of, is_running, Sourced, EntryHeld}
 use Rattle.memory.specs.Holding.{Tables, Good}
@@ -128,8 +127,8 @@ module _ {t : Tables} {v : List Float} (h : Judged t v) (i : ℕ) (row : Row) wh
   read_held o a res = by (listed_reader w h.values o a) refl res
     where
       stepped : (s : Step) → is_number s ≡ is_ok {A = Unit {0}} ((number_at row.object s >>= λ z. ok (record { value = z; mem = m })) >>= λ (q : Read). ok tt)
-      stepped (Finite x) = refl
-      stepped NotFinite = refl
+      stepped (Some x) = refl
+      stepped None = refl
 
       against : (u : Float) (y : Res Float)
           → is_number (times u (float_in y)) ≡ is_ok {A = Unit {0}} (((y >>= λ z. ok (record { value = z; mem = m })) >>= λ (q : Read). number_at row.object (times u q.value) >>= λ z. ok (record { value = z; mem = q.mem })) >>= λ (q : Read). ok tt)
@@ -138,10 +137,10 @@ module _ {t : Tables} {v : List Float} (h : Judged t v) (i : ℕ) (row : Row) wh
 
       by : (x : Res Float) → listed_reader w h.values o a ≡ x → (res : OptionalId)
           → held_up w h.values res (float_in x) ≡ is_ok {A = Unit {0}} ((x >>= λ z. ok (record { value = z; mem = m })) >>= λ q. resisted (unrecorded w) i row (looks w h.values) res q >>= λ s. ok tt)
-      by (refused y) e Absent = nan-apart
-      by (refused y) e (Given b) = nan-times (float_in (listed_reader w h.values 0 b))
-      by (ok u) e Absent = eq_self u ∙ ap not (finite-not-nan u (is_true (finite u) (listed_number h o a u e)))
-      by (ok u) e (Given b) = against u (listed_reader w h.values 0 b)
+      by (refused y) e None = nan-apart
+      by (refused y) e (Some b) = nan-times (float_in (listed_reader w h.values 0 b))
+      by (ok u) e None = eq_self u ∙ ap not (finite-not-nan u (is_true (finite u) (listed_number h o a u e)))
+      by (ok u) e (Some b) = against u (listed_reader w h.values 0 b)
 
   abbrev strong : Effect → Origin → Bool
   strong e g = is_ok (idle (unrecorded h.world) (looks h.world h.values) i row e g (blank h.world.rows))

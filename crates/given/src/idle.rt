@@ -16,9 +16,8 @@ use info::little_endian::index;
 use info::look_ups::get_dogma_attribute;
 use numbers::product;
 use reading::entries::{entry_at, is_running};
-use reading::rows::Found;
 use reading::stretches::find;
-use rules::{Effect, OptionalId, Origin, Step};
+use rules::{Effect, Origin};
 
 // A value as it is listed: an absent attribute's default, NaN where its line has none.
 fn listed_value(
@@ -43,8 +42,8 @@ fn listed_value(
 {
     let found = find(rows, stretches, object, attribute);
     match found {
-        Found::At(row) => values[row],
-        Found::Nothing => {
+        Some(row) => values[row],
+        None => {
             let record = get_dogma_attribute(book, pairs, attribute);
             record.default_value
         }
@@ -63,7 +62,7 @@ fn is_held(
     bases: &[f64],
     entries: &[EntryRow],
     entry_values: &[f64],
-    resistance: OptionalId,
+    resistance: Option<i32>,
     v: f64,
 ) -> bool
     requires judged { let t = lent book pairs states stretches limits rows bases entries entry_values in
@@ -72,8 +71,8 @@ fn is_held(
         ((h : Judged t values.now) → result ≡ held_up h.world h.values resistance v) }
 {
     match resistance {
-        OptionalId::Absent => v == v,
-        OptionalId::Given(attribute) => {
+        None => v == v,
+        Some(attribute) => {
             let q = listed_value(
                 values,
                 book,
@@ -90,8 +89,8 @@ fn is_held(
             );
             let step = product(v, q);
             match step {
-                Step::Finite(_) => true,
-                Step::NotFinite => false,
+                Some(_) => true,
+                None => false,
             }
         }
     }

@@ -2,11 +2,11 @@
 #![tactic(auto)]
 
 ghost use Rattle.std.specs.Prelude.{◌≡◌, true, ◌<◌, map, T, length, get_or};
+ghost use Rattle.laws.specs.Options.{option_of};
 ghost use Rattle.std.proofs.Math.Option.{none};
 ghost use Rattle.laws.specs.Floats.{finite};
 ghost use Rattle.memory.specs.Steps.{row_at};
 ghost use Rattle.pass_3.specs.Calls.{lent, read};
-ghost use Rattle.reading.specs.Held.{placed};
 ghost use Rattle.values.specs.Starting.{Untouched};
 ghost use Rattle.settled.specs.Given.{given};
 ghost use Rattle.settled.specs.Lines.{line_of, same_float, is_given, first_wrong, first_bad};
@@ -21,7 +21,6 @@ use lines::{LineRow, first_other, set_listed};
 use memory::apply::Got;
 use numbers::integers::signed;
 use pass_3::calculate_value;
-use reading::rows::Found;
 use reading::stretches::is_limited;
 use sources::Recording;
 
@@ -182,12 +181,12 @@ pub fn first_wrong(
     entries: &[EntryRow],
     entry_values: &[f64],
     recording: bool,
-) -> Found
+) -> Option<usize>
     requires judged { let t = lent book pairs states stretches limits rows bases entries entry_values in
         Judged t values.old }
     ensures defined { let t = read book pairs states stretches limits rows bases entries entry_values in
         ((h : Judged t values.old) → recording ≡ h.world.recording
-        → placed result ≡ first_wrong h.world h.values 0 h.world.rows) }
+        → option_of result ≡ first_wrong h.world h.values 0 h.world.rows) }
     ensures kept { KeptUnless result values }
 {
     let n = rows.len();
@@ -207,10 +206,10 @@ pub fn first_wrong(
             i,
         );
         if !right {
-            return Found::At(i);
+            return Some(i);
         }
     }
-    Found::Nothing
+    None
 }
 
 // The first bad line: rows are compared before values.
@@ -227,16 +226,16 @@ pub fn first_bad(
     entry_values: &[f64],
     listing: &[LineRow],
     recording: bool,
-) -> Found
+) -> Option<usize>
     requires awaits { let t = lent book pairs states stretches limits rows bases entries entry_values in
         Awaits t values.old }
     ensures defined { let t = read book pairs states stretches limits rows bases entries entry_values in
         ((h : Awaits t values.old) → recording ≡ h.world.recording
-        → placed result ≡ first_bad h.world (map line_of listing.now)) }
+        → option_of result ≡ first_bad h.world (map line_of listing.now)) }
     ensures laid { LaidUnless result listing.now values.new }
 {
     let other = first_other(rows, listing);
-    let Found::Nothing = other else {
+    let None = other else {
         return other;
     };
     set_listed(values, listing);

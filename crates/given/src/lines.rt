@@ -1,5 +1,6 @@
 // The lines of a listing: their keys beside our rows', and their values into the value column.
 ghost use Rattle.std.specs.Prelude.{◌≡◌, ◌&&◌, List, map, ◌+◌, ◌*◌, ◌≤◌, ◌<◌, ◌^◌, eqb, length, get_or};
+ghost use Rattle.laws.specs.Options.{option_of};
 ghost use Rattle.std.specs.Float.{binary64};
 ghost use Rattle.std.specs.Float.Ieee.{of_bits};
 ghost use Rattle.std.specs.Int.{w32};
@@ -7,14 +8,13 @@ ghost use Rattle.std.proofs.Common.{to_z, of_z};
 ghost use Rattle.laws.specs.Columns.{Col};
 ghost use Rattle.rules.specs.Dispatch.{Row};
 ghost use Rattle.promises.specs.NoMemory.{key_of};
-ghost use Rattle.reading.specs.Held.{RowsHeld, placed};
+ghost use Rattle.reading.specs.Held.{RowsHeld};
 ghost use Rattle.settled.specs.Lines.{first_other};
 ghost use Rattle.given.specs.Judging.{shown_bits, shown_in, key_in};
 
 use columns::{AttributeRow, ROW_ATTRIBUTE, ROW_OBJECT};
 use numbers::integers::signed;
 use numbers::is_finite;
-use reading::rows::Found;
 
 // A line: object, attribute, and the value's 64 bits as two halves.
 pub type LineRow = [u32; 4];
@@ -84,25 +84,25 @@ fn has_key(row: AttributeRow, line: LineRow) -> bool
 }
 
 // The first place where the lines' keys are not the rows', or where one of the two has ended.
-pub fn first_other(rows: &[AttributeRow], listing: &[LineRow]) -> Found
+pub fn first_other(rows: &[AttributeRow], listing: &[LineRow]) -> Option<usize>
     ensures defined { (rs : List Row) → RowsHeld rs rows.now
-        → placed result ≡ first_other 0 (map key_in listing.now) (map key_of rs) }
+        → option_of result ≡ first_other 0 (map key_in listing.now) (map key_of rs) }
 {
     let n = rows.len();
     let lines = listing.len();
     for i in 0..n {
         if lines <= i {
-            return Found::At(i);
+            return Some(i);
         }
         let row = rows[i];
         let line = listing[i];
         let same = has_key(row, line);
         if !same {
-            return Found::At(i);
+            return Some(i);
         }
     }
     if n < lines {
-        return Found::At(n);
+        return Some(n);
     }
-    Found::Nothing
+    None
 }

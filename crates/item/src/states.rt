@@ -4,7 +4,6 @@ ghost use Rattle.rules.specs.Codes.{category_at, state_code};
 ghost use Rattle.rules.specs.Item.{required_state, lowest_state, runs_answer, is_passive, category_on};
 ghost use Rattle.rules.specs.States.{code_or0, raised_to};
 
-use super::CategoryFound;
 use super::codes::{category_at, category_code};
 use super::locations::is_rig;
 use rules::{EffectCategory, Item, ItemState, RunsAt};
@@ -86,7 +85,7 @@ pub fn raises_to(o: Item, code: u32) -> u32
 {
     let found = category_at(code);
     match found {
-        CategoryFound::At(category) => reaches(category_on(o, category)),
-        CategoryFound::Nothing => 0,
+        Some(category) => reaches(category_on(o, category)),
+        None => 0,
     }
 }

@@ -4,16 +4,15 @@
 ghost use Rattle.std.specs.Prelude.{◌≡◌, false, [], ◌∷◌, ◌+◌, ◌*◌, ◌≤◌, ◌<◌, length};
 ghost use Rattle.rules.specs.Listing as L;
 ghost use Rattle.rules.specs.Listing.{natural, integer, minus_if, decimals, listing};
-ghost use Rattle.rules.specs.Number.{hundredths_of};
+ghost use Rattle.rules.specs.Number.{hundredths_of, rounded};
 ghost use Rattle.rules.specs.Answer as answer;
 ghost use Rattle.rules.specs.Answer.{Res, ok, refused};
 ghost use Rattle.rules.specs.Outcome.{Done};
 ghost use Rattle.rules.specs.Dispatch.{Row};
 ghost use Rattle.clear.specs.Ends.{ClearedFrom};
 ghost use Rattle.listing.specs.Put.{Added, Begins};
-ghost use Rattle.rules.specs.declared.Hundredths.TheVariants.{Rounded};
 ghost use Rattle.rules.specs.declared.Refusal.{Refusal};
-ghost use Rattle.rules.specs.declared.Answer.TheVariants.{Refused};
+ghost use Rattle.rules.specs.Answer.{Refused};
 ghost use Rattle.listing.specs.Pieces.{longest, longest_refusal, head_of, Shown, Tells};
 
 use columns::{AttributeRow, ROW_ATTRIBUTE, ROW_OBJECT};
@@ -89,8 +88,8 @@ fn put_minus(out: &mut [u8], at: usize, minus: bool) -> usize
 
 // Hundredths with no minus: the whole part, and two digits behind the point.
 fn put_rounded(out: &mut [u8], at: usize, count: u64) -> usize
-    requires room { at + length (decimals (Rounded false count)) ≤ length out.old }
-    ensures added { Added out at result (decimals (Rounded false count)) }
+    requires room { at + length (decimals (rounded false count)) ≤ length out.old }
+    ensures added { Added out at result (decimals (rounded false count)) }
 {
     let point = put_natural(out, at, count / 100);
     let tenths = put_byte(out, point, b'.');
@@ -99,15 +98,15 @@ fn put_rounded(out: &mut [u8], at: usize, count: u64) -> usize
 }
 
 // A value's hundredths, or a star.
-fn put_hundredths(out: &mut [u8], at: usize, value: Hundredths) -> usize
+fn put_hundredths(out: &mut [u8], at: usize, value: Option<Hundredths>) -> usize
     requires room { at + length (decimals value) ≤ length out.old }
     ensures added { Added out at result (decimals value) }
 {
     match value {
-        Hundredths::Star => put_byte(out, at, b'*'),
-        Hundredths::Rounded { minus, count } => {
-            let next = put_minus(out, at, minus);
-            put_rounded(out, next, count)
+        None => put_byte(out, at, b'*'),
+        Some(h) => {
+            let next = put_minus(out, at, h.minus);
+            put_rounded(out, next, h.count)
         }
     }
 }

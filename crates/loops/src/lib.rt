@@ -11,7 +11,6 @@ use columns::{AttributeRow, EntryRow, Limits, ROW_OBJECT, Stretches, TablePairs}
 use info::little_endian::index;
 use needs::{need_at, slots_of};
 use order::{WORK_MARK, WORK_PLACED, WorkRow, ordered, put, unmet};
-use reading::rows::Found;
 
 // The lowest object with an attribute that leads back to itself, where there is one.
 #[derive(Clone, Copy)]
@@ -67,8 +66,8 @@ fn meet(
     for s in 0..slots {
         let found = need_at(book, pairs, stretches, limits, rows, entries, at, s);
         match found {
-            Found::Nothing => {}
-            Found::At(k) => {
+            None => {}
+            Some(k) => {
                 if k == row {
                     return Met::Back;
                 }

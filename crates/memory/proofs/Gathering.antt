@@ -1,4 +1,5 @@
 -- An operator's entries gathered one after another, and then applied.
+use Rattle.std.specs.Prelude.{None, Some}
 use Prim.Native.Nat.{ℕ, ◌+◌, ◌≤◌, ◌<◌}
 use native.Mathlib.Omega.{arith}
 use mathlib.Core.Path.{◌≡◌, refl, sym, ap, subst, ◌∙◌}
@@ -28,8 +29,7 @@ use Rattle.rules.specs.declared.Effect.{Effect}
 use Rattle.rules.specs.declared.EffectOperator.{EffectOperator}
 use Rattle.rules.specs.declared.Refusal.{Refusal}
 use Rattle.rules.specs.declared.Source.{Source}
-use Rattle.rules.specs.declared.Step.{Step}
-use Rattle.rules.specs.declared.Step.TheVariants.{Finite, NotFinite}
+use Rattle.rules.specs.Number.{Step}
 use Rattle.reading.specs.Held.{no_row}
 use Rattle.sources.specs.declared.Recording.{Recording}
 use Rattle.sources.specs.Planned.{counts_of, planned_of, planned_for, planned_by, Started, Grown}
@@ -227,10 +227,10 @@ module _ {t : Tables} {run : Recording} {v₀ : List Float} {s₁ : List (List �
       gathering_applied z r s' f' a = rw (asked_is z) (by (applied high op found G.sofar.values) r a)
         where
           by : (x : Step) (r : Part) → Applied (number_at row.object x >>= λ n. ok (record { value = n; mem = marked_by i G.sofar })) r s' f' → PartReturns w s₀ f₀ i (number_at row.object x >>= λ n. ok (record { value = n; mem = marked_by i G.sofar })) r v s' f'
-          by (Finite n) (part.At y a b) q = (q.0, q.1, q.2.mine, marked-holds q.2)
-          by (Finite n) (part.Refused y) q = absurd q
-          by NotFinite (part.At y a b) q = absurd q
-          by NotFinite (part.Refused y) q = q
+          by (Some n) (part.At y a b) q = (q.0, q.1, q.2.mine, marked-holds q.2)
+          by (Some n) (part.Refused y) q = absurd q
+          by None (part.At y a b) q = absurd q
+          by None (part.Refused y) q = q
 
 -- a row's attribute by the numbers of list 2
 pub high_is : {t : Tables} {run : Recording} {v : List Float} {s : List (List ℕ)} {f : List (List Float)} {used : ℕ} (h : Ready t run v s f used) (i : ℕ) → i < length h.world.rows

@@ -1,4 +1,5 @@
 -- A limit, a resistance, an entry's strength and a row's evaluation, each from what it has read.
+use Rattle.std.specs.Prelude.{None, Some}
 use Prim.Native.Nat.{ℕ, ◌<◌}
 use native.Mathlib.Omega.{arith}
 use mathlib.Core.Path.{◌≡◌, refl, sym, ap, subst, ◌∙◌}
@@ -20,12 +21,10 @@ use Rattle.rules.specs.Number.{times, number_at, step}
 use Rattle.rules.specs.Value.{World, Mem, Read, Reader, resisted, operate, clamped, at_least, at_most}
 use Rattle.rules.specs.declared.Effect.{Effect}
 use Rattle.rules.specs.declared.EffectCategory.{EffectCategory}
-use Rattle.rules.specs.declared.OptionalId.TheVariants.{Absent, Given}
 use Rattle.rules.specs.declared.Origin.{Origin}
 use Rattle.rules.specs.declared.Origin.TheVariants as origin
 use Rattle.rules.specs.declared.Refusal.{Refusal}
 use Rattle.rules.specs.declared.Refusal.TheVariants.{Number}
-use Rattle.rules.specs.declared.Step.TheVariants.{Finite, NotFinite}
 use Rattle.operate.proofs.Snocs.{step_good}
 use Rattle.memory.specs.Steps.{strength_of, evaluation}
 use Rattle.memory.specs.Holding.{Holds}
@@ -74,13 +73,13 @@ module _ (w : World) (s₀ : List (List ℕ)) (f₀ : List (List Float)) (v' : L
 
   -- the ship's resistance
   module _ (i : ℕ) (row : Row) (read : Reader) (v : Float) (m : Mem) where
-    pub not_resisted : {used : ℕ} → T (finite v) → Holds w s₀ f₀ m v' s' f' used → Returns w s₀ f₀ (resisted w i row read Absent (record { value = v; mem = m })) (got.Value v used) v' s' f'
+    pub not_resisted : {used : ℕ} → T (finite v) → Holds w s₀ f₀ m v' s' f' used → Returns w s₀ f₀ (resisted w i row read None (record { value = v; mem = m })) (got.Value v used) v' s' f'
     unfolding resisted
     not_resisted good h = (refl, good, h)
 
     module _ (a : ℤ) where
       abbrev resisting : Res Read
-      resisting = resisted w i row read (Given a) (record { value = v; mem = m })
+      resisting = resisted w i row read (Some a) (record { value = v; mem = m })
 
       abbrev product : Read → Res Read
       product q = number_at row.object (times v q.value) >>= λ x. ok (record { value = x; mem = q.mem })
@@ -99,19 +98,19 @@ module _ (w : World) (s₀ : List (List ℕ)) (f₀ : List (List Float)) (v' : L
         product_is : resisting ≡ product q.read
         product_is = resist_read ∙ ap (λ (z : Res Read). z >>= product) q.is
 
-        made : (x : Float) → times v q.read.value ≡ Finite x → product q.read ≡ ok (record { value = x; mem = q.read.mem })
+        made : (x : Float) → times v q.read.value ≡ Some x → product q.read ≡ ok (record { value = x; mem = q.read.mem })
         unfolding number_at
         made x p = rw p refl
 
-        not_made : times v q.read.value ≡ NotFinite → product q.read ≡ refused (Number row.object)
+        not_made : times v q.read.value ≡ None → product q.read ≡ refused (Number row.object)
         unfolding number_at
         not_made p = rw p refl
 
-        pub resist_made : (x : Float) → times v y ≡ Finite x → T (finite x) → Returns w s₀ f₀ resisting (got.Value x used) v' s' f'
+        pub resist_made : (x : Float) → times v y ≡ Some x → T (finite x) → Returns w s₀ f₀ resisting (got.Value x used) v' s' f'
         resist_made x e good =
             meets-value w s₀ f₀ v' s' f' resisting (record { value = x; mem = q.read.mem }) (product_is ∙ made x (sym (ap (times v) q.value) ∙ e)) refl good q.holds
 
-        pub resist_not_finite : {object : ℕ} → times v y ≡ NotFinite → row.object ≡ object → Returns w s₀ f₀ resisting (got.Refused (Number object)) v' s' f'
+        pub resist_not_finite : {object : ℕ} → times v y ≡ None → row.object ≡ object → Returns w s₀ f₀ resisting (got.Refused (Number object)) v' s' f'
         resist_not_finite {object} e o =
             meets-refused w s₀ f₀ v' s' f' resisting (product_is ∙ not_made (sym (ap (times v) q.value) ∙ e) ∙ ap (λ (n : ℕ). refused (Number n)) o)
 
@@ -185,5 +184,5 @@ module _ (w : World) (s₀ : List (List ℕ)) (f₀ : List (List Float)) (v' : L
     plain_row none_there low high e good h = meets-value w s₀ f₀ v' s' f' evaluating _ (no_limits w read i row none_there m low high) e good h
 
 -- what a product gives is finite
-pub product_good : (v y : Float) {x : Float} → times v y ≡ Finite x → T (finite x)
+pub product_good : (v y : Float) {x : Float} → times v y ≡ Some x → T (finite x)
 product_good v y e = step_good (mul binary64 v y) e

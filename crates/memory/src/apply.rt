@@ -6,7 +6,7 @@ use columns::SourceFloats;
 use gather::Pile;
 use numbers::less;
 use operate::finished;
-use rules::{Refusal, Step};
+use rules::Refusal;
 use sources::Recording;
 use sources::marks::set_penalties;
 
@@ -34,12 +34,12 @@ pub fn apply(floats: &mut [SourceFloats], run: Recording, first: u32, object: u3
     let negative = p.negative;
     let step = finished(running, positive, negative);
     match step {
-        Step::Finite(v) => {
+        Some(v) => {
             set_penalties(floats, run, first, positive);
             set_penalties(floats, run, first, negative);
             Part::At(v, p.own, p.used)
         }
-        Step::NotFinite => Part::Refused(Refusal::Number(object)),
+        None => Part::Refused(Refusal::Number(object)),
     }
 }
 

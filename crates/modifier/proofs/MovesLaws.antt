@@ -1,4 +1,5 @@
 -- What an own and a projected modifier give, test by test.
+use Rattle.std.specs.Prelude.{None}
 use Prim.Native.Nat.{ℕ}
 use mathlib.Core.Path.{◌≡◌, sym, ap, ◌∙◌}
 use mathlib.Core.Bool.{◌&&◌, cond}
@@ -15,8 +16,7 @@ use Rattle.rules.specs.declared.EffectCategory.{EffectCategory}
 use Rattle.rules.specs.declared.EffectCategory.TheVariants.{Passive}
 use Rattle.rules.specs.declared.EffectOperator.{EffectOperator}
 use Rattle.rules.specs.declared.Modifier.{Modifier}
-use Rattle.rules.specs.declared.OptionalId.{OptionalId}
-use Rattle.rules.specs.declared.OptionalId.TheVariants.{Absent}
+use Rattle.rules.specs.Ids.{OptionalId}
 use Rattle.modifier.specs.declared.codes.TargetTest.{TargetTest}
 use Rattle.modifier.specs.Tests.{own_target, target_of}
 use Rattle.modifier.specs.Causes.{effect_of, resistance_of}
@@ -28,14 +28,14 @@ module _ (o : Item) (e : DogmaEffect) (m : DogmaModifier) where
 
   module _ (k : Book) (f : Fit) (c : EffectCategory) where
     -- an own modifier: func, operation, target
-    pub own_func : {t : Test Modifier} → test_func m ≡ t → modifier_moves k f o e c m ≡ then t (λ func. then (test_operation m.operation m.number) (λ op. own_target f o m (λ target. taken (effect_of o e m (source_of c) Absent func op target) ∷ [])))
+    pub own_func : {t : Test Modifier} → test_func m ≡ t → modifier_moves k f o e c m ≡ then t (λ func. then (test_operation m.operation m.number) (λ op. own_target f o m (λ target. taken (effect_of o e m (source_of c) None func op target) ∷ [])))
     unfolding modifier_moves
     own_func h = then_is h _
 
-    pub own_operation : {func : Modifier} {t : Test EffectOperator} → test_func m ≡ go func → test_operation m.operation m.number ≡ t → modifier_moves k f o e c m ≡ then t (λ op. own_target f o m (λ target. taken (effect_of o e m (source_of c) Absent func op target) ∷ []))
+    pub own_operation : {func : Modifier} {t : Test EffectOperator} → test_func m ≡ go func → test_operation m.operation m.number ≡ t → modifier_moves k f o e c m ≡ then t (λ op. own_target f o m (λ target. taken (effect_of o e m (source_of c) None func op target) ∷ []))
     own_operation h i = own_func h ∙ then_is i _
 
-    pub own_target_lem : {func : Modifier} {op : EffectOperator} (r : TargetTest) {t : TargetTest} → test_func m ≡ go func → test_operation m.operation m.number ≡ go op → ((g : ℕ → List Move) → then (target_of r) g ≡ own_target f o m g) → r ≡ t → modifier_moves k f o e c m ≡ then (target_of t) (λ target. taken (effect_of o e m (source_of c) Absent func op target) ∷ [])
+    pub own_target_lem : {func : Modifier} {op : EffectOperator} (r : TargetTest) {t : TargetTest} → test_func m ≡ go func → test_operation m.operation m.number ≡ go op → ((g : ℕ → List Move) → then (target_of r) g ≡ own_target f o m g) → r ≡ t → modifier_moves k f o e c m ≡ then (target_of t) (λ target. taken (effect_of o e m (source_of c) None func op target) ∷ [])
     own_target_lem r h i j g = own_operation h i ∙ sym (j _) ∙ then_is (ap target_of g) _
 
   -- a projected one: target, func, operation

@@ -1,5 +1,5 @@
 -- What a modifier gives, by what it is collected for.
-use Rattle.std.specs.Prelude.{ℕ, ◌≡◌, List, [], ◌∷◌}
+use Rattle.std.specs.Prelude.{ℕ, ◌≡◌, List, [], ◌∷◌, None}
 use Rattle.rules.specs.Sheet.{Book, Fit}
 use Rattle.rules.specs.Collect.{Move, taken, refuse, modifier_moves, projected_modifier_moves, buff_modifier_moves, named, unless_zero}
 use Rattle.rules.specs.declared.Modifier.{Modifier}
@@ -10,8 +10,7 @@ use Rattle.rules.specs.declared.Item.{Item}
 use Rattle.rules.specs.declared.EffectCategory.{EffectCategory}
 use Rattle.rules.specs.declared.Origin.TheVariants.{Effect}
 use Rattle.rules.specs.declared.Pass2Effect.{Pass2Effect}
-use Rattle.rules.specs.declared.OptionalId.{OptionalId}
-use Rattle.rules.specs.declared.OptionalId.TheVariants.{Absent}
+use Rattle.rules.specs.Ids.{OptionalId}
 use Rattle.modifier.specs.Tests.{OwnerOf}
 use Rattle.modifier.specs.declared.causes.Moved.{Moved}
 use Rattle.modifier.specs.declared.causes.Moved.TheVariants as move
@@ -37,7 +36,7 @@ effect_of o e m c r func op target =
     }
 
 abbrev pub resistance_of : Fit → Item → DogmaEffect → OptionalId
-resistance_of f o e = unless_zero (named f o) (unless_zero e.resistance_attribute_id Absent)
+resistance_of f o e = unless_zero (named f o) (unless_zero e.resistance_attribute_id None)
 
 -- what a modifier gives, by what it is collected for
 abbrev pub cause_moves : Book → Fit → Cause → DogmaModifier → List Move

@@ -13,10 +13,7 @@ use super::codes::{
     get_own_target, get_projected_object,
 };
 use item::locations::is_rig;
-use rules::{
-    ATTRIBUTE_UPGRADE_LOAD_ID, DogmaEffect, DogmaModifier, EffectCategory, EffectOperator, Item,
-    Modifier, OptionalId, Origin, Pass2Effect, ProjectedBuff, Refusal,
-};
+use rules::{ATTRIBUTE_UPGRADE_LOAD_ID, DogmaEffect, DogmaModifier, EffectCategory, EffectOperator, Item, Modifier, Origin, Pass2Effect, ProjectedBuff, Refusal};
 
 // What a modifier gives.
 #[derive(Clone, Copy)]
@@ -30,7 +27,7 @@ pub enum Moved {
 #[derive(Clone, Copy)]
 pub enum Cause {
     Own(Owner, DogmaEffect, EffectCategory),
-    Projected(Owner, DogmaEffect, EffectCategory, OptionalId),
+    Projected(Owner, DogmaEffect, EffectCategory, Option<i32>),
     Buff(ProjectedBuff, EffectOperator),
 }
 
@@ -50,7 +47,7 @@ fn effect_of(
     e: DogmaEffect,
     m: DogmaModifier,
     source: EffectCategory,
-    resistance: OptionalId,
+    resistance: Option<i32>,
     modifier: Modifier,
     operator: EffectOperator,
     target: u32,
@@ -88,7 +85,7 @@ pub fn own_move(w: Owner, e: DogmaEffect, category: EffectCategory, m: DogmaModi
                     match aim {
                         TargetTest::Go(target) => {
                             let source = source_category(o, category, m.modified_attribute_id);
-                            let absent = OptionalId::Absent;
+                            let absent = None;
                             let t = effect_of(o, e, m, source, absent, modifier, operator, target);
                             Moved::Taken(t)
                         }
@@ -110,7 +107,7 @@ fn projected_move(
     w: Owner,
     e: DogmaEffect,
     category: EffectCategory,
-    resistance: OptionalId,
+    resistance: Option<i32>,
     m: DogmaModifier,
 ) -> Moved
     ensures defined { (f : Fit) → OwnerOf f w → resistance ≡ resistance_of f w.item e
@@ -158,7 +155,7 @@ fn buff_move(b: ProjectedBuff, operator: EffectOperator, m: DogmaModifier) -> Mo
             source_quantity: 1,
             target: 0,
             target_attribute_id: m.modified_attribute_id,
-            resistance: OptionalId::Absent,
+            resistance: None,
         }),
         FuncTest::Over => Moved::Over,
         FuncTest::Bad(x) => Moved::Bad(x),

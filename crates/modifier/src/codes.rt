@@ -4,7 +4,6 @@ ghost use Rattle.rules.specs.Sheet.{Fit};
 ghost use Rattle.rules.specs.Collect.{Move, test_func, test_operation, test_domain, test_projected_domain, then};
 ghost use Rattle.modifier.specs.Tests.{OwnerOf, func_of, operation_of, target_of, own_target};
 
-use item::OperatorFound;
 use item::codes::operator_at;
 use rules::{CHARGE, DogmaModifier, EffectOperator, ITEM, Item, Modifier, Refusal, SKILL};
 
@@ -62,8 +61,8 @@ pub fn get_effect_operator(operation: u32, number: u32) -> OperationTest
 {
     let found = operator_at(operation);
     match found {
-        OperatorFound::At(operator) => OperationTest::Go(operator),
-        OperatorFound::Nothing => {
+        Some(operator) => OperationTest::Go(operator),
+        None => {
             if operation == 9 {
                 return OperationTest::Over;
             }

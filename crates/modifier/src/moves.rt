@@ -12,7 +12,7 @@ use columns::{
 };
 use item::codes::{category_code, operator_code};
 use numbers::integers::{bits, optional_numbers};
-use rules::{Modifier, OptionalId, Origin, Pass2Effect, Refusal};
+use rules::{Modifier, Origin, Pass2Effect, Refusal};
 
 // The first six numbers of a row of list 1, what the effect comes from, and the next two.
 type OriginNumbers = [u32; 6];

@@ -1,4 +1,5 @@
 -- What the numbers of an entry, and a row's record, say of the slots.
+use Rattle.std.specs.Prelude.{None, Some}
 use Prim.Native.Nat.{ℕ, zero, suc, ◌+◌, ◌*◌, ◌≤◌, ◌<◌}
 use native.Mathlib.Nat.{not-suc-le-zero}
 use native.Mathlib.Omega.{arith}
@@ -24,8 +25,7 @@ use Rattle.rules.specs.Sheet.{Book, book_of}
 use Rattle.rules.specs.Value.{World, Found, find_row}
 use Rattle.rules.specs.declared.DogmaAttribute.{DogmaAttribute}
 use Rattle.rules.specs.declared.Effect.{Effect}
-use Rattle.rules.specs.declared.OptionalId.{OptionalId}
-use Rattle.rules.specs.declared.OptionalId.TheVariants.{Absent, Given}
+use Rattle.rules.specs.Ids.{OptionalId}
 use Rattle.rules.specs.declared.Origin.{Origin}
 use Rattle.rules.specs.declared.Origin.TheVariants as origin
 use Rattle.info.specs.Stands.{NarrowOrigin, NarrowId}
@@ -75,8 +75,8 @@ module _ {entry : List ℕ} {e : Effect} (S : EntryShown e entry) where
     ship_found : (res : OptionalId) (g : Origin) (p q n k : ℕ) → entry ≡ origin_numbers g ++ (p ∷ q ∷ n ∷ (optional_numbers res ++ (k ∷ []))) → NarrowId res → get_or entry 0 0 ≡ 0 → get_or entry 9 0 ≡ 1 → (x : ℤ) → of_z w32 x ≡ get_or entry 10 0
         → index_of (find_row 0 (to_z w32 (of_z w32 x)) 0 rs) ≡ row_in rs (resistance_slot res g)
     ship_found res (origin.Buff b v) p q n k h m z y x u = absurd (omega (arith, z, ap (λ (l : List ℕ). get_or l 0 0) h))
-    ship_found Absent (origin.Effect f o c a) p q n k h m z y x u = absurd (omega (arith, y, ap (λ (l : List ℕ). get_or l 9 0) h))
-    ship_found (Given a) (origin.Effect f o c b) p q n k h m z y x u =
+    ship_found None (origin.Effect f o c a) p q n k h m z y x u = absurd (omega (arith, y, ap (λ (l : List ℕ). get_or l 9 0) h))
+    ship_found (Some a) (origin.Effect f o c b) p q n k h m z y x u =
         ap (λ (y : ℤ). index_of (find_row 0 y 0 rs)) (ap (to_z w32) (u ∙ ap (λ (l : List ℕ). get_or l 10 0) h) ∙ to_z-of_z m)
 
     pub resistance_found : get_or entry 0 0 ≡ 0 → get_or entry 9 0 ≡ 1 → (x : ℤ) → of_z w32 x ≡ get_or entry 10 0 → {r : Option ℕ} → r ≡ index_of (find_row 0 (to_z w32 (of_z w32 x)) 0 rs) → r ≡ row_in rs (resistance_slot e.resistance e.origin)
@@ -84,8 +84,8 @@ module _ {entry : List ℕ} {e : Effect} (S : EntryShown e entry) where
 
     ship_none : (res : OptionalId) (g : Origin) (p q n k : ℕ) → entry ≡ origin_numbers g ++ (p ∷ q ∷ n ∷ (optional_numbers res ++ (k ∷ []))) → get_or entry 0 0 ≡ 0 → (get_or entry 9 0 ≡ 1 → ⊥) → none ≡ row_in rs (resistance_slot res g)
     ship_none res (origin.Buff b v) p q n k h z y = refl
-    ship_none Absent (origin.Effect f o c a) p q n k h z y = refl
-    ship_none (Given x) (origin.Effect f o c a) p q n k h z y = absurd (y (ap (λ (l : List ℕ). get_or l 9 0) h))
+    ship_none None (origin.Effect f o c a) p q n k h z y = refl
+    ship_none (Some x) (origin.Effect f o c a) p q n k h z y = absurd (y (ap (λ (l : List ℕ). get_or l 9 0) h))
 
     pub resistance_absent : get_or entry 0 0 ≡ 0 → (get_or entry 9 0 ≡ 1 → ⊥) → none ≡ row_in rs (resistance_slot e.resistance e.origin)
     resistance_absent z y = ship_none e.resistance e.origin _ _ _ _ S.numbers z y

@@ -2,10 +2,11 @@
 #![tactic(auto)]
 
 ghost use Rattle.std.specs.Prelude.{◌≡◌, true, List, [], ℕ, ◌+◌, ◌*◌, ◌%◌, ◌<◌, length, get_or};
+ghost use Rattle.laws.specs.Options.{option_of};
 ghost use Rattle.std.proofs.Math.Option.{none};
 ghost use Rattle.rules.specs.Dispatch.{Row};
 ghost use Rattle.rules.specs.declared.Effect.{Effect};
-ghost use Rattle.reading.specs.Held.{RowsHeld, no_row, placed};
+ghost use Rattle.reading.specs.Held.{RowsHeld, no_row};
 ghost use Rattle.reading.specs.Stretched.{Stretched};
 ghost use Rattle.needs.specs.Slots.{source_slot, resistance_slot, limit_slot, limit_slots, row_in, need_at};
 ghost use Rattle.needs.specs.Telling.{need_tables, needs_read, EntryShown, KnowsNeeds};
@@ -18,45 +19,44 @@ use columns::{
 use info::little_endian::index;
 use info::look_ups::get_dogma_attribute;
 use numbers::integers::signed;
-use reading::rows::Found;
 use reading::stretches::{find, is_limited};
 
 // The row of an entry's source, whether the entry runs or not.
-fn source_need(rows: &[AttributeRow], stretches: &Stretches, entry: EntryRow) -> Found
+fn source_need(rows: &[AttributeRow], stretches: &Stretches, entry: EntryRow) -> Option<usize>
     requires an_object { get_or entry 2 0 < 1024 }
     ensures defined { (rs : List Row) (e : Effect) → RowsHeld rs rows.now → Stretched rs stretches.now
-        → EntryShown e entry → placed result ≡ row_in rs (source_slot e.origin) }
+        → EntryShown e entry → option_of result ≡ row_in rs (source_slot e.origin) }
 {
     if entry[ENTRY_ORIGIN] == 0 {
         let id = signed(entry[ENTRY_MODIFYING_ATTRIBUTE]);
         return find(rows, stretches, entry[ENTRY_SOURCE], id);
     }
-    Found::Nothing
+    None
 }
 
 // The row of an entry's resistance, which is the ship's.
-fn resistance_need(rows: &[AttributeRow], stretches: &Stretches, entry: EntryRow) -> Found
+fn resistance_need(rows: &[AttributeRow], stretches: &Stretches, entry: EntryRow) -> Option<usize>
     ensures defined { (rs : List Row) (e : Effect) → RowsHeld rs rows.now → Stretched rs stretches.now
-        → EntryShown e entry → placed result ≡ row_in rs (resistance_slot e.resistance e.origin) }
+        → EntryShown e entry → option_of result ≡ row_in rs (resistance_slot e.resistance e.origin) }
 {
     if entry[ENTRY_ORIGIN] != 0 {
-        return Found::Nothing;
+        return None;
     }
     if entry[ENTRY_RESISTANCE_GIVEN] == 1 {
         let id = signed(entry[ENTRY_RESISTANCE]);
         return find(rows, stretches, 0, id);
     }
-    Found::Nothing
+    None
 }
 
 // The row of a limit, which is of the same object; 0 means none.
-fn limit_need(rows: &[AttributeRow], stretches: &Stretches, object: u32, limit: i32) -> Found
+fn limit_need(rows: &[AttributeRow], stretches: &Stretches, object: u32, limit: i32) -> Option<usize>
     requires an_object { object < 1024 }
     ensures defined { (rs : List Row) → RowsHeld rs rows.now → Stretched rs stretches.now
-        → placed result ≡ row_in rs (limit_slot object limit) }
+        → option_of result ≡ row_in rs (limit_slot object limit) }
 {
     if limit == 0 {
-        return Found::Nothing;
+        return None;
     }
     find(rows, stretches, object, limit)
 }
@@ -71,16 +71,16 @@ fn held_need(
     entries: &[EntryRow],
     row: usize,
     odd: usize,
-) -> Found
+) -> Option<usize>
     requires holding { KnowsNeeds (need_tables book pairs stretches limits rows entries) }
     requires within { (row < length rows.now) × (odd < 2) }
     ensures defined { (h : KnowsNeeds (needs_read book pairs stretches limits rows entries))
-        → placed result ≡ row_in h.world.rows (get_or (limit_slots h.world.book (get_or h.world.rows row no_row)) odd none) }
+        → option_of result ≡ row_in h.world.rows (get_or (limit_slots h.world.book (get_or h.world.rows row no_row)) odd none) }
 {
     let id = signed(rows[row][ROW_ATTRIBUTE]);
     let has_limits = is_limited(limits, id);
     if !has_limits {
-        return Found::Nothing;
+        return None;
     }
     let object = rows[row][ROW_OBJECT];
     let record = get_dogma_attribute(book, pairs, id);
@@ -131,10 +131,10 @@ pub fn need_at(
     entries: &[EntryRow],
     row: usize,
     slot: usize,
-) -> Found
+) -> Option<usize>
     requires holding { KnowsNeeds (need_tables book pairs stretches limits rows entries) }
     requires within { (row < length rows.now) × (slot < 2 * get_or (get_or rows.now row []) 3 0 + 2) }
-    ensures defined { (h : KnowsNeeds (needs_read book pairs stretches limits rows entries)) → placed result ≡ need_at h.world row slot }
+    ensures defined { (h : KnowsNeeds (needs_read book pairs stretches limits rows entries)) → option_of result ≡ need_at h.world row slot }
 {
     let count = index(rows[row][ROW_ENTRY_COUNT]);
     let k = slot / 2;

@@ -5,7 +5,6 @@ ghost use Rattle.std.proofs.Common.{to_z, of_z};
 ghost use Rattle.rules.specs.Number as N;
 ghost use Rattle.rules.specs.Columns.{yes1, optional_numbers};
 
-use rules::OptionalId;
 
 // Whether an id is given, and the id.
 pub type OptionalPair = [u32; 2];
@@ -61,11 +60,11 @@ pub fn flag(yes: bool) -> u32
 }
 
 // What may be absent as two numbers: 0 or 1 for absent or given, and the id.
-pub fn optional_numbers(o: OptionalId) -> OptionalPair
+pub fn optional_numbers(o: Option<i32>) -> OptionalPair
     ensures defined { result ≡ optional_numbers o }
 {
     match o {
-        OptionalId::Absent => [0, 0],
-        OptionalId::Given(id) => [1, bits(id)],
+        None => [0, 0],
+        Some(id) => [1, bits(id)],
     }
 }

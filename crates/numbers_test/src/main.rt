@@ -5,7 +5,7 @@
 ghost use Rattle.std.specs.Prelude.{◌+◌, ◌<◌, ◌≤◌, length};
 
 use program::{fill, put, put_number};
-use rules::{Hundredths, Step};
+use rules::Hundredths;
 
 #[derive(Clone, Copy)]
 struct Tally {
@@ -53,10 +53,10 @@ fn pattern(x: f64) -> u64 {
     f64::to_bits(x)
 }
 
-fn of_step(s: Step) -> u64 {
+fn of_step(s: Option<f64>) -> u64 {
     match s {
-        Step::Finite(x) => pattern(x),
-        Step::NotFinite => 0x7ff0_0000_0000_0000,
+        Some(x) => pattern(x),
+        None => 0x7ff0_0000_0000_0000,
     }
 }
 
@@ -64,8 +64,8 @@ fn of_test(t: bool) -> u64 {
     if t { 1 } else { 0 }
 }
 
-fn of_hundredths(h: Hundredths) -> u64 {
-    let Hundredths::Rounded { minus, count } = h else {
+fn of_hundredths(rounded: Option<Hundredths>) -> u64 {
+    let Some(Hundredths { minus, count }) = rounded else {
         return 0xffff_ffff_ffff_ffff;
     };
     if minus {
@@ -74,7 +74,7 @@ fn of_hundredths(h: Hundredths) -> u64 {
     count
 }
 
-fn step(kind: u8, x: f64, y: f64) -> Step {
+fn step(kind: u8, x: f64, y: f64) -> Option<f64> {
     match kind {
         b'+' => numbers::sum(x, y),
         b'-' => numbers::difference(x, y),

@@ -12,7 +12,7 @@ ghost use Rattle.operate.specs.SoFar.{set?, better, chosen_of, added_one, multip
 use buckets::{Bucket, insert};
 use columns::{CopySources, CopyValues};
 use numbers::{as_float, less, power, product, sum};
-use rules::{EffectOperator, Step};
+use rules::EffectOperator;
 
 // What an operator has made of its unpenalised values so far, whether that is finite, and whether there was one.
 // Yes is 1: flags of four bytes leave no gap that would be copied with each entry.
@@ -44,13 +44,13 @@ pub fn start(v: f64) -> Running
 }
 
 // The same as a step.
-fn step_so_far(running: Running) -> Step
+fn step_so_far(running: Running) -> Option<f64>
     ensures defined { result ≡ step_of running }
 {
     if is_set(running.finite) {
-        return Step::Finite(running.value);
+        return Some(running.value);
     }
-    Step::NotFinite
+    None
 }
 
 // The last of equal greatest, or the first of equal least.
@@ -65,52 +65,36 @@ fn better_of(high: bool, best: f64, x: f64) -> f64
 }
 
 // The first value that is assigned, or the better one.
-fn chosen(high: bool, any: bool, best: Step, x: f64) -> Step
+fn chosen(high: bool, any: bool, best: Option<f64>, x: f64) -> Option<f64>
     ensures defined { result ≡ chosen_of high any best x }
 {
     if !any {
-        return Step::Finite(x);
+        return Some(x);
     }
-    match best {
-        Step::Finite(b) => Step::Finite(better_of(high, b, x)),
-        Step::NotFinite => Step::NotFinite,
-    }
+    Some(better_of(high, best?, x))
 }
 
 // So many times x more.
-fn added(step: Step, x: f64, quantity: u32) -> Step
+fn added(step: Option<f64>, x: f64, quantity: u32) -> Option<f64>
     ensures defined { result ≡ N.◌>>=◌ step (λ v. added_one v x quantity) }
 {
-    let Step::Finite(v) = step else {
-        return Step::NotFinite;
-    };
-    let scaled = product(x, as_float(quantity));
-    let Step::Finite(y) = scaled else {
-        return Step::NotFinite;
-    };
+    let v = step?;
+    let y = product(x, as_float(quantity))?;
     sum(v, y)
 }
 
 // So many times 1.0 + x as a factor.
-fn multiplied(step: Step, x: f64, quantity: u32) -> Step
+fn multiplied(step: Option<f64>, x: f64, quantity: u32) -> Option<f64>
     ensures defined { result ≡ N.◌>>=◌ step (λ v. multiplied_one v x quantity) }
 {
-    let Step::Finite(v) = step else {
-        return Step::NotFinite;
-    };
-    let raised = sum(1.0, x);
-    let Step::Finite(y) = raised else {
-        return Step::NotFinite;
-    };
-    let factor = power(y, quantity);
-    let Step::Finite(z) = factor else {
-        return Step::NotFinite;
-    };
+    let v = step?;
+    let y = sum(1.0, x)?;
+    let z = power(y, quantity)?;
     product(v, z)
 }
 
 // One unpenalised value more.
-fn stepped(running: Running, high: bool, operator: EffectOperator, x: f64, quantity: u32) -> Step
+fn stepped(running: Running, high: bool, operator: EffectOperator, x: f64, quantity: u32) -> Option<f64>
     ensures defined { result ≡ plainly_one high operator running x quantity }
 {
     let step = step_so_far(running);
@@ -144,12 +128,12 @@ pub fn more(
     }
     let step = stepped(running, high, operator, x, quantity);
     match step {
-        Step::Finite(value) => Running {
+        Some(value) => Running {
             value,
             finite: 1,
             any: 1,
         },
-        Step::NotFinite => Running {
+        None => Running {
             value: 0.0,
             finite: 0,
             any: 1,
@@ -158,19 +142,13 @@ pub fn more(
 }
 
 // The penalised copies after the unpenalised values: positives go first.
-pub fn finished(running: Running, positive: Bucket, negative: Bucket) -> Step
+pub fn finished(running: Running, positive: Bucket, negative: Bucket) -> Option<f64>
     ensures defined { (high : Bool) (op : EffectOperator) (v : Float) (g : Values) → RunningOf high op v g.unpenalized running
         → Gathered g.positive positive → Gathered g.negative negative → (has_penalty op ≡ false → (g.positive ≡ []) × (g.negative ≡ []))
         → result ≡ applied high op v g }
 {
-    let step = step_so_far(running);
-    let Step::Finite(plain) = step else {
-        return Step::NotFinite;
-    };
-    let weighed = positive.weigh(plain);
-    let Step::Finite(w) = weighed else {
-        return weighed;
-    };
+    let plain = step_so_far(running)?;
+    let w = positive.weigh(plain)?;
     negative.weigh(w)
 }
 

@@ -9,7 +9,6 @@ ghost use Rattle.order.specs.Walks.{Walking, Pushable, Looking, AllPlaced, Turns
 use columns::{AttributeRow, EntryRow, Limits, Stretches, TablePairs};
 use info::little_endian::index;
 use needs::{need_at, needs_nothing, slots_of};
-use reading::rows::Found;
 
 // What is kept of row j while rows are put in order: four numbers.
 pub type WorkRow = [u32; 4];
@@ -141,8 +140,8 @@ fn look(
 {
     let found = need_at(book, pairs, stretches, limits, rows, entries, row, slot);
     match found {
-        Found::Nothing => pass(work, walk, row),
-        Found::At(k) => {
+        None => pass(work, walk, row),
+        Some(k) => {
             let mark = work[k][WORK_MARK];
             if mark == PLACED {
                 return pass(work, walk, row);

@@ -30,9 +30,8 @@ use memory::apply::{Got, Part, apply, held_to};
 use numbers::integers::signed;
 use numbers::product;
 use reading::entries::{entry_at, is_running, operator_of, operators_in};
-use reading::rows::Found;
 use reading::stretches::{find, is_limited};
-use rules::{Effect, EffectOperator, OptionalId, Origin, Refusal, Step};
+use rules::{Effect, EffectOperator, Origin, Refusal};
 use sources::Recording;
 
 // The value of an attribute of an object: its row's, or the default where it has none.
@@ -64,7 +63,7 @@ pub fn calculated_value(
 {
     let found = find(rows, stretches, object, attribute);
     match found {
-        Found::At(row) => calculate_value(
+        Some(row) => calculate_value(
             values,
             sources,
             floats,
@@ -82,7 +81,7 @@ pub fn calculated_value(
             left,
             used,
         ),
-        Found::Nothing => {
+        None => {
             let record = get_dogma_attribute(book, pairs, attribute);
             Got::Value(record.default_value, used)
         }
@@ -687,7 +686,7 @@ fn resisted(
     entry_values: &[f64],
     run: Recording,
     object: u32,
-    resistance: OptionalId,
+    resistance: Option<i32>,
     v: f64,
     left: u32,
     used: u32,
@@ -700,8 +699,8 @@ fn resisted(
         (λ w i row m. defined.resisted w i row (value_of w left) resistance (record { value = v; mem = m })) }
 {
     match resistance {
-        OptionalId::Absent => Got::Value(v, used),
-        OptionalId::Given(attribute) => {
+        None => Got::Value(v, used),
+        Some(attribute) => {
             let got = calculated_value(
                 values,
                 sources,
@@ -726,8 +725,8 @@ fn resisted(
             };
             let step = product(v, w);
             match step {
-                Step::Finite(x) => Got::Value(x, u),
-                Step::NotFinite => Got::Refused(Refusal::Number(object)),
+                Some(x) => Got::Value(x, u),
+                None => Got::Refused(Refusal::Number(object)),
             }
         }
     }

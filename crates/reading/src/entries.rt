@@ -16,9 +16,8 @@ use columns::{
 use info::little_endian::index;
 use item::codes::{category_at, operator_at};
 use item::states::runs_at;
-use item::{CategoryFound, OperatorFound};
 use numbers::integers::signed;
-use rules::{Effect, EffectCategory, EffectOperator, OptionalId, Origin};
+use rules::{Effect, EffectCategory, EffectOperator, Origin};
 
 // What the code of a category stands for; no other number is met.
 fn category_of(code: u32) -> EffectCategory
@@ -26,8 +25,8 @@ fn category_of(code: u32) -> EffectCategory
 {
     let found = category_at(code);
     match found {
-        CategoryFound::At(category) => category,
-        CategoryFound::Nothing => EffectCategory::Passive,
+        Some(category) => category,
+        None => EffectCategory::Passive,
     }
 }
 
@@ -37,20 +36,20 @@ pub fn operator_of(code: u32) -> EffectOperator
 {
     let found = operator_at(code);
     match found {
-        OperatorFound::At(operator) => operator,
-        OperatorFound::Nothing => EffectOperator::PreAssign,
+        Some(operator) => operator,
+        None => EffectOperator::PreAssign,
     }
 }
 
 // An id and the flag beside it, which says whether it is given.
-fn optional_id(given: u32, id: u32) -> OptionalId
-    ensures defined { (o : OptionalId) → NarrowId o → given ≡ get_or (optional_numbers o) 0 0 → id ≡ get_or (optional_numbers o) 1 0
+fn optional_id(given: u32, id: u32) -> Option<i32>
+    ensures defined { (o : Option<i32>) → NarrowId o → given ≡ get_or (optional_numbers o) 0 0 → id ≡ get_or (optional_numbers o) 1 0
         → result ≡ o }
 {
     if given == 1 {
-        return OptionalId::Given(signed(id));
+        return Some(signed(id));
     }
-    OptionalId::Absent
+    None
 }
 
 // Where an entry comes from: an effect of an object, or a buff with its value.

@@ -1,13 +1,13 @@
 // A row found in its object's stretch of list 2, whether an attribute may have a limit, and the two tables that tell.
 ghost use Rattle.std.specs.Prelude.{◌≡◌, false, List, ◌≤◌, ◌<◌, ◌^◌, length};
+ghost use Rattle.laws.specs.Options.{option_of};
 ghost use Rattle.rules.specs.Dispatch.{Row};
 ghost use Rattle.rules.specs.Sheet.{Book, book_of};
 ghost use Rattle.info.specs.Sound.{HeldBook};
 ghost use Rattle.rules.specs.Value.{find_row};
-ghost use Rattle.reading.specs.Held.{RowsHeld, placed, index_of};
+ghost use Rattle.reading.specs.Held.{RowsHeld, index_of};
 ghost use Rattle.reading.specs.Stretched.{Stretched, Past, Limits, Unlimited};
 
-use super::rows::Found;
 use columns::{
     AttributeRow, LIMIT_MARKS, Limits, OBJECTS, ROW_ATTRIBUTE, ROW_OBJECT, STRETCH_END,
     STRETCH_FIRST, Stretches, TABLE_ATTRIBUTES, TablePairs,
@@ -19,29 +19,29 @@ use numbers::integers::{bits, signed};
 use search::lower;
 
 // The row of an attribute of an object.
-pub fn find(rows: &[AttributeRow], stretches: &Stretches, object: u32, id: i32) -> Found
+pub fn find(rows: &[AttributeRow], stretches: &Stretches, object: u32, id: i32) -> Option<usize>
     requires an_object { object < 1024 }
     ensures defined { (rs : List Row) → RowsHeld rs rows.now → Stretched rs stretches.now
-        → placed result ≡ index_of (find_row object id 0 rs) }
+        → option_of result ≡ index_of (find_row object id 0 rs) }
 {
     let stretch = stretches[index(object)];
     let end = index(stretch[STRETCH_END]);
     if end > rows.len() {
-        return Found::Nothing;
+        return None;
     }
     let first = index(stretch[STRETCH_FIRST]);
     if end <= first {
-        return Found::Nothing;
+        return None;
     }
     let at = first + lower(&rows[first..end], id);
     if at < end {
         let own = signed(rows[at][ROW_ATTRIBUTE]);
         if own == id {
-            return Found::At(at);
+            return Some(at);
         }
-        return Found::Nothing;
+        return None;
     }
-    Found::Nothing
+    None
 }
 
 // The first row from one on that is of a later object.

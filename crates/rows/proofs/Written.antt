@@ -1,4 +1,5 @@
 -- An entry written out from its effect's row of list 1.
+use Rattle.std.specs.Prelude.{None, Some}
 use Prim.Native.Nat.{ℕ, ◌<◌, ◌%◌}
 use mathlib.Core.Path.{◌≡◌, refl, sym, ap, ◌∙◌}
 use mathlib.Core.Bool.{Bool, true, false, not, ◌&&◌, ◌||◌, cond}
@@ -24,8 +25,7 @@ use Rattle.rules.specs.declared.Origin.{Origin}
 use Rattle.rules.specs.declared.Origin.TheVariants as origin
 use Rattle.rules.specs.declared.Modifier.{Modifier}
 use Rattle.rules.specs.declared.Modifier.TheVariants.{LocationRequiredSkillModifier, LocationGroupModifier, LocationModifier, OwnerRequiredSkillModifier, ItemModifier}
-use Rattle.rules.specs.declared.OptionalId.{OptionalId}
-use Rattle.rules.specs.declared.OptionalId.TheVariants.{Absent, Given}
+use Rattle.rules.specs.Ids.{OptionalId}
 use Rattle.rows.specs.Entries.{exempt_bits, entry_row}
 
 -- the exempt categories by their bits
@@ -58,10 +58,10 @@ abbrev row : Origin → List ℕ → OptionalId → ℕ → ℕ → ℕ → ℕ 
 row g m r op quantity target a = origin_numbers g ++ m ++ (op ∷ quantity ∷ target ∷ a ∷ optional_numbers r)
 
 written-by : (g : Origin) (r : OptionalId) (x y op quantity target a p q n : ℕ) → entry_row (row g (x ∷ y ∷ []) r op quantity target a) p q n ≡ origin_numbers g ++ (op ∷ p ∷ q ∷ (optional_numbers r ++ (n ∷ [])))
-written-by (origin.Effect e o c i) Absent x y op quantity target a p q n = refl
-written-by (origin.Effect e o c i) (Given b) x y op quantity target a p q n = refl
-written-by (origin.Buff b v) Absent x y op quantity target a p q n = refl
-written-by (origin.Buff b v) (Given d) x y op quantity target a p q n = refl
+written-by (origin.Effect e o c i) None x y op quantity target a p q n = refl
+written-by (origin.Effect e o c i) (Some b) x y op quantity target a p q n = refl
+written-by (origin.Buff b v) None x y op quantity target a p q n = refl
+written-by (origin.Buff b v) (Some d) x y op quantity target a p q n = refl
 
 module _ (k : Book) (f : Fit) (o : Item) (x : Numbered) where
   abbrev t : Pass2Effect

@@ -9,7 +9,7 @@ use columns::{SourceFloats, SourceRow};
 use item::codes::operator_code;
 use item::states::{lowest_state, state_code};
 use numbers::integers::{bits, flag, optional_numbers};
-use rules::{Effect, ItemState, OptionalId, Origin, Source, SourceRef};
+use rules::{Effect, ItemState, Origin, Source, SourceRef};
 
 // What a source row is from, as two numbers.
 fn from_numbers(s: SourceRef) -> [u32; 2]
@@ -58,7 +58,7 @@ fn from_of(o: Origin) -> SourceRef
 }
 
 // The effect of an entry, which a buff has not.
-fn effect_id_of(o: Origin) -> OptionalId
+fn effect_id_of(o: Origin) -> Option<i32>
     ensures defined { result ≡ effect_id_of o }
 {
     match o {
@@ -67,16 +67,16 @@ fn effect_id_of(o: Origin) -> OptionalId
             source: _,
             source_category: _,
             attribute_id: _,
-        } => OptionalId::Given(effect_id),
+        } => Some(effect_id),
         Origin::Buff {
             buff_id: _,
             value: _,
-        } => OptionalId::Absent,
+        } => None,
     }
 }
 
 // The attribute that an entry is read off, which a buff has not.
-fn source_attribute_id_of(o: Origin) -> OptionalId
+fn source_attribute_id_of(o: Origin) -> Option<i32>
     ensures defined { result ≡ source_attribute_id_of o }
 {
     match o {
@@ -85,11 +85,11 @@ fn source_attribute_id_of(o: Origin) -> OptionalId
             source: _,
             source_category: _,
             attribute_id,
-        } => OptionalId::Given(attribute_id),
+        } => Some(attribute_id),
         Origin::Buff {
             buff_id: _,
             value: _,
-        } => OptionalId::Absent,
+        } => None,
     }
 }
 

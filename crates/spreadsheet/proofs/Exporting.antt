@@ -11,7 +11,7 @@ use Rattle.laws.specs.Floats.{zero_f}
 use Rattle.rules.specs.Answer.{Res, ok, refused, number, place, answer_of}
 use Rattle.rules.specs.Columns.{zero_entry, zero_source}
 use Rattle.rules.specs.Outcome.{Lent, Done, outcome}
-use Rattle.rules.specs.declared.Answer.TheVariants.{Refused}
+use Rattle.rules.specs.Answer.{Refused}
 use Rattle.listing.proofs.Told.{no_number}
 use Rattle.promises.specs.Result.{Meets}
 use Rattle.promises.specs.Zeros.{Empty}

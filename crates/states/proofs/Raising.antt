@@ -1,4 +1,6 @@
 -- Laws of the highest state, and of the loops over a type's effects.
+use Rattle.std.specs.Prelude.{Option, Some, None}
+use Rattle.laws.specs.Options.{option_of}
 use Prim.Native.Nat.{ℕ, ◌+◌, ◌-◌, ◌<◌, ◌≤◌, max}
 use native.Mathlib.Omega.{arith}
 use mathlib.Core.Path.{◌≡◌, refl, sym, ap, ap₂, ◌∙◌}
@@ -18,10 +20,8 @@ use Rattle.rules.specs.Item.{mutated, effects_of}
 use Rattle.rules.specs.declared.Item.{Item}
 use Rattle.rules.specs.declared.TypeDogmaEffect.{TypeDogmaEffect}
 use Rattle.rules.specs.declared.DogmaEffect.{DogmaEffect}
-use Rattle.info.specs.LookUps.{effect_found, Stretch}
+use Rattle.info.specs.LookUps.{Stretch}
 use lib.IntN.{ℤ}
-use Rattle.info.specs.declared.look_ups.FoundEffect.{FoundEffect}
-use Rattle.info.specs.declared.look_ups.FoundEffect.TheVariants as effect
 use mir.Syntax.{w32}
 use mir.Val.{SFits, to_z, of_z}
 use mir.ValLaws.{to_z-of_z}
@@ -175,12 +175,12 @@ run_of k a s r = ap (get_dogma_effects k) (sym (to_z-of_z w32 a s)) ∙ r.is
 
 -- ---- one effect, found or missing
 
-module _ (k : Book) (o : Item) (t : TypeDogmaEffect) (f : FoundEffect) (s : SFits w32 t.effect_id) (e : effect_found f ≡ get_dogma_effect k (to_z w32 (of_z w32 t.effect_id))) where
-  looked_up : effect_found f ≡ get_dogma_effect k t.effect_id
+module _ (k : Book) (o : Item) (t : TypeDogmaEffect) (f : Option DogmaEffect) (s : SFits w32 t.effect_id) (e : option_of f ≡ get_dogma_effect k (to_z w32 (of_z w32 t.effect_id))) where
+  looked_up : option_of f ≡ get_dogma_effect k t.effect_id
   looked_up = e ∙ ap (get_dogma_effect k) (to_z-of_z w32 t.effect_id s)
 
-  pub reach_found : (x : DogmaEffect) {r : ℕ} → f ≡ effect.At x → r ≡ raised_to o (category_at x.category) → r ≡ reach_on k o t
-  reach_found x a h = h ∙ ap (raised_by o) (ap effect_found (sym a) ∙ looked_up)
+  pub reach_found : (x : DogmaEffect) {r : ℕ} → f ≡ Some x → r ≡ raised_to o (category_at x.category) → r ≡ reach_on k o t
+  reach_found x a h = h ∙ ap (raised_by o) (ap option_of (sym a) ∙ looked_up)
 
-  pub reach-missing : f ≡ effect.Nothing → 0 ≡ reach_on k o t
-  reach-missing a = ap (raised_by o) (ap effect_found (sym a) ∙ looked_up)
+  pub reach-missing : f ≡ None → 0 ≡ reach_on k o t
+  reach-missing a = ap (raised_by o) (ap option_of (sym a) ∙ looked_up)

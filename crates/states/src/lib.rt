@@ -19,9 +19,7 @@ ghost use Rattle.states.specs.Raised.{among, both, reach_on, Turn, turns_at, rea
 use columns::{EffectPlaces, OBJECTS, STATE_WIDTH, StateRow, States, TablePairs};
 use info::header::count_of;
 use info::little_endian::index;
-use info::look_ups::{
-    FoundBase, FoundEffect, TypeEffects, get_base, get_dogma_effect, get_dogma_effects,
-};
+use info::look_ups::{TypeEffects, get_base, get_dogma_effect, get_dogma_effects};
 use info::records::{effect, object, type_effect};
 use item::categories::categories_of;
 use item::kinds::{is_charge, is_item, is_projected, mutated};
@@ -147,8 +145,8 @@ fn reach_by(
 {
     let found = get_dogma_effect(book, pairs, places, t.effect_id);
     match found {
-        FoundEffect::At(e) => raises_to(o, e.category),
-        FoundEffect::Nothing => 0,
+        Some(e) => raises_to(o, e.category),
+        None => 0,
     }
 }
 
@@ -309,8 +307,8 @@ fn able(
     let top = reached(book, pairs, places, marks, o);
     let found = get_base(fit, pairs, o, ATTRIBUTE_CAPACITOR_NEED_ID);
     match found {
-        FoundBase::At(_) => higher(top, 2),
-        FoundBase::Nothing => top,
+        Some(_) => higher(top, 2),
+        None => top,
     }
 }
 

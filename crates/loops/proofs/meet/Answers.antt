@@ -21,23 +21,23 @@ need_at-found-requires c = record {
   within = (take-inside c.requires.spreading c.index-at.ensures.defined.0 c.requires.within.1, omega (arith, c.loop-s-test.true, c.slots_of-slots.ensures.defined));
 }
 
-pub loop-s-preserved-in-Nothing : goal.loop-s-preserved-in-Nothing
-loop-s-preserved-in-Nothing c = (omega (arith, c.loop-s-test.true), (c.loop-s.invariant.1.0, spread_pass c.loop-s.invariant.1.1 (λ h. rw c.in-Nothing.is at (c.need_at-found.ensures.defined h))))
+pub loop-s-preserved-in-None : goal.loop-s-preserved-in-None
+loop-s-preserved-in-None c = (omega (arith, c.loop-s-test.true), (c.loop-s.invariant.1.0, spread_pass c.loop-s.invariant.1.1 (λ h. rw c.in-None.is at (c.need_at-found.ensures.defined h))))
 
 pub shape_of-work-then-k-row : goal.shape_of-work-then-k-row
 shape_of-work-then-k-row c = c.loop-s.invariant.1.0
 
 pub returns-then-k-row : goal.returns-then-k-row
-returns-then-k-row c = record { meets = (λ h. spread_back c.loop-s.invariant.1.1 (take-inside c.requires.spreading c.index-at.ensures.defined.0 c.requires.within.1) (λ h. ap some (sym c.if-k-row.true) ∙ (rw c.in-At.is at (c.need_at-found.ensures.defined h))) h, c.loop-s.invariant.1.1.marks) }
+returns-then-k-row c = record { meets = (λ h. spread_back c.loop-s.invariant.1.1 (take-inside c.requires.spreading c.index-at.ensures.defined.0 c.requires.within.1) (λ h. ap some (sym c.if-k-row.true) ∙ (rw c.in-Some.is at (c.need_at-found.ensures.defined h))) h, c.loop-s.invariant.1.1.marks) }
 
 pub queued-last-requires : goal.queued-last-requires
 queued-last-requires c = record {
-  inside = (omega (arith, (found_inside c.requires.holding c.index-at.result c.loop-s.s c.in-At.k (rw c.in-At.is at (c.need_at-found.ensures.defined c.requires.holding))), c.loop-s.invariant.1.1.long), omega (arith, (found_inside c.requires.holding c.index-at.result c.loop-s.s c.in-At.k (rw c.in-At.is at (c.need_at-found.ensures.defined c.requires.holding))), c.loop-s.invariant.1.1.few));
+  inside = (omega (arith, (found_inside c.requires.holding c.index-at.result c.loop-s.s c.in-Some.k (rw c.in-Some.is at (c.need_at-found.ensures.defined c.requires.holding))), c.loop-s.invariant.1.1.long), omega (arith, (found_inside c.requires.holding c.index-at.result c.loop-s.s c.in-Some.k (rw c.in-Some.is at (c.need_at-found.ensures.defined c.requires.holding))), c.loop-s.invariant.1.1.few));
   room = c.loop-s.invariant.1.1.room;
 }
 
 pub loop-s-preserved : goal.loop-s-preserved
-loop-s-preserved c = (omega (arith, c.loop-s-test.true), (c.queued-last.auto.work ∙ c.loop-s.invariant.1.0, spread_met c.loop-s.invariant.1.1 c.in-At.k (take-inside c.requires.spreading c.index-at.ensures.defined.0 c.requires.within.1) (found_inside c.requires.holding c.index-at.result c.loop-s.s c.in-At.k (rw c.in-At.is at (c.need_at-found.ensures.defined c.requires.holding))) (λ h. rw c.in-At.is at (c.need_at-found.ensures.defined h)) c.if-k-row.false c.queued-last.ensures.queued c.queued-last.auto.work))
+loop-s-preserved c = (omega (arith, c.loop-s-test.true), (c.queued-last.auto.work ∙ c.loop-s.invariant.1.0, spread_met c.loop-s.invariant.1.1 c.in-Some.k (take-inside c.requires.spreading c.index-at.ensures.defined.0 c.requires.within.1) (found_inside c.requires.holding c.index-at.result c.loop-s.s c.in-Some.k (rw c.in-Some.is at (c.need_at-found.ensures.defined c.requires.holding))) (λ h. rw c.in-Some.is at (c.need_at-found.ensures.defined h)) c.if-k-row.false c.queued-last.ensures.queued c.queued-last.auto.work))
 
 pub shape_of-work : goal.shape_of-work
 shape_of-work c = c.loop-s.invariant.1.0

@@ -8,8 +8,8 @@ use borrow.Author.Rules.{sfits_of}
 use Rattle.rules.specs.Sheet.{book_of}
 use Rattle.states.proofs.Raising.{reach_found, reach-missing}
 
-pub returns-in-At : goal.returns-in-At
-returns-in-At c = record { defined = reach_found (book_of c.args.book.now c.args.pairs.now) c.args.o c.args.t _ (sfits_of c.struct_told-1.given.1.0.1) c.get_dogma_effect-found.ensures.defined _ c.in-At.is c.raises_to.ensures.defined }
+pub returns-in-Some : goal.returns-in-Some
+returns-in-Some c = record { defined = reach_found (book_of c.args.book.now c.args.pairs.now) c.args.o c.args.t _ (sfits_of c.struct_told-1.given.1.0.1) c.get_dogma_effect-found.ensures.defined _ c.in-Some.is c.raises_to.ensures.defined }
 
-pub returns-in-Nothing : goal.returns-in-Nothing
-returns-in-Nothing c = record { defined = reach-missing (book_of c.args.book.now c.args.pairs.now) c.args.o c.args.t _ (sfits_of c.struct_told-1.given.1.0.1) c.get_dogma_effect-found.ensures.defined c.in-Nothing.is }
+pub returns-in-None : goal.returns-in-None
+returns-in-None c = record { defined = reach-missing (book_of c.args.book.now c.args.pairs.now) c.args.o c.args.t _ (sfits_of c.struct_told-1.given.1.0.1) c.get_dogma_effect-found.ensures.defined c.in-None.is }
