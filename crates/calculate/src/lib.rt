@@ -19,7 +19,7 @@ use info::header::pairs_of;
 use rules::Refusal;
 use run::Ran;
 use run::outcome::filled;
-use shape::{Shaped, shape};
+use shape::{BadTable, shape};
 
 // What comes back of a call: 01's number and place, and how many rows each list has.
 #[repr(C)]
@@ -98,7 +98,7 @@ pub fn calculated(
     book: &[u8],
     fit: &[u8],
     pairs: &TablePairs,
-    verdict: Shaped,
+    verdict: Result<(), BadTable>,
 ) -> Outcome
     requires sound { SoundBy verdict book.now fit.now pairs.now }
     ensures defined { let lists = lent_columns collected collected_values rows bases values entries entry_values plain sources source_values in

@@ -22,9 +22,9 @@ use Rattle.rules.specs.declared.Refusal.{Refusal}
 use Rattle.rules.specs.declared.Refusal.TheVariants.{Shape}
 use Rattle.info.specs.Sound.{SoundBook, SoundFit}
 use Rattle.info.proofs.Elements.{objects_length}
-use Rattle.shape.specs.Shaped.{shaped_of}
-use Rattle.shape.specs.declared.Shaped.{Shaped}
-use Rattle.shape.specs.declared.Shaped.TheVariants.{Sound, Bad}
+use Rattle.std.specs.Prelude.{Ok, Err}
+use Rattle.shape.specs.Shaped.{Shaped, shaped_of}
+use Rattle.shape.specs.declared.BadTable.{BadTable}
 use Rattle.shape.proofs.Shapes.{bad_said, sound_said, sound_long, sound_book, sound_fit}
 use Rattle.states.specs.Raised.{rows_of}
 use Rattle.values.specs.Setting.{RowsListed}
@@ -107,12 +107,12 @@ module _ (c : Columns) (work : ℕ) (s : ListRooms) (m : RoomsOf (check_rooms (l
 -- ---- SHAPE
 
 module _ (b : List ℕ) {v : Shaped} (shape : v ≡ shaped_of (bad_shape b)) where
-  pub bad_shape_lem : (q : Rooms) (ls : List Line) {t : ℕ} → v ≡ Bad t → Engine (Shape t) ≡ checked b q ls
+  pub bad_shape_lem : (q : Rooms) (ls : List Line) {x : BadTable} → v ≡ Err x → Engine (Shape x.table) ≡ checked b q ls
   unfolding checked
   bad_shape_lem q ls h =
       sym (ap (λ (o : Option ℕ). elim o [ some u ↦ Engine (Shape u) | none ↦ checked_for (book_of b (pairs_of b)) (fit_of b (pairs_of b)) q ls ]) (bad_said (bad_shape b) (sym h ∙ shape)))
 
-  module _ (good : v ≡ Sound) where
+  module _ (good : v ≡ Ok tt) where
     pub long_enough : 100 ≤ length b
     long_enough = sound_long b (sym good ∙ shape)
 
@@ -160,7 +160,7 @@ module _ (w : World) (ls : List (List ℕ)) (a : settled.Accepted w (values_of (
 
 -- ---- the lists, then the verdict
 
-module _ (b : List ℕ) {shaped : Shaped} (shape : shaped ≡ shaped_of (bad_shape b)) (good : shaped ≡ Sound) {p : List (List ℕ)} (read : p ≡ pairs_of b) (c₀ c : Columns) (work : ℕ) (s : ListRooms)
+module _ (b : List ℕ) {shaped : Shaped} (shape : shaped ≡ shaped_of (bad_shape b)) (good : shaped ≡ Ok tt) {p : List (List ℕ)} (read : p ≡ pairs_of b) (c₀ c : Columns) (work : ℕ) (s : ListRooms)
     (m : RoomsOf (check_rooms (lent_of c₀) work) s) (st : List (List ℕ)) (l : Listed) where
   abbrev k : Book
   k = book_of b p

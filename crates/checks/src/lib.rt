@@ -22,7 +22,7 @@ use lists::{rooms_of, set_sheet};
 use order::WorkRow;
 use rules::Refusal;
 use run::lists::{ListCounts, Listed};
-use shape::{Shaped, shape};
+use shape::shape;
 use verdict::{Verdict, verdict_number, verdict_place};
 
 // The verdict, and how many elements of each list stay.
@@ -111,8 +111,8 @@ fn answered(
 {
     let shaped = shape(sheet);
     match shaped {
-        Shaped::Bad(table) => refused_by(Refusal::Shape(table)),
-        Shaped::Sound => {
+        Err(bad) => refused_by(Refusal::from(bad)),
+        Ok(()) => {
             let pairs = pairs_of(sheet);
             let rooms = rooms_of(
                 collected.len(),

@@ -10,7 +10,7 @@ ghost use Rattle.files.specs.Read.{pairs_read, bad_book_by};
 use columns::{FilePairs, TABLE_ATTRIBUTES, TABLE_OBJECTS, TablePairs};
 use info::header::{count_of, offset_of, pair_at};
 use info::little_endian::u32_at;
-use shape::{Shaped, book_shape, fit_shape, limit_of, width_of};
+use shape::{BadTable, book_shape, fit_shape, limit_of, width_of};
 
 // The five pairs at the front of a file; zeros where it's too short to have them.
 fn file_pairs(b: &[u8]) -> FilePairs
@@ -84,40 +84,32 @@ fn fit_header_good(fit: &[u8], pairs: &TablePairs) -> bool
 }
 
 // The first bad table of a book, 0 for its header.
-fn book_verdict(book: &[u8], pairs: &TablePairs) -> Shaped
+fn book_verdict(book: &[u8], pairs: &TablePairs) -> Result<(), BadTable>
     ensures defined { result ≡ shaped_of (bad_book_by book.now pairs.now) }
 {
     if !book_header_good(book, pairs) {
-        return Shaped::Bad(0);
+        return Err(BadTable { table: 0 });
     }
     book_shape(book, pairs)
 }
 
 // The first bad table of a fit plus 20, 20 for its header.
-fn fit_verdict(fit: &[u8], pairs: &TablePairs) -> Shaped
+fn fit_verdict(fit: &[u8], pairs: &TablePairs) -> Result<(), BadTable>
     ensures defined { result ≡ shaped_of (rule.plus20 (rule.bad_fit fit.now pairs.now)) }
 {
     if !fit_header_good(fit, pairs) {
-        return Shaped::Bad(20);
+        return Err(BadTable { table: 20 });
     }
-    let shaped = fit_shape(fit, pairs);
-    match shaped {
-        Shaped::Bad(t) => {
-            let place = t + 20;
-            Shaped::Bad(place)
-        }
-        Shaped::Sound => Shaped::Sound,
-    }
+    fit_shape(fit, pairs).map_err(|bad| BadTable {
+        table: bad.table + 20,
+    })
 }
 
 // SHAPE of two files: the book's, then the fit's, whose places are plus 20.
-pub fn files_shape(book: &[u8], fit: &[u8], pairs: &TablePairs) -> Shaped
+pub fn files_shape(book: &[u8], fit: &[u8], pairs: &TablePairs) -> Result<(), BadTable>
     requires read { pairs.now ≡ pairs_read book.now ++ pairs_read fit.now }
     ensures defined { result ≡ shaped_of (rule.bad_files book.now fit.now) }
 {
-    let verdict = book_verdict(book, pairs);
-    match verdict {
-        Shaped::Bad(t) => Shaped::Bad(t),
-        Shaped::Sound => fit_verdict(fit, pairs),
-    }
+    book_verdict(book, pairs)?;
+    fit_verdict(fit, pairs)
 }

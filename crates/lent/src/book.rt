@@ -10,7 +10,7 @@ use super::records::{attribute, buff_collection, effect, type_effect};
 use columns::{
     AttributeFields, BuffCollectionFields, EffectFields, ModifierFields, TypeEffectFields,
 };
-use shape::Shaped;
+use shape::BadTable;
 use shape::book_tables::{attribute_good, buff_collection_good, effect_good, type_effect_good};
 
 // Whether table 1 is good.
@@ -112,23 +112,23 @@ pub fn book_bad(
     modifiers: &[ModifierFields],
     type_effects: &[TypeEffectFields],
     buff_collections: &[BuffCollectionFields],
-) -> Shaped
+) -> Result<(), BadTable>
     requires fits { book_fits (book_now attributes defaults effects modifiers type_effects buff_collections []) ≡ true }
     ensures defined { result ≡ shaped_of (book_bad (book_lent (book_at attributes defaults effects modifiers type_effects buff_collections []))) }
 {
     if !attributes_good(attributes, defaults) {
-        return Shaped::Bad(1);
+        return Err(BadTable { table: 1 });
     }
     if !effects_good(effects, modifiers) {
-        return Shaped::Bad(2);
+        return Err(BadTable { table: 2 });
     }
     if !type_effects_good(type_effects) {
-        return Shaped::Bad(4);
+        return Err(BadTable { table: 4 });
     }
     if !buff_collections_good(buff_collections, modifiers) {
-        return Shaped::Bad(5);
+        return Err(BadTable { table: 5 });
     }
-    Shaped::Sound
+    Ok(())
 }
 
 // The first bad table of a book, 0 for its header.
@@ -139,7 +139,7 @@ pub fn book_shape(
     modifiers: &[ModifierFields],
     type_effects: &[TypeEffectFields],
     buff_collections: &[BuffCollectionFields],
-) -> Shaped
+) -> Result<(), BadTable>
     ensures defined { result ≡ shaped_of (book_tables_bad (book_at attributes defaults effects modifiers type_effects buff_collections [])) }
 {
     if !book_fits(
@@ -150,7 +150,7 @@ pub fn book_shape(
         type_effects,
         buff_collections,
     ) {
-        return Shaped::Bad(0);
+        return Err(BadTable { table: 0 });
     }
     book_bad(
         attributes,

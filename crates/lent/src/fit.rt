@@ -14,7 +14,7 @@ use columns::{AskFields, FIT_DEPTH, FIT_RECORDING, FitNumbers, ObjectFields};
 use info::little_endian::index;
 use numbers::is_finite;
 use rules::{CHAR, SHIP};
-use shape::Shaped;
+use shape::BadTable;
 use shape::fit_tables::{base_attribute_stands, object_good, stands};
 
 // Whether table 6 is good.
@@ -141,27 +141,27 @@ pub fn fit_bad(
     buffs: &[u32],
     buff_values: &[f64],
     asks: &[AskFields],
-) -> Shaped
+) -> Result<(), BadTable>
     requires alike { fit_alike (fit_now objects base_attributes base_values ids buffs buff_values asks []) ≡ true }
     requires few { length objects.now ≤ 1024 }
     ensures defined { result ≡ shaped_of (fit_bad (fit_lent (fit_at objects base_attributes base_values ids buffs buff_values asks []))) }
 {
     if !objects_good(objects, base_attributes, ids) {
-        return Shaped::Bad(6);
+        return Err(BadTable { table: 6 });
     }
     if !all_finite(base_values) {
-        return Shaped::Bad(7);
+        return Err(BadTable { table: 7 });
     }
     if !bases_ascend(objects, base_attributes, base_values, ids) {
-        return Shaped::Bad(7);
+        return Err(BadTable { table: 7 });
     }
     if !all_finite(buff_values) {
-        return Shaped::Bad(9);
+        return Err(BadTable { table: 9 });
     }
     if !asks_good(asks, objects) {
-        return Shaped::Bad(10);
+        return Err(BadTable { table: 10 });
     }
-    Shaped::Sound
+    Ok(())
 }
 
 // The first bad table of a fit plus 20, 20 for its header.
@@ -174,7 +174,7 @@ pub fn fit_shape(
     buff_values: &[f64],
     asks: &[AskFields],
     header: &FitNumbers,
-) -> Shaped
+) -> Result<(), BadTable>
     ensures defined { result ≡ shaped_of (fit_tables_bad (fit_at objects base_attributes base_values ids buffs buff_values asks header.now)) }
 {
     let depth = header[FIT_DEPTH];
@@ -190,9 +190,9 @@ pub fn fit_shape(
         depth,
         recording,
     ) {
-        return Shaped::Bad(20);
+        return Err(BadTable { table: 20 });
     }
-    let verdict = fit_bad(
+    fit_bad(
         objects,
         base_attributes,
         base_values,
@@ -200,12 +200,8 @@ pub fn fit_shape(
         buffs,
         buff_values,
         asks,
-    );
-    match verdict {
-        Shaped::Bad(t) => {
-            let place = t + 20;
-            Shaped::Bad(place)
-        }
-        Shaped::Sound => Shaped::Sound,
-    }
+    )
+    .map_err(|bad| BadTable {
+        table: bad.table + 20,
+    })
 }

@@ -12,7 +12,7 @@ use columns::{
     SHEET_DEPTH, SHEET_RECORDING, SheetNumbers, TypeEffectFields,
 };
 use fit::{fit_bad, fit_fits};
-use shape::Shaped;
+use shape::BadTable;
 
 // The first bad table of a sheet, 0 for its header.
 pub fn sheet_shape(
@@ -30,7 +30,7 @@ pub fn sheet_shape(
     buffs: &[u32],
     buff_values: &[f64],
     asks: &[AskFields],
-) -> Shaped
+) -> Result<(), BadTable>
     ensures defined { let book = book_at attributes defaults effects modifiers type_effects buff_collections [] in
         let fit = fit_at objects base_attributes base_values ids buffs buff_values asks [] in
         result ≡ shaped_of (tables_bad (together header.now book fit)) }
@@ -45,7 +45,7 @@ pub fn sheet_shape(
         type_effects,
         buff_collections,
     ) {
-        return Shaped::Bad(0);
+        return Err(BadTable { table: 0 });
     }
     if !fit_fits(
         objects,
@@ -58,28 +58,25 @@ pub fn sheet_shape(
         depth,
         recording,
     ) {
-        return Shaped::Bad(0);
+        return Err(BadTable { table: 0 });
     }
-    let book = book_bad(
+    book_bad(
         attributes,
         defaults,
         effects,
         modifiers,
         type_effects,
         buff_collections,
-    );
-    match book {
-        Shaped::Bad(t) => Shaped::Bad(t),
-        Shaped::Sound => fit_bad(
-            objects,
-            base_attributes,
-            base_values,
-            ids,
-            buffs,
-            buff_values,
-            asks,
-        ),
-    }
+    )?;
+    fit_bad(
+        objects,
+        base_attributes,
+        base_values,
+        ids,
+        buffs,
+        buff_values,
+        asks,
+    )
 }
 
 pub mod book;

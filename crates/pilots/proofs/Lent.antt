@@ -12,8 +12,7 @@ use Rattle.rules.specs.Outcome.{Lent, Rooms, Done, run, rooms_of}
 use Rattle.rules.specs.Pool.{stretch_of, lent_to, pool_rooms, pool_bad}
 use Rattle.rules.specs.Sheet.{book_of, fit_of}
 use Rattle.rules.specs.declared.Refusal.TheVariants.{Shape}
-use Rattle.shape.specs.Shaped.{shaped_of, SoundBy}
-use Rattle.shape.specs.declared.Shaped.{Shaped}
+use Rattle.shape.specs.Shaped.{Shaped, shaped_of, SoundBy}
 use Rattle.promises.specs.Result.{MeetsFor}
 use Rattle.promises.specs.Pilots.{pilot_outcome, PilotGiven, PilotMeets}
 use Rattle.run.specs.Filled.{Columns, lent_of, decided}

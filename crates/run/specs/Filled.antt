@@ -1,5 +1,5 @@
 -- What a run leaves in the lent columns before their ends are cleared. Definitions only.
-use Rattle.std.specs.Prelude.{ℕ, ◌≤◌, ◌≡◌, List, [], ◌∷◌, map, Float, length, replicate}
+use Rattle.std.specs.Prelude.{ℕ, ◌≤◌, ◌≡◌, List, [], ◌∷◌, map, Float, length, replicate, Ok, Err}
 use Rattle.std.proofs.Math.Option.{Option, get_or}
 use denote.Triple.Both.{Both}
 use Rattle.columns.specs.Lending.{LentColumn}
@@ -11,8 +11,7 @@ use Rattle.rules.specs.Columns.{collected_numbers, rows_numbers, entry_numbers, 
 use Rattle.rules.specs.Outcome.{Lent, Rooms, Done, run}
 use Rattle.rules.specs.Sheet.{Book, Fit}
 use Rattle.rules.specs.declared.Refusal.TheVariants.{Shape}
-use Rattle.shape.specs.declared.Shaped.{Shaped}
-use Rattle.shape.specs.declared.Shaped.TheVariants.{Sound, Bad}
+use Rattle.shape.specs.Shaped.{Shaped}
 use Rattle.clear.specs.declared.KeptCounts.{KeptCounts}
 use Rattle.run.specs.declared.lists.ListCounts as lists
 use Rattle.values.specs.declared.walk.Valued.{Valued}
@@ -109,5 +108,5 @@ ran_by (valued.Refused y) n objects = ran.Refused y
 
 -- what is sound is run; a bad table is refused
 abbrev pub decided : Shaped → Book → Fit → Rooms → Res Done
-decided Sound k f q = run k f q
-decided (Bad t) k f q = refused (Shape t)
+decided (Ok s) k f q = run k f q
+decided (Err bad) k f q = refused (Shape bad.table)

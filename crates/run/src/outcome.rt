@@ -9,7 +9,7 @@ use columns::{
     AttributeRow, CollectedRow, EntryRow, PlainRow, SourceFloats, SourceRow, States, TablePairs,
 };
 use rules::Refusal;
-use shape::Shaped;
+use shape::BadTable;
 
 // Any bytes that are judged, any lists: SHAPE's refusal, or the run. After a refusal the columns may hold anything: who lent them clears them.
 pub fn filled(
@@ -27,7 +27,7 @@ pub fn filled(
     book: &[u8],
     fit: &[u8],
     pairs: &TablePairs,
-    verdict: Shaped,
+    verdict: Result<(), BadTable>,
 ) -> Ran
     requires sound { SoundBy verdict book.now fit.now pairs.now }
     ensures defined { let lists = lent_columns collected collected_values rows bases values entries entry_values plain sources source_values in
@@ -36,8 +36,8 @@ pub fn filled(
         RanAs (decided verdict k f (outcome.rooms_of (lent_of lists.entry))) result states.new lists.entry lists.exit }
 {
     match verdict {
-        Shaped::Bad(table) => Ran::Refused(Refusal::Shape(table)),
-        Shaped::Sound => {
+        Err(bad) => Ran::Refused(Refusal::from(bad)),
+        Ok(()) => {
             fill(
                 states,
                 collected,

@@ -6,7 +6,7 @@ ghost use Rattle.std.specs.Prelude.{◌+◌, ◌≤◌};
 
 use info::little_endian::{index, u32_at};
 use program::{fill, put as put_text, put_number};
-use shape::{Shaped, shape};
+use shape::shape;
 use std::io::Read;
 use std::num::wrapping_add_u32;
 
@@ -55,8 +55,8 @@ fn verdict(sheet: &[u8], n: usize) -> u32 {
         return 254;
     }
     match shape(&sheet[..n]) {
-        Shaped::Bad(t) => t,
-        Shaped::Sound => SOUND,
+        Err(bad) => bad.table,
+        Ok(()) => SOUND,
     }
 }
 

@@ -16,7 +16,7 @@ use columns::TablePairs;
 use files::{files_shape, pairs_in};
 use info::header::pairs_of;
 use numbers::integers::signed;
-use shape::{Shaped, shape};
+use shape::shape;
 use tallies::{
     PLACES, RULE_FORBIDDEN, RULE_ID, RULE_KIND, RULE_NUMBER, RULE_POINTS, RULE_TOTAL, RuleLine,
     Sums, tallied,
@@ -285,8 +285,8 @@ pub fn dogma_check_rules(lines: &[RuleLine], sheet: &[u8]) -> Checked
 {
     let verdict = shape(sheet);
     match verdict {
-        Shaped::Bad(t) => answer(Verdict::Shape(t)),
-        Shaped::Sound => {
+        Err(bad) => answer(Verdict::Shape(bad.table)),
+        Ok(()) => {
             let pairs = pairs_of(sheet);
             let judgement = judged(lines, sheet, sheet, &pairs);
             answer(judgement)
@@ -302,8 +302,8 @@ pub fn dogma_check_rules_files(lines: &[RuleLine], book: &[u8], fit: &[u8]) -> C
     let pairs = pairs_in(book, fit);
     let verdict = files_shape(book, fit, &pairs);
     match verdict {
-        Shaped::Bad(t) => answer(Verdict::Shape(t)),
-        Shaped::Sound => {
+        Err(bad) => answer(Verdict::Shape(bad.table)),
+        Ok(()) => {
             let judgement = judged(lines, book, fit, &pairs);
             answer(judgement)
         }

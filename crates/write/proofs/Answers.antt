@@ -16,9 +16,9 @@ use Rattle.listing.proofs.Puts.{ends, as_long}
 use Rattle.listing.proofs.Lined.{begun}
 use Rattle.listing.proofs.Behind.{cleared-behind}
 use Rattle.clear.specs.Ends.{cleared}
-use Rattle.shape.specs.Shaped.{shaped_of}
-use Rattle.shape.specs.declared.Shaped.{Shaped}
-use Rattle.shape.specs.declared.Shaped.TheVariants.{Bad}
+use Rattle.std.specs.Prelude.{Err}
+use Rattle.shape.specs.Shaped.{Shaped, shaped_of}
+use Rattle.shape.specs.declared.BadTable.{BadTable}
 use Rattle.shape.proofs.Shapes.{bad_said}
 use Rattle.tables.specs.Tables.{sheet, shape, full, fitted, judged}
 use Rattle.tables.specs.Tables as tables
@@ -28,7 +28,7 @@ use Rattle.write.specs.Given.{answer_of, bytes_in}
 -- ---- what is written, by the verdict and the room
 
 module _ (o : Option ℕ) (b : List ℕ) (n : ℕ) where
-  pub judged_shape : {r : Shaped} {i : ℕ} → r ≡ shaped_of o → r ≡ Bad i → judged o b n ≡ shape i
+  pub judged_shape : {r : Shaped} {x : BadTable} → r ≡ shaped_of o → r ≡ Err x → judged o b n ≡ shape x.table
   judged_shape h e = ap (λ (p : Option ℕ). judged p b n) (bad_said o (sym e ∙ h))
 
   pub judged-full : o ≡ none → n < length b → judged o b n ≡ full

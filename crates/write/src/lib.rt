@@ -18,7 +18,6 @@ use lent::sheet_shape;
 use listing::zero_bytes;
 use put_tables::pairs::{book_length, fit_length};
 use put_tables::{put_book_file, put_fit_file, put_sheet};
-use shape::Shaped;
 
 // The numbers of the refusals, and the place of a full sheet: list 6.
 const SHAPE: u64 = 1;
@@ -229,8 +228,8 @@ pub fn dogma_write_sheet(
         asks,
     );
     match verdict {
-        Shaped::Bad(t) => refused(bytes, SHAPE, t as u64),
-        Shaped::Sound => sheet_written(
+        Err(bad) => refused(bytes, SHAPE, bad.table as u64),
+        Ok(()) => sheet_written(
             bytes,
             header,
             attributes,
@@ -273,8 +272,8 @@ pub fn dogma_write_book(
         buff_collections,
     );
     match verdict {
-        Shaped::Bad(t) => refused(bytes, SHAPE, t as u64),
-        Shaped::Sound => book_written(
+        Err(bad) => refused(bytes, SHAPE, bad.table as u64),
+        Ok(()) => book_written(
             bytes,
             header,
             attributes,
@@ -313,8 +312,8 @@ pub fn dogma_write_fit(
         header,
     );
     match verdict {
-        Shaped::Bad(t) => refused(bytes, SHAPE, t as u64),
-        Shaped::Sound => fit_written(
+        Err(bad) => refused(bytes, SHAPE, bad.table as u64),
+        Ok(()) => fit_written(
             bytes,
             header,
             objects,

@@ -6,6 +6,7 @@ use Rattle.lent.proofs.book.book_bad.Reads as book-bad-reads
 use Rattle.lent.proofs.book.book_fits.Reads as book-fits-reads
 use Rattle.lent.proofs.fit.fit_bad.Reads as fit-bad-reads
 use Rattle.lent.proofs.fit.fit_fits.Reads as fit-fits-reads
+use Rattle.std.proofs.lemmas.Result.{err_from_is_err_and}
 use Rattle.shape.proofs.Scans.{passed, failed}
 use mathlib.Core.Path.{◌≡◌, refl, sym, ◌∙◌}
 use mathlib.Core.List.{[], ◌∷◌}
@@ -20,8 +21,8 @@ returns-then-not-book_fits c = record { defined = sheet_book_header c.args.heade
 pub returns-then-not-fit_fits : goal.returns-then-not-fit_fits
 returns-then-not-fit_fits c = record { defined = sheet_fit_header c.args.header.now (book_tables [] c.args.attributes.now c.args.defaults.now c.args.effects.now c.args.modifiers.now c.args.type_effects.now c.args.buff_collections.now) (fit_tables [] c.args.objects.now c.args.base_attributes.now c.args.base_values.now c.args.ids.now c.args.buffs.now c.args.buff_values.now c.args.asks.now) c.book_fits.ensures.defined c.if-not-book_fits.false (c.fit_fits.ensures.defined ∙ fits_whole c.args.header.now (book_tables [] c.args.attributes.now c.args.defaults.now c.args.effects.now c.args.modifiers.now c.args.type_effects.now c.args.buff_collections.now) (fit_tables [] c.args.objects.now c.args.base_attributes.now c.args.base_values.now c.args.ids.now c.args.buffs.now c.args.buff_values.now c.args.asks.now)) c.if-not-fit_fits.true }
 
-pub book_bad-book-requires : goal.book_bad-book-requires
-book_bad-book-requires c = record { fits = passed c.book_fits.ensures.defined c.if-not-book_fits.false }
+pub book_bad-requires : goal.book_bad-requires
+book_bad-requires c = record { fits = passed c.book_fits.ensures.defined c.if-not-book_fits.false }
 
 pub fit_bad-requires : goal.fit_bad-requires
 fit_bad-requires c = record {
@@ -29,8 +30,8 @@ fit_bad-requires c = record {
   few = sheet_few c.args.header.now (book_tables [] c.args.attributes.now c.args.defaults.now c.args.effects.now c.args.modifiers.now c.args.type_effects.now c.args.buff_collections.now) (fit_tables [] c.args.objects.now c.args.base_attributes.now c.args.base_values.now c.args.ids.now c.args.buffs.now c.args.buff_values.now c.args.asks.now) (c.fit_fits.ensures.defined ∙ fits_whole c.args.header.now (book_tables [] c.args.attributes.now c.args.defaults.now c.args.effects.now c.args.modifiers.now c.args.type_effects.now c.args.buff_collections.now) (fit_tables [] c.args.objects.now c.args.base_attributes.now c.args.base_values.now c.args.ids.now c.args.buffs.now c.args.buff_values.now c.args.asks.now)) c.if-not-fit_fits.false;
 }
 
-pub returns-in-Bad : goal.returns-in-Bad
-returns-in-Bad c = record { defined = sheet_book_bad c.args.header.now (book_tables [] c.args.attributes.now c.args.defaults.now c.args.effects.now c.args.modifiers.now c.args.type_effects.now c.args.buff_collections.now) (fit_tables [] c.args.objects.now c.args.base_attributes.now c.args.base_values.now c.args.ids.now c.args.buffs.now c.args.buff_values.now c.args.asks.now) c.book_fits.ensures.defined c.if-not-book_fits.false (c.fit_fits.ensures.defined ∙ fits_whole c.args.header.now (book_tables [] c.args.attributes.now c.args.defaults.now c.args.effects.now c.args.modifiers.now c.args.type_effects.now c.args.buff_collections.now) (fit_tables [] c.args.objects.now c.args.base_attributes.now c.args.base_values.now c.args.ids.now c.args.buffs.now c.args.buff_values.now c.args.asks.now)) c.if-not-fit_fits.false c.book_bad-book.ensures.defined c.in-Bad.is }
+pub returns-in_err-book_bad : goal.returns-in_err-book_bad
+returns-in_err-book_bad c = let p = err_from_is_err_and c.from_residual.result c.from_residual.ensures.1 in record { defined = rw (p.1, p.2) (sheet_book_bad c.args.header.now (book_tables [] c.args.attributes.now c.args.defaults.now c.args.effects.now c.args.modifiers.now c.args.type_effects.now c.args.buff_collections.now) (fit_tables [] c.args.objects.now c.args.base_attributes.now c.args.base_values.now c.args.ids.now c.args.buffs.now c.args.buff_values.now c.args.asks.now) c.book_fits.ensures.defined c.if-not-book_fits.false (c.fit_fits.ensures.defined ∙ fits_whole c.args.header.now (book_tables [] c.args.attributes.now c.args.defaults.now c.args.effects.now c.args.modifiers.now c.args.type_effects.now c.args.buff_collections.now) (fit_tables [] c.args.objects.now c.args.base_attributes.now c.args.base_values.now c.args.ids.now c.args.buffs.now c.args.buff_values.now c.args.asks.now)) c.if-not-fit_fits.false c.book_bad.ensures.defined c.in_err-book_bad.was) }
 
-pub returns-in-Sound : goal.returns-in-Sound
-returns-in-Sound c = record { defined = sheet_fit_judged c.args.header.now (book_tables [] c.args.attributes.now c.args.defaults.now c.args.effects.now c.args.modifiers.now c.args.type_effects.now c.args.buff_collections.now) (fit_tables [] c.args.objects.now c.args.base_attributes.now c.args.base_values.now c.args.ids.now c.args.buffs.now c.args.buff_values.now c.args.asks.now) c.book_fits.ensures.defined c.if-not-book_fits.false (c.fit_fits.ensures.defined ∙ fits_whole c.args.header.now (book_tables [] c.args.attributes.now c.args.defaults.now c.args.effects.now c.args.modifiers.now c.args.type_effects.now c.args.buff_collections.now) (fit_tables [] c.args.objects.now c.args.base_attributes.now c.args.base_values.now c.args.ids.now c.args.buffs.now c.args.buff_values.now c.args.asks.now)) c.if-not-fit_fits.false c.book_bad-book.ensures.defined c.in-Sound.is c.fit_bad.ensures.defined }
+pub returns : goal.returns
+returns c = record { defined = sheet_fit_judged c.args.header.now (book_tables [] c.args.attributes.now c.args.defaults.now c.args.effects.now c.args.modifiers.now c.args.type_effects.now c.args.buff_collections.now) (fit_tables [] c.args.objects.now c.args.base_attributes.now c.args.base_values.now c.args.ids.now c.args.buffs.now c.args.buff_values.now c.args.asks.now) c.book_fits.ensures.defined c.if-not-book_fits.false (c.fit_fits.ensures.defined ∙ fits_whole c.args.header.now (book_tables [] c.args.attributes.now c.args.defaults.now c.args.effects.now c.args.modifiers.now c.args.type_effects.now c.args.buff_collections.now) (fit_tables [] c.args.objects.now c.args.base_attributes.now c.args.base_values.now c.args.ids.now c.args.buffs.now c.args.buff_values.now c.args.asks.now)) c.if-not-fit_fits.false c.book_bad.ensures.defined c.in_ok-book_bad.was c.fit_bad.ensures.defined }

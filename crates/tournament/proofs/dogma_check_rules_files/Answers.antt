@@ -7,16 +7,16 @@ use Rattle.tournament.specs.declared.Checked.{Checked}
 use Rattle.tournament.proofs.Judging.{files_shape, files_held, files_lines}
 
 pub judged-judgement-requires : goal.judged-judgement-requires
-judged-judgement-requires c = let both = files_held c.args.book.now c.args.fit.now c.args.lines.now c.files_shape-verdict.ensures.defined c.in-Sound.is c.pairs_in-pairs.ensures.defined in record { held_book = both.0; held_fit = both.1 }
+judged-judgement-requires c = let both = files_held c.args.book.now c.args.fit.now c.args.lines.now c.files_shape-verdict.ensures.defined c.in-Ok.is c.pairs_in-pairs.ensures.defined in record { held_book = both.0; held_fit = both.1 }
 
-pub returns-in-Bad : goal.returns-in-Bad
-returns-in-Bad c = record {
-  defined = c.answer.ensures.defined ∙ ap answer_of (files_shape c.args.book.now c.args.fit.now c.args.lines.now c.files_shape-verdict.ensures.defined c.in-Bad.is);
+pub returns-in-Err : goal.returns-in-Err
+returns-in-Err c = record {
+  defined = c.answer.ensures.defined ∙ ap answer_of (files_shape c.args.book.now c.args.fit.now c.args.lines.now c.files_shape-verdict.ensures.defined c.in-Err.is);
   no_sum_wraps = omega (arith, ap (λ (r : Checked). r.count) c.answer.ensures.defined);
 }
 
-pub returns-in-Sound : goal.returns-in-Sound
-returns-in-Sound c = record {
-  defined = c.answer-in-Sound.ensures.defined ∙ ap answer_of (files_lines c.args.book.now c.args.fit.now c.args.lines.now c.files_shape-verdict.ensures.defined c.in-Sound.is c.pairs_in-pairs.ensures.defined c.judged-judgement.ensures.defined);
-  no_sum_wraps = omega (arith, ap (λ (r : Checked). r.count) c.answer-in-Sound.ensures.defined, c.judged-judgement.ensures.no_wrap);
+pub returns-in-Ok : goal.returns-in-Ok
+returns-in-Ok c = record {
+  defined = c.answer-in-Ok.ensures.defined ∙ ap answer_of (files_lines c.args.book.now c.args.fit.now c.args.lines.now c.files_shape-verdict.ensures.defined c.in-Ok.is c.pairs_in-pairs.ensures.defined c.judged-judgement.ensures.defined);
+  no_sum_wraps = omega (arith, ap (λ (r : Checked). r.count) c.answer-in-Ok.ensures.defined, c.judged-judgement.ensures.no_wrap);
 }

@@ -19,11 +19,11 @@ use Rattle.rules.specs.Shape.{book_bad, attributes_good, effects_good, type_effe
 
 pub book_written-requires : goal.book_written-requires
 unfolding book_tables_bad book_fits book_bad attributes_good effects_good type_effects_good buff_collections_good book_lent
-book_written-requires c = record { good = sound_said (book_tables_bad (book_tables c.args.header.now c.args.attributes.now c.args.defaults.now c.args.effects.now c.args.modifiers.now c.args.type_effects.now c.args.buff_collections.now)) (sym c.in-Sound.is ∙ c.book_shape-verdict.ensures.defined) }
+book_written-requires c = record { good = sound_said (book_tables_bad (book_tables c.args.header.now c.args.attributes.now c.args.defaults.now c.args.effects.now c.args.modifiers.now c.args.type_effects.now c.args.buff_collections.now)) (sym c.in-Ok.is ∙ c.book_shape-verdict.ensures.defined) }
 
-pub returns-in-Bad : goal.returns-in-Bad
+pub returns-in-Err : goal.returns-in-Err
 unfolding written_book book_tables_bad book_fits book_bad attributes_good effects_good type_effects_good buff_collections_good book_lent
-returns-in-Bad c = record { the_book = given_shape (written_book (book_tables c.args.header.now c.args.attributes.now c.args.defaults.now c.args.effects.now c.args.modifiers.now c.args.type_effects.now c.args.buff_collections.now) (length c.args.bytes.now)) (length c.args.bytes.now) c.refused.ensures.zeros (judged_shape (book_tables_bad (book_tables c.args.header.now c.args.attributes.now c.args.defaults.now c.args.effects.now c.args.modifiers.now c.args.type_effects.now c.args.buff_collections.now)) (book_file_of (book_tables c.args.header.now c.args.attributes.now c.args.defaults.now c.args.effects.now c.args.modifiers.now c.args.type_effects.now c.args.buff_collections.now)) (length c.args.bytes.now) c.book_shape-verdict.ensures.defined c.in-Bad.is) c.refused.ensures.answer }
+returns-in-Err c = record { the_book = given_shape (written_book (book_tables c.args.header.now c.args.attributes.now c.args.defaults.now c.args.effects.now c.args.modifiers.now c.args.type_effects.now c.args.buff_collections.now) (length c.args.bytes.now)) (length c.args.bytes.now) c.refused.ensures.zeros (judged_shape (book_tables_bad (book_tables c.args.header.now c.args.attributes.now c.args.defaults.now c.args.effects.now c.args.modifiers.now c.args.type_effects.now c.args.buff_collections.now)) (book_file_of (book_tables c.args.header.now c.args.attributes.now c.args.defaults.now c.args.effects.now c.args.modifiers.now c.args.type_effects.now c.args.buff_collections.now)) (length c.args.bytes.now) c.book_shape-verdict.ensures.defined c.in-Err.is) c.refused.ensures.answer }
 
-pub returns-in-Sound : goal.returns-in-Sound
-returns-in-Sound c = record { the_book = c.book_written.ensures.defined }
+pub returns-in-Ok : goal.returns-in-Ok
+returns-in-Ok c = record { the_book = c.book_written.ensures.defined }

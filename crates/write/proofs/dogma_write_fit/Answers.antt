@@ -16,11 +16,11 @@ use Rattle.shape.proofs.Shapes.{sound_said}
 use Rattle.write.proofs.Answers.{judged_shape, judged-full, judged_sheet, given_shape, given-full, given_sheet}
 
 pub fit_written-requires : goal.fit_written-requires
-fit_written-requires c = record { good = sound_said (fit_tables_bad (fit_tables c.args.header.now c.args.objects.now c.args.base_attributes.now c.args.base_values.now c.args.ids.now c.args.buffs.now c.args.buff_values.now c.args.asks.now)) (sym c.in-Sound.is ∙ c.fit_shape-verdict.ensures.defined) }
+fit_written-requires c = record { good = sound_said (fit_tables_bad (fit_tables c.args.header.now c.args.objects.now c.args.base_attributes.now c.args.base_values.now c.args.ids.now c.args.buffs.now c.args.buff_values.now c.args.asks.now)) (sym c.in-Ok.is ∙ c.fit_shape-verdict.ensures.defined) }
 
-pub returns-in-Bad : goal.returns-in-Bad
+pub returns-in-Err : goal.returns-in-Err
 unfolding written_fit
-returns-in-Bad c = record { the_fit = given_shape (written_fit (fit_tables c.args.header.now c.args.objects.now c.args.base_attributes.now c.args.base_values.now c.args.ids.now c.args.buffs.now c.args.buff_values.now c.args.asks.now) (length c.args.bytes.now)) (length c.args.bytes.now) c.refused.ensures.zeros (judged_shape (fit_tables_bad (fit_tables c.args.header.now c.args.objects.now c.args.base_attributes.now c.args.base_values.now c.args.ids.now c.args.buffs.now c.args.buff_values.now c.args.asks.now)) (fit_file_of (fit_tables c.args.header.now c.args.objects.now c.args.base_attributes.now c.args.base_values.now c.args.ids.now c.args.buffs.now c.args.buff_values.now c.args.asks.now)) (length c.args.bytes.now) c.fit_shape-verdict.ensures.defined c.in-Bad.is) c.refused.ensures.answer }
+returns-in-Err c = record { the_fit = given_shape (written_fit (fit_tables c.args.header.now c.args.objects.now c.args.base_attributes.now c.args.base_values.now c.args.ids.now c.args.buffs.now c.args.buff_values.now c.args.asks.now) (length c.args.bytes.now)) (length c.args.bytes.now) c.refused.ensures.zeros (judged_shape (fit_tables_bad (fit_tables c.args.header.now c.args.objects.now c.args.base_attributes.now c.args.base_values.now c.args.ids.now c.args.buffs.now c.args.buff_values.now c.args.asks.now)) (fit_file_of (fit_tables c.args.header.now c.args.objects.now c.args.base_attributes.now c.args.base_values.now c.args.ids.now c.args.buffs.now c.args.buff_values.now c.args.asks.now)) (length c.args.bytes.now) c.fit_shape-verdict.ensures.defined c.in-Err.is) c.refused.ensures.answer }
 
-pub returns-in-Sound : goal.returns-in-Sound
-returns-in-Sound c = record { the_fit = c.fit_written.ensures.defined }
+pub returns-in-Ok : goal.returns-in-Ok
+returns-in-Ok c = record { the_fit = c.fit_written.ensures.defined }

@@ -16,11 +16,11 @@ use Rattle.shape.proofs.Shapes.{sound_said}
 use Rattle.write.proofs.Answers.{judged_shape, judged-full, judged_sheet, given_shape, given-full, given_sheet}
 
 pub sheet_written-requires : goal.sheet_written-requires
-sheet_written-requires c = record { good = sound_said (tables_bad (together c.args.header.now (book_tables [] c.args.attributes.now c.args.defaults.now c.args.effects.now c.args.modifiers.now c.args.type_effects.now c.args.buff_collections.now) (fit_tables [] c.args.objects.now c.args.base_attributes.now c.args.base_values.now c.args.ids.now c.args.buffs.now c.args.buff_values.now c.args.asks.now))) (sym c.in-Sound.is ∙ c.sheet_shape-verdict.ensures.defined) }
+sheet_written-requires c = record { good = sound_said (tables_bad (together c.args.header.now (book_tables [] c.args.attributes.now c.args.defaults.now c.args.effects.now c.args.modifiers.now c.args.type_effects.now c.args.buff_collections.now) (fit_tables [] c.args.objects.now c.args.base_attributes.now c.args.base_values.now c.args.ids.now c.args.buffs.now c.args.buff_values.now c.args.asks.now))) (sym c.in-Ok.is ∙ c.sheet_shape-verdict.ensures.defined) }
 
-pub returns-in-Bad : goal.returns-in-Bad
+pub returns-in-Err : goal.returns-in-Err
 unfolding written
-returns-in-Bad c = record { the_sheet = given_shape (written (together c.args.header.now (book_tables [] c.args.attributes.now c.args.defaults.now c.args.effects.now c.args.modifiers.now c.args.type_effects.now c.args.buff_collections.now) (fit_tables [] c.args.objects.now c.args.base_attributes.now c.args.base_values.now c.args.ids.now c.args.buffs.now c.args.buff_values.now c.args.asks.now)) (length c.args.bytes.now)) (length c.args.bytes.now) c.refused.ensures.zeros (judged_shape (tables_bad (together c.args.header.now (book_tables [] c.args.attributes.now c.args.defaults.now c.args.effects.now c.args.modifiers.now c.args.type_effects.now c.args.buff_collections.now) (fit_tables [] c.args.objects.now c.args.base_attributes.now c.args.base_values.now c.args.ids.now c.args.buffs.now c.args.buff_values.now c.args.asks.now))) (sheet_of (together c.args.header.now (book_tables [] c.args.attributes.now c.args.defaults.now c.args.effects.now c.args.modifiers.now c.args.type_effects.now c.args.buff_collections.now) (fit_tables [] c.args.objects.now c.args.base_attributes.now c.args.base_values.now c.args.ids.now c.args.buffs.now c.args.buff_values.now c.args.asks.now))) (length c.args.bytes.now) c.sheet_shape-verdict.ensures.defined c.in-Bad.is) c.refused.ensures.answer }
+returns-in-Err c = record { the_sheet = given_shape (written (together c.args.header.now (book_tables [] c.args.attributes.now c.args.defaults.now c.args.effects.now c.args.modifiers.now c.args.type_effects.now c.args.buff_collections.now) (fit_tables [] c.args.objects.now c.args.base_attributes.now c.args.base_values.now c.args.ids.now c.args.buffs.now c.args.buff_values.now c.args.asks.now)) (length c.args.bytes.now)) (length c.args.bytes.now) c.refused.ensures.zeros (judged_shape (tables_bad (together c.args.header.now (book_tables [] c.args.attributes.now c.args.defaults.now c.args.effects.now c.args.modifiers.now c.args.type_effects.now c.args.buff_collections.now) (fit_tables [] c.args.objects.now c.args.base_attributes.now c.args.base_values.now c.args.ids.now c.args.buffs.now c.args.buff_values.now c.args.asks.now))) (sheet_of (together c.args.header.now (book_tables [] c.args.attributes.now c.args.defaults.now c.args.effects.now c.args.modifiers.now c.args.type_effects.now c.args.buff_collections.now) (fit_tables [] c.args.objects.now c.args.base_attributes.now c.args.base_values.now c.args.ids.now c.args.buffs.now c.args.buff_values.now c.args.asks.now))) (length c.args.bytes.now) c.sheet_shape-verdict.ensures.defined c.in-Err.is) c.refused.ensures.answer }
 
-pub returns-in-Sound : goal.returns-in-Sound
-returns-in-Sound c = record { the_sheet = c.sheet_written.ensures.defined }
+pub returns-in-Ok : goal.returns-in-Ok
+returns-in-Ok c = record { the_sheet = c.sheet_written.ensures.defined }
