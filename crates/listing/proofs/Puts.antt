@@ -35,7 +35,7 @@ text_of (put at out) = out
 next_place : (at n : ℕ) → suc at + n ≡ at + suc n
 next_place at n = omega arith
 
-puts-sets : (xs : List ℕ) (at : ℕ) (out : List ℕ) → puts xs (put at out) ≡ put (at + length xs) (sets out at xs)
+pub puts-sets : (xs : List ℕ) (at : ℕ) (out : List ℕ) → puts xs (put at out) ≡ put (at + length xs) (sets out at xs)
 unfolding puts
 puts-sets [] at out = ap (λ (k : ℕ). put k out) (sym (add-zero at))
 puts-sets (x ∷ xs) at out = rw add-one (puts-sets xs (suc at) (set out at x) ∙ ap (λ (k : ℕ). put k (sets (set out at x) (suc at) xs)) (next_place at (length xs)))

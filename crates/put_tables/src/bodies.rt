@@ -5,10 +5,7 @@ ghost use Rattle.tables.specs.Tables.{book_tabs, fit_tabs, body_of, book_length,
 ghost use Rattle.tables.specs.At.{book_now, book_at, fit_now, fit_at};
 ghost use Rattle.put_tables.specs.Ready.{BookReady, FitReady};
 
-use super::rows::{
-    put_asks, put_attributes, put_buff_collections, put_effects, put_modifiers, put_objects,
-    put_type_effects, put_values,
-};
+use super::rows::{put_attributes, put_rows, put_values};
 use super::words::put_words;
 use columns::{
     AskFields, AttributeFields, BuffCollectionFields, EffectFields, ModifierFields, ObjectFields,
@@ -35,10 +32,10 @@ pub fn put_book(
         result ≡ at + book_length t }
 {
     let second = put_attributes(bytes, at, attributes, defaults);
-    let third = put_effects(bytes, second, effects);
-    let fourth = put_modifiers(bytes, third, modifiers);
-    let fifth = put_type_effects(bytes, fourth, type_effects);
-    put_buff_collections(bytes, fifth, buff_collections)
+    let third = put_rows(bytes, second, effects);
+    let fourth = put_rows(bytes, third, modifiers);
+    let fifth = put_rows(bytes, fourth, type_effects);
+    put_rows(bytes, fifth, buff_collections)
 }
 
 // Tables 6 to 10, from a place on.
@@ -61,9 +58,9 @@ pub fn put_fit(
     ensures end { let t = fit_at objects base_attributes base_values ids buffs buff_values asks [] in
         result ≡ at + fit_length t }
 {
-    let seventh = put_objects(bytes, at, objects);
+    let seventh = put_rows(bytes, at, objects);
     let eighth = put_values(bytes, seventh, base_attributes, base_values);
     let ninth = put_words(bytes, eighth, ids);
     let tenth = put_values(bytes, ninth, buffs, buff_values);
-    put_asks(bytes, tenth, asks)
+    put_rows(bytes, tenth, asks)
 }

@@ -15,19 +15,6 @@ use columns::{
 use pairs::{book_length, book_pairs, fit_pairs};
 use words::put_words;
 
-// A lent header's length is told where it is handed on by value; the compiler drops the copy.
-fn five(numbers: SheetNumbers)
-    ensures whole { length numbers ≡ 5 }
-{}
-
-fn three(numbers: BookNumbers)
-    ensures whole { length numbers ≡ 3 }
-{}
-
-fn two(numbers: FitNumbers)
-    ensures whole { length numbers ≡ 2 }
-{}
-
 // A whole sheet: its header, then the ten tables in their order.
 pub fn put_sheet(
     bytes: &mut [u8],
@@ -72,11 +59,9 @@ pub fn put_sheet(
         buff_collections,
     );
     let fit = fit_pairs(at, objects, base_attributes, ids, buffs, asks);
-    let numbers = *header;
-    five(numbers);
     let behind_book = put_words(bytes, 0, &book);
     let behind_fit = put_words(bytes, behind_book, &fit);
-    let body = put_words(bytes, behind_fit, &numbers);
+    let body = put_words(bytes, behind_fit, header);
     let middle = put_book(
         bytes,
         body,
@@ -125,10 +110,8 @@ pub fn put_book_file(
         type_effects,
         buff_collections,
     );
-    let numbers = *header;
-    three(numbers);
     let behind = put_words(bytes, 0, &pairs);
-    let body = put_words(bytes, behind, &numbers);
+    let body = put_words(bytes, behind, header);
     put_book(
         bytes,
         body,
@@ -160,10 +143,8 @@ pub fn put_fit_file(
         Added bytes 0 result (fit_file_of t) }
 {
     let pairs = fit_pairs(48, objects, base_attributes, ids, buffs, asks);
-    let numbers = *header;
-    two(numbers);
     let behind = put_words(bytes, 0, &pairs);
-    let body = put_words(bytes, behind, &numbers);
+    let body = put_words(bytes, behind, header);
     put_fit(
         bytes,
         body,
