@@ -2,6 +2,7 @@
 ghost use Rattle.std.specs.Prelude.{◌≡◌, List, [], ◌++◌, ℕ, ◌-◌, ◌≤◌, ◌<◌, length, get_or};
 ghost use Rattle.std.specs.Float.{nan};
 ghost use Rattle.laws.specs.Lists.{some?, span};
+ghost use Rattle.rules.specs.Ids.{OptionalId};
 ghost use Rattle.rules.specs.Codes.{category_code, operator_code};
 ghost use Rattle.rules.specs.Operate.{has_penalty};
 ghost use Rattle.rules.specs.Columns.{origin_numbers, origin_value, optional_numbers};
@@ -43,7 +44,7 @@ pub fn operator_of(code: u32) -> EffectOperator
 
 // An id and the flag beside it, which says whether it is given.
 fn optional_id(given: u32, id: u32) -> Option<i32>
-    ensures defined { (o : Option<i32>) → NarrowId o → given ≡ get_or (optional_numbers o) 0 0 → id ≡ get_or (optional_numbers o) 1 0
+    ensures defined { (o : OptionalId) → NarrowId o → given ≡ get_or (optional_numbers o) 0 0 → id ≡ get_or (optional_numbers o) 1 0
         → result ≡ o }
 {
     if given == 1 {
