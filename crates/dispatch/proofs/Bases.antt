@@ -3,7 +3,8 @@ use Prim.Native.Nat.{ℕ, ◌+◌, ◌*◌, ◌≤◌, ◌<◌}
 use native.Mathlib.Omega.{arith}
 use mathlib.Core.Path.{◌≡◌, refl, sym, ap, ◌∙◌}
 use mathlib.Core.Bool.{Bool, true, false, ◌||◌}
-use mathlib.Core.List.{List, [], ◌++◌, map}
+use mathlib.Core.List.{List, [], ◌∷◌, ◌++◌, map}
+use Rattle.std.specs.List.{list_any}
 use lib.ListN.{length, get_or, take, length-map, length-append}
 use lib.Seq.{length-take-le, get_or-take, take_all}
 use Rattle.laws.specs.Lists.{some?, flat}
@@ -41,14 +42,6 @@ module _ (b : List ℕ) (pairs : List (List ℕ)) (S : SoundFit b pairs) where
 
 -- ---- a scan
 
-module _ {A : Type 0} (p : A → Bool) (xs : List A) (d : A) where
-  pub scan_next : (k : ℕ) → k < length xs → some? p (take k xs) ≡ false → p (get_or xs k d) ≡ false → some? p (take (k + 1) xs) ≡ false
-  scan_next k h e f = some_next p xs k d h ∙ ap (λ (t : Bool). t || p (get_or xs k d)) e ∙ f
-
-  pub scan_here : (n k : ℕ) → k < n → n ≤ length xs → p (get_or xs k d) ≡ true → true ≡ some? p (take n xs)
-  scan_here n k h l e = sym (some_by p (take n xs) k d (rw (length-take-le n xs l) h) (ap p (get_or-take n xs k d h) ∙ e))
-
-  pub scan_end : (n k : ℕ) → k ≤ n → n ≤ k → some? p (take k xs) ≡ false → false ≡ some? p (take n xs)
-  scan_end n k h l e =
-      let same : n ≡ k = omega arith in
-      sym (ap (λ (m : ℕ). some? p (take m xs)) same ∙ e)
+pub any_some : {A : Type 0} (p : A → Bool) (xs : List A) → list_any p xs ≡ some? p xs
+any_some p [] = refl
+any_some p (x ∷ xs) = ap (λ (t : Bool). p x || t) (any_some p xs)

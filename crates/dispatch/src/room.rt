@@ -34,13 +34,7 @@ fn has_row(rows: &[AttributeRow], n: usize, object: u32, attribute: u32) -> bool
     requires inside { n ≤ length rows.now }
     ensures defined { result ≡ some? (is_row object attribute) (take n rows.now) }
 {
-    for k in 0..n {
-        let row = rows[k];
-        if (row[ROW_OBJECT] == object) & (row[ROW_ATTRIBUTE] == attribute) {
-            return true;
-        }
-    }
-    false
+    rows[..n].iter().any(|row| row[ROW_OBJECT] == object && row[ROW_ATTRIBUTE] == attribute)
 }
 
 // The list that the hit past the room of entries finds full, where n rows stand: it takes its row first.
@@ -53,8 +47,5 @@ pub fn full_at(rows: &[AttributeRow], past: HitKey, n: usize, room: usize) -> u3
         return 3;
     }
     let there = has_row(rows, n, past[KEY_OBJECT], past[KEY_ATTRIBUTE]);
-    if there {
-        return 3;
-    }
-    2
+    if there { 3 } else { 2 }
 }

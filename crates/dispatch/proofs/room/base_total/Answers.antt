@@ -20,9 +20,6 @@ object-o-requires c = record {
 pub overflow_add-total : goal.overflow_add-total
 overflow_add-total c = omega (arith, c.loop-i.invariant.2, c.loop-i.invariant.0, c.index-attributes.ensures.defined.1, c.requires.sound_fit.held.objects.few)
 
-pub overflow_add-i : goal.overflow_add-i
-overflow_add-i c = omega (arith, c.loop-i.invariant.0, c.requires.sound_fit.held.objects.few, c.count_of-objects.ensures.defined, c.loop-i-test.true)
-
 pub loop-i-smaller : goal.loop-i-smaller
 loop-i-smaller c = omega (arith, c.count_of-objects.ensures.defined, c.loop-i-test.true)
 

@@ -9,5 +9,5 @@ returns-then-n-room c = record { the_list = rw (ne_eqb _ _ c.if-n-room.true) ref
 pub returns-then-there : goal.returns-then-there
 returns-then-there c = record { the_list = rw (eq-eqb _ _ c.if-n-room.false, sym c.has_row-there.ensures.defined ∙ c.if-there.true) refl }
 
-pub returns : goal.returns
-returns c = record { the_list = rw (eq-eqb _ _ c.if-n-room.false, sym c.has_row-there.ensures.defined ∙ c.if-there.false) refl }
+pub returns-else-there : goal.returns-else-there
+returns-else-there c = record { the_list = rw (eq-eqb _ _ c.if-n-room.false, sym c.has_row-there.ensures.defined ∙ c.if-there.false) refl }
