@@ -1,14 +1,13 @@
 -- Base attributes counted object by object; and a scan of rows.
-use Prim.Native.Nat.{ℕ, ◌+◌, ◌*◌, ◌≤◌, ◌<◌}
+use Prim.Native.Nat.{ℕ, ◌+◌, ◌≤◌, ◌<◌}
 use native.Mathlib.Omega.{arith}
 use mathlib.Core.Path.{◌≡◌, refl, sym, ap, ◌∙◌}
-use mathlib.Core.Bool.{Bool, true, false, ◌||◌}
+use mathlib.Core.Bool.{Bool, ◌||◌}
 use mathlib.Core.List.{List, [], ◌∷◌, ◌++◌, map}
 use Rattle.std.specs.List.{list_any}
-use lib.ListN.{length, get_or, take, length-map, length-append}
-use lib.Seq.{length-take-le, get_or-take, take_all}
+use lib.ListN.{length, take, length-map, length-append}
+use lib.Seq.{take_all}
 use Rattle.laws.specs.Lists.{some?, flat}
-use Rattle.laws.proofs.Every.{some_next, some_by}
 use Rattle.laws.proofs.Flat.{flat-next}
 use Rattle.laws.proofs.Spans.{span_length}
 use Rattle.rules.specs.Bytes.{count_of}

@@ -1,15 +1,15 @@
 -- The three ways that dispatch ends.
-use Prim.Native.Nat.{ℕ, ◌+◌, ◌≤◌, ◌<◌, ◌^◌}
+use Prim.Native.Nat.{ℕ, ◌≤◌, ◌<◌, ◌^◌}
 use native.Mathlib.Omega.{arith}
-use mathlib.Core.Path.{◌≡◌, refl, sym, ap, subst, ◌∙◌}
-use mathlib.Core.Bool.{Bool, not, ◌&&◌, cond}
-use mathlib.Core.List.{List, [], ◌∷◌, ◌++◌, map}
+use mathlib.Core.Path.{◌≡◌, sym, ap, subst, ◌∙◌}
+use mathlib.Core.Bool.{not, ◌&&◌, cond}
+use mathlib.Core.List.{List, ◌++◌, map}
 use mathlib.Core.Option.{none, some}
 use Rattle.std.specs.Prelude.{Option, Some, None}
 use lib.Dec.{eqb}
 use lib.Ieee.{Float}
-use lib.ListN.{length, get_or, take, drop, length-map}
-use lib.Seq.{take_at, take_all}
+use lib.ListN.{length, get_or, take, drop}
+use lib.Seq.{take_all}
 use Rattle.laws.specs.Lists.{some?}
 use Rattle.laws.specs.Columns.{Col}
 use Rattle.rules.specs.Bytes.{count_of}

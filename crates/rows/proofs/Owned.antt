@@ -11,10 +11,10 @@ use lib.Ieee.{Float}
 use lib.ListN.{length, get_or, take, drop, length-map}
 use lib.Seq.{take_at, length-take-le}
 use borrow.Author.Tests.{ltb-true, lt-ltb}
-use Rattle.laws.specs.Lists.{eq_z, keep, flat, every?, ascends, insert_all, total}
-use Rattle.laws.specs.Columns.{laid, Col}
+use Rattle.laws.specs.Lists.{eq_z, keep, every?, ascends, insert_all, total}
+use Rattle.laws.specs.Columns.{laid}
 use Rattle.laws.proofs.Bools.{and_both}
-use Rattle.laws.proofs.Maps.{map_same, map-map, map_at, map_itself}
+use Rattle.laws.proofs.Maps.{map-map, map_at, map_itself}
 use Rattle.laws.proofs.Every.{every_at, every_by, every_map, every_flat}
 use Rattle.laws.proofs.Keep.{every_kept}
 use Rattle.laws.proofs.Flat.{flat_same, flat_map, map-flat}
@@ -28,7 +28,7 @@ use Rattle.rules.specs.declared.Effect.{Effect}
 use Rattle.rules.specs.declared.Pass2Effect.{Pass2Effect}
 use Rattle.info.specs.Stands.{numbered_at}
 use Rattle.search.specs.Bounds.{row_key}
-use Rattle.rows.specs.Tallies.{Tally, id_of, base_of, tally_numbers, narrow?, hit_number, hit_id, OfCollected, tallied, tally_of, Stretch, Answered}
+use Rattle.rows.specs.Tallies.{Tally, base_of, tally_numbers, hit_number, hit_id, OfCollected, tallied, tally_of, Stretch, Answered}
 use Rattle.rows.specs.Entries.{times, rows_from, row_count, started, effect_number, hits_at, spread_over, hits_in, row_for, rows_for, Counted, Spreading}
 use Rattle.rows.proofs.Defined.{hits_targets, spread_entries, rows_numbers_lem}
 use Rattle.rows.proofs.Begins.{tallied-counted, spreading, begun_keys}

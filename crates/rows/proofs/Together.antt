@@ -17,9 +17,9 @@ use Rattle.laws.proofs.Maps.{map-map, map_at, map-take}
 use Rattle.laws.proofs.Every.{every_at, every_take, every_drop}
 use Rattle.laws.proofs.Flat.{flat_append}
 use Rattle.laws.proofs.From.{from-length, from_append, from_at, from-take, flat-from-next}
-use Rattle.laws.proofs.Spans.{span_length, span_at, span_map}
+use Rattle.laws.proofs.Spans.{span_length, span_map}
 use Rattle.laws.proofs.Sums.{flat_part}
-use Rattle.laws.proofs.Laid.{laid-length, drop-laid, col_none, col_same, col_append}
+use Rattle.laws.proofs.Laid.{drop-laid, col_none, col_same, col_append}
 use Rattle.rules.specs.Bytes.{bits}
 use Rattle.rules.specs.Sheet.{Book, Fit}
 use Rattle.rules.specs.Item.{object}
@@ -30,7 +30,7 @@ use Rattle.info.specs.Stands.{numbered_at}
 use Rattle.rows.specs.Tallies.{hit_number, OfCollected}
 use Rattle.rows.specs.Entries.{hits_in, rows_for}
 use Rattle.rows.specs.Effects.{Effects, Listing}
-use Rattle.rows.specs.Laying.{entries_of, EntriesLaid, RowsLaid, ObjectLaid}
+use Rattle.rows.specs.Laying.{entries_of, ObjectLaid}
 use Rattle.rows.specs.Parts.{hits_to, Parts, Parting, part_rows, rows_to, ListsLaid, AllLaid}
 use Rattle.rows.proofs.Owned.{numbers_length}
 

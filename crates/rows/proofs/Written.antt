@@ -1,12 +1,11 @@
 -- An entry written out from its effect's row of list 1.
 use Rattle.std.specs.Prelude.{None, Some}
-use Prim.Native.Nat.{ℕ, ◌<◌, ◌%◌}
+use Prim.Native.Nat.{ℕ}
 use mathlib.Core.Path.{◌≡◌, refl, sym, ap, ◌∙◌}
-use mathlib.Core.Bool.{Bool, true, false, not, ◌&&◌, ◌||◌, cond}
-use mathlib.Core.List.{List, [], ◌∷◌, ◌++◌, append_assoc}
+use mathlib.Core.Bool.{Bool}
+use mathlib.Core.List.{List, [], ◌∷◌, ◌++◌}
 use lib.Dec.{eqb}
 use lib.IntN.{ℤ, pos}
-use lib.ListN.{get_or}
 use mir.Syntax.{w32}
 use mir.Val.{SFits, of_z}
 use mir.Facts.{sfits_lit}
@@ -16,8 +15,7 @@ use Rattle.rules.specs.Bytes.{bits}
 use Rattle.rules.specs.Codes.{operator_code}
 use Rattle.rules.specs.Constants.{exempt_categories}
 use Rattle.rules.specs.Sheet.{Book, Fit}
-use Rattle.rules.specs.Info.{get_dogma_attribute, stackable}
-use Rattle.rules.specs.Dispatch.{source_category, is_source, Numbered, entry}
+use Rattle.rules.specs.Dispatch.{Numbered, entry}
 use Rattle.rules.specs.Columns.{yes1, origin_numbers, modifier_numbers, optional_numbers, collected_numbers, entry_numbers}
 use Rattle.rules.specs.declared.Item.{Item}
 use Rattle.rules.specs.declared.Pass2Effect.{Pass2Effect}

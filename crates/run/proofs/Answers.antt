@@ -1,4 +1,5 @@
 -- What the answers of collection and dispatch say of the whole.
+use Rattle.std.specs.Prelude.{Result, Ok, Err}
 use Prim.Native.Nat.{ℕ, ◌≤◌, ◌<◌, ◌^◌}
 use native.Mathlib.Omega.{arith}
 use mathlib.Core.Path.{◌≡◌, refl, sym, subst, ◌∙◌}
@@ -22,8 +23,7 @@ use Rattle.modifier.specs.declared.moves.Counted.TheVariants.{At, Refused}
 use Rattle.modifier.specs.Ran.{stand_of, ended}
 use Rattle.modifier.proofs.Ends.{not_done}
 use Rattle.modifier.proofs.Runs.{answered, was_refused}
-use Rattle.dispatch.specs.declared.Dispatched.{Dispatched}
-use Rattle.dispatch.specs.declared.Dispatched.TheVariants.{Lists, Full}
+use Rattle.dispatch.specs.declared.DispatchedCounts.{DispatchedCounts}
 use Rattle.dispatch.specs.Whole.{Collection, Collecting, Given}
 use Rattle.run.specs.declared.lists.ListRooms.{ListRooms}
 use Rattle.run.specs.declared.lists.Listed.{Listed}
@@ -68,24 +68,24 @@ module _ (book fit : List ℕ) (pairs : List (List ℕ)) (S : SoundFit fit pairs
       ends : (o : Option ℕ) → full_at s.rows s.entries (base_keys f) (length (base_keys f)) 0 (hit_keys k f (collected_in k f)) ≡ o → lists_in k f q ≡ outcome.full o
       ends o i = dispatched k f q (omega (arith, Q.rows, h)) o (gathers q Q.collected Q.plain g).done (rw (Q.rows, Q.entries) i)
 
-      by : (d : Dispatched) → Given d s.rows s.entries k f (collected_in k f) r r' b b' e e' w w' → ListedAs (lists_in k f q) (listed_of d n p) k f c c' v v' r r' b b' e e' w w' l l'
+      by : (d : Result DispatchedCounts Refusal) → Given d s.rows s.entries k f (collected_in k f) r r' b b' e e' w w' → ListedAs (lists_in k f q) (listed_of d n p) k f c c' v v' r r' b b' e e' w w' l l'
       unfolding collected_in rows_in
-      by (Lists a m) i =
+      by (Ok m) i =
           let G = gathers q Q.collected Q.plain g in (
             ends none i.0,
             record { collected = G.count; rows = i.1; entries = i.2; plain = G.plain },
             record { collected = G.numbers; collected_values = G.values; lists = i.3; plain = G.plains },
           )
-      by (Full t) i = ends (some t) i
+      by (Err x) i = ends (full_at s.rows s.entries (base_keys f) (length (base_keys f)) 0 (hit_keys k f (collected_in k f))) refl ∙ i
 
       -- dispatch's answer d, and the whole answer y
-      pub all_listed : (d : Dispatched) → ((es : List Pass2Effect) → Collection es n c' v' (count_of pairs 6) → Given d s.rows s.entries (book_of book pairs) (fit_of fit pairs) es r r' b b' e e' w w') → (y : Listed) → y ≡ listed_of d n p → ListedAs (lists_in (book_of book pairs) (fit_of fit pairs) q) y (book_of book pairs) (fit_of fit pairs) c c' v v' r r' b b' e e' w w' l l'
+      pub all_listed : (d : Result DispatchedCounts Refusal) → ((es : List Pass2Effect) → Collection es n c' v' (count_of pairs 6) → Given d s.rows s.entries (book_of book pairs) (fit_of fit pairs) es r r' b b' e e' w w') → (y : Listed) → y ≡ listed_of d n p → ListedAs (lists_in (book_of book pairs) (fit_of fit pairs) q) y (book_of book pairs) (fit_of fit pairs) c c' v v' r r' b b' e e' w w' l l'
       all_listed d D y a =
           subst (λ (z : Listed). ListedAs (lists_in k f q) z k f c c' v v' r r' b b' e e' w w' l l') (sym a) (by d (D (collected_in k f) (collects g)))
 
-      pub all-within : (d : Dispatched) → ((es : List Pass2Effect) → Collection es n c' v' (count_of pairs 6) → Given d s.rows s.entries (book_of book pairs) (fit_of fit pairs) es r r' b b' e e' w w') → (y : Listed) → y ≡ listed_of d n p → RowsWithin s.rows y
+      pub all-within : (d : Result DispatchedCounts Refusal) → ((es : List Pass2Effect) → Collection es n c' v' (count_of pairs 6) → Given d s.rows s.entries (book_of book pairs) (fit_of fit pairs) es r r' b b' e e' w w') → (y : Listed) → y ≡ listed_of d n p → RowsWithin s.rows y
       all-within d D y a = subst (RowsWithin s.rows) (sym a) (within d (D (collected_in k f) (collects g)))
         where
-          within : (d : Dispatched) → Given d s.rows s.entries k f (collected_in k f) r r' b b' e e' w w' → RowsWithin s.rows (listed_of d n p)
-          within (Lists a m) i = i.4
-          within (Full t) i = tt
+          within : (d : Result DispatchedCounts Refusal) → Given d s.rows s.entries k f (collected_in k f) r r' b b' e e' w w' → RowsWithin s.rows (listed_of d n p)
+          within (Ok m) i = i.4
+          within (Err x) i = tt

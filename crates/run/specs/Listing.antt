@@ -1,5 +1,5 @@
 -- Lists 1 to 4 of a run: the steps of the definition's `run` before any value, and what the columns hold after them. Definitions only.
-use Rattle.std.specs.Prelude.{ℕ, ◌≤◌, ◌<◌, ◌^◌, ◌≡◌, cond, List, leb, Float, length}
+use Rattle.std.specs.Prelude.{ℕ, ◌≤◌, ◌<◌, ◌^◌, ◌≡◌, cond, List, leb, Float, length, Result, Ok, Err}
 use Rattle.std.proofs.Math.Option.{none, some}
 use Rattle.columns.specs.Lending.{LentColumn}
 use Rattle.laws.specs.Columns.{Col}
@@ -12,9 +12,8 @@ use Rattle.rules.specs.Outcome as outcome
 use Rattle.rules.specs.Outcome.{full, collected_in, rows_in, world_of, starts_of, blank, valued}
 use Rattle.rows.specs.Laying.{entries_of}
 use Rattle.rows.specs.Parts.{ListsLaid}
-use Rattle.rules.specs.declared.Refusal.TheVariants.{Room}
-use Rattle.dispatch.specs.declared.Dispatched.{Dispatched}
-use Rattle.dispatch.specs.declared.Dispatched.TheVariants.{Lists, Full}
+use Rattle.rules.specs.declared.Refusal.{Refusal}
+use Rattle.dispatch.specs.declared.DispatchedCounts.{DispatchedCounts}
 use Rattle.run.specs.declared.lists.ListRooms.{ListRooms}
 use Rattle.run.specs.declared.lists.ListCounts.{ListCounts}
 use Rattle.run.specs.declared.lists.Listed.{Listed}
@@ -67,9 +66,9 @@ pub record ListsHeld (k : Book) (f : Fit) (c₀ c : List (List ℕ)) (v₀ v : L
   pub plain : Col plain_numbers (plain_of (moves k f)) p₀ p
 
 -- the answer, by dispatch's and the counts of lists 1 and 4
-abbrev pub listed_of : Dispatched → ℕ → ℕ → Listed
-listed_of (Lists a m) n p = Done (record { collected = n; rows = a; entries = m; plain = p })
-listed_of (Full t) n p = Refused (Room t)
+abbrev pub listed_of : Result DispatchedCounts Refusal → ℕ → ℕ → Listed
+listed_of (Ok d) n p = Done (record { collected = n; rows = d.rows; entries = d.entries; plain = p })
+listed_of (Err x) n p = Refused x
 
 -- the rows have room
 abbrev pub RowsWithin : ℕ → Listed → Type 0

@@ -9,7 +9,7 @@ use columns::{
     AttributePlaces, AttributeRow, CollectedRow, EffectPlaces, EntryRow, PlainRow, TablePairs,
 };
 use dispatch::room::base_total;
-use dispatch::{Dispatched, dispatch};
+use dispatch::{DispatchedCounts, dispatch};
 use modifier::moves::Counted;
 use rules::Refusal;
 
@@ -39,11 +39,11 @@ pub enum Listed {
 }
 
 // The whole answer, by dispatch's and by the rows of lists 1 and 4.
-fn with_counts(given: Dispatched, collected: usize, plain: usize) -> Listed
+fn with_counts(given: Result<DispatchedCounts, Refusal>, collected: usize, plain: usize) -> Listed
     ensures defined { result ≡ listed_of given collected plain }
 {
     match given {
-        Dispatched::Lists(rows, entries) => {
+        Ok(DispatchedCounts { rows, entries }) => {
             Listed::Done(ListCounts {
                 collected,
                 rows,
@@ -51,7 +51,7 @@ fn with_counts(given: Dispatched, collected: usize, plain: usize) -> Listed
                 plain,
             })
         }
-        Dispatched::Full(list) => Listed::Refused(Refusal::Room(list)),
+        Err(refusal) => Listed::Refused(refusal),
     }
 }
 

@@ -1,12 +1,7 @@
 -- `dispatch::dispatch` meets its contract.
 use Rattle.dispatch.proofs.dispatch.Goals as goal
-use Rattle.dispatch.proofs.dispatch.Reads as reads
-use Rattle.dispatch.proofs.dispatch.Lts as lts
-use Rattle.dispatch.proofs.room.full_at.Reads as full-at-reads
-use Rattle.hits.proofs.places.set_hits.Reads as set-hits-reads
-use Rattle.rows.proofs.object_lists.all_lists.Reads as all-lists-reads
 use native.Mathlib.Omega.{arith}
-use mathlib.Core.Path.{◌≡◌, refl, sym, ap, ◌∙◌}
+use mathlib.Core.Path.{◌≡◌, sym, ap, ◌∙◌}
 use Prim.Native.Nat.{ℕ}
 use Rattle.std.specs.Prelude.{Option, None}
 use Rattle.std.specs.Option.{ok_or}

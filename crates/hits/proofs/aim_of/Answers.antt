@@ -1,15 +1,7 @@
 -- `hits::aim_of` meets its contract.
 use Rattle.hits.proofs.aim_of.Goals as goal
-use Rattle.hits.proofs.aim_of.Reads as reads
-use Rattle.hits.proofs.aim_of.Lts as lts
-use Rattle.hits.proofs.located.Reads as located-reads
-use Rattle.hits.proofs.one.Reads as one-reads
-use Rattle.hits.proofs.owned.Reads as owned-reads
-use Rattle.hits.proofs.skill_of.Reads as skill-of-reads
-use Rattle.hits.proofs.skilled.Reads as skilled-reads
 use Prim.Native.Nat.{ℕ, ◌<◌}
 use mathlib.Core.Path.{◌≡◌, sym, subst}
-use lib.ListN.{length}
 use Rattle.info.proofs.Elements.{objects_length}
 use Rattle.hits.proofs.Aims.{aims_is}
 use Rattle.hits.proofs.Effects.{row_item, row_group, row-all, row_owner, row_skill}

@@ -1,8 +1,5 @@
 -- `hits::is_hit` meets its contract.
 use Rattle.hits.proofs.is_hit.Goals as goal
-use Rattle.hits.proofs.is_hit.Reads as reads
-use Rattle.hits.proofs.is_hit.Lts as lts
-use Rattle.hits.proofs.requires_skill.Reads as requires-skill-reads
 use mathlib.Core.Path.{refl}
 use mathlib.Core.Bool.{true}
 use Rattle.hits.specs.declared.Test.TheVariants.{All}

@@ -1,7 +1,5 @@
 -- `hits::requires_skill` meets its contract.
 use Rattle.hits.proofs.requires_skill.Goals as goal
-use Rattle.hits.proofs.requires_skill.Reads as reads
-use Rattle.hits.proofs.requires_skill.Lts as lts
 use Rattle.hits.proofs.Passing.{skill_six}
 
 pub returns : goal.returns

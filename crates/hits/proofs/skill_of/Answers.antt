@@ -1,10 +1,5 @@
 -- `hits::skill_of` meets its contract.
 use Rattle.hits.proofs.skill_of.Goals as goal
-use Rattle.hits.proofs.skill_of.Reads as reads
-use Rattle.hits.proofs.skill_of.Lts as lts
-use Rattle.info.proofs.little_endian.index.Reads as index_Reads
-use Rattle.info.proofs.records.object.Reads as object-reads
-use Rattle.numbers.proofs.integers.bits.Reads as bits-reads
 use mathlib.Core.Path.{ap, ◌∙◌}
 use native.Mathlib.Omega.{arith}
 use borrow.Author.Rules.{sfits_of}

@@ -1,12 +1,8 @@
 -- `dispatch::room::base_total` meets its contract.
 use Rattle.dispatch.proofs.room.base_total.Goals as goal
-use Prim.Native.Nat.{ℕ, ◌-◌, ◌+◌, ◌*◌, ◌≤◌}
 use native.Mathlib.Omega.{arith}
-use mathlib.Core.Path.{◌≡◌, refl}
-use lib.ListN.{length}
-use Rattle.rules.specs.Bytes.{count_of}
-use Rattle.rules.specs.Sheet.{fit_of}
-use Rattle.dispatch.proofs.Bases.{keys_to, base_next, base_all}
+use mathlib.Core.Path.{refl}
+use Rattle.dispatch.proofs.Bases.{base_next, base_all}
 
 pub loop-i-init : goal.loop-i-init
 loop-i-init c = (omega arith, refl, omega arith)

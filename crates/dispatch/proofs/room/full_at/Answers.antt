@@ -1,6 +1,6 @@
 -- `dispatch::room::full_at` meets its contract.
 use Rattle.dispatch.proofs.room.full_at.Goals as goal
-use mathlib.Core.Path.{◌≡◌, refl, sym, ◌∙◌}
+use mathlib.Core.Path.{refl, sym, ◌∙◌}
 use borrow.Author.Tests.{eq-eqb, ne_eqb}
 
 pub returns-then-n-room : goal.returns-then-n-room

@@ -1,8 +1,5 @@
 -- `hits::carrier_of` meets its contract.
 use Rattle.hits.proofs.reach.carrier_of.Goals as goal
-use Rattle.hits.proofs.reach.carrier_of.Reads as reads
-use Rattle.hits.proofs.reach.carrier_of.Lts as lts
-use Rattle.info.proofs.records.object.Reads as object-reads
 use native.Mathlib.Omega.{arith}
 use Rattle.rules.specs.Item.{no_item}
 use Rattle.rules.specs.Sheet.{fit_of}

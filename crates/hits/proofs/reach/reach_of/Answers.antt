@@ -1,10 +1,9 @@
 -- `hits::reach_of` meets its contract.
 use Rattle.hits.proofs.reach.reach_of.Goals as goal
-use mathlib.Core.Path.{◌≡◌, sym, ap, ◌∙◌}
+use mathlib.Core.Path.{sym, ap, ◌∙◌}
 use Rattle.rules.specs.Item.{no_item}
-use Rattle.rules.specs.Sheet.{Book, Fit, book_of, fit_of}
+use Rattle.rules.specs.Sheet.{book_of, fit_of}
 use Rattle.rules.specs.Dispatch.{carrier}
-use Rattle.rules.specs.declared.Item.{Item}
 use Rattle.hits.specs.Reach.{reach_of}
 
 pub categories_of-categories-requires : goal.categories_of-categories-requires

@@ -1,8 +1,7 @@
 -- `reach::required_skills` meets its contract. The measure is how many base attributes are left.
 use Rattle.hits.proofs.reach.required_skills.Goals as goal
 use Rattle.hits.proofs.reach.required_skills.Goals.{then-slot-lt-SKILL_WIDTH, else-slot-lt-SKILL_WIDTH}
-use Prim.Native.Nat.{◌-◌}
-use mathlib.Core.Path.{◌≡◌, sym, ap, ◌∙◌}
+use mathlib.Core.Path.{ap, ◌∙◌}
 use native.Mathlib.Omega.{arith}
 use mir.Syntax.{w32}
 use mir.Facts.{to_z-of_z}
@@ -13,7 +12,7 @@ use Rattle.rules.specs.Sheet.{fit_of}
 use Rattle.info.proofs.Elements.{bases_length}
 use Rattle.info.proofs.Bases.{based}
 use Rattle.hits.specs.Reach.{slot_of}
-use Rattle.hits.proofs.Filled.{Filled, filled_none, filled_here, filled_on, bases_within, filled_all}
+use Rattle.hits.proofs.Filled.{filled_none, filled_here, filled_on, bases_within, filled_all}
 
 pub object-o-requires : goal.object-o-requires
 object-o-requires c = record {

@@ -1,16 +1,8 @@
 -- `reach::skill_table` meets its contract. The measure is how many objects are left.
 use Rattle.hits.proofs.reach.skill_table.Goals as goal
-use Rattle.hits.proofs.reach.skill_table.Reads as reads
-use Rattle.hits.proofs.reach.skill_table.Lts as lts
-use Rattle.hits.proofs.reach.required_skills.Reads as required-skills-reads
-use Rattle.info.proofs.header.count_of.Reads as count-of-reads
-use Prim.Native.Nat.{◌-◌}
-use mathlib.Core.Path.{◌≡◌}
 use native.Mathlib.Omega.{arith}
-use Rattle.rules.specs.Sheet.{fit_of}
 use Rattle.info.proofs.Elements.{objects_length}
-use Rattle.hits.specs.Reach.{required_bits}
-use Rattle.hits.proofs.Telling.{Telling, telling_none, telling_more, telling_all}
+use Rattle.hits.proofs.Telling.{telling_none, telling_more, telling_all}
 
 pub loop-i-init : goal.loop-i-init
 loop-i-init c = telling_none c.count_of-objects.ensures.defined (objects_length c.args.fit.now c.args.pairs.now) c.requires.roomy

@@ -1,11 +1,6 @@
 -- `wanted::mark` meets its contract. The measure is how many skills are left.
 use Rattle.hits.proofs.wanted.mark.Goals as goal
-use Rattle.hits.proofs.wanted.mark.Reads as reads
-use Rattle.hits.proofs.wanted.mark.Lts as lts
-use Prim.Native.Nat.{◌-◌}
-use native.Mathlib.Omega.{arith}
 use mathlib.Core.Path.{refl}
-use Rattle.hits.specs.Marks.{Marking}
 use Rattle.hits.proofs.Marking.{marking_none, marking_more, marking_all}
 
 pub loop-k-init : goal.loop-k-init

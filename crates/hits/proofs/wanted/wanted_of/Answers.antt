@@ -1,12 +1,6 @@
 -- `wanted::wanted_of` meets its contract. The measure is how many objects are left.
 use Rattle.hits.proofs.wanted.wanted_of.Goals as goal
-use Rattle.hits.proofs.wanted.wanted_of.Reads as reads
-use Rattle.hits.proofs.wanted.wanted_of.Lts as lts
-use Rattle.hits.proofs.wanted.mark.Reads as mark-reads
-use Prim.Native.Nat.{◌-◌}
-use native.Mathlib.Omega.{arith}
 use mathlib.Core.Path.{refl}
-use Rattle.hits.specs.Marks.{AllMarked}
 use Rattle.hits.proofs.Marking.{all_none, all_more, all-marked}
 
 pub loop-i-init : goal.loop-i-init

@@ -1,17 +1,10 @@
 -- `object_lists::all_lists` meets its contract.
 use Rattle.rows.proofs.object_lists.all_lists.Goals as goal
-use Rattle.rows.proofs.object_lists.all_lists.Reads as reads
-use Rattle.rows.proofs.object_lists.all_lists.Lts as lts
-use Rattle.info.proofs.header.count_of.Reads as count-of-reads
-use Rattle.info.proofs.little_endian.index.Reads as index_Reads
-use Rattle.rows.proofs.object_lists.object_lists.Reads as object-lists-reads
-use Prim.Native.Nat.{ℕ, ◌-◌}
 use native.Mathlib.Omega.{arith}
-use mathlib.Core.Path.{◌≡◌, refl, sym, ◌∙◌}
-use lib.ListN.{length}
+use mathlib.Core.Path.{refl}
 use Rattle.rules.specs.Bytes.{count_of}
 use Rattle.rules.specs.Sheet.{book_of, fit_of}
-use Rattle.rows.proofs.Together.{part_long, Turns, turns_none, turn_ordered, turn_entries, turn_values, turn_few, turn_even, turn-fits, turn-numbered, turn_stretch, turn-full, turn-next, turns_all}
+use Rattle.rows.proofs.Together.{turns_none, turn_ordered, turn_entries, turn_values, turn_few, turn_even, turn-fits, turn-numbered, turn_stretch, turn-full, turn-next, turns_all}
 
 pub loop-i-init : goal.loop-i-init
 loop-i-init c = turns_none (book_of c.args.book.now c.args.pairs.now) (fit_of c.args.fit.now c.args.pairs.now) c.args.collected.now c.args.collected_values.now (count_of c.args.pairs.now 6) c.args.rows.now c.args.bases.now c.args.entries.now c.args.values.now c.args.ends.now c.args.room

@@ -1,11 +1,7 @@
 -- `object_lists::object_lists` meets its contract.
 use Rattle.rows.proofs.object_lists.object_lists.Goals as goal
-use Rattle.rows.proofs.object_lists.object_lists.Reads as reads
-use Rattle.rows.proofs.object_lists.object_lists.Lts as lts
-use Rattle.rows.proofs.object_lists.object_entries.Reads as object-entries-reads
-use Rattle.rows.proofs.rows.object_rows.Reads as object-rows-reads
 use native.Mathlib.Omega.{arith}
-use mathlib.Core.Path.{◌≡◌, refl, sym, ◌∙◌}
+use mathlib.Core.Path.{refl, ◌∙◌}
 use mathlib.Core.List.{map}
 use Rattle.rows.specs.Tallies.{hit_id, tallied}
 use Rattle.rules.specs.Sheet.{book_of, fit_of}
