@@ -23,7 +23,7 @@ use Rattle.std.specs.Result.{IsErrAnd}
 use Rattle.shape.specs.Shaped.{Shaped, bad_table, shaped_of}
 use Rattle.shape.specs.declared.BadTable.{BadTable}
 use Rattle.shape.proofs.Shapes.{bad_said, sound_said, plus20_said}
-use Rattle.tables.specs.Tables.{Tables, all, value, number, book_lent, fit_lent, book_tables, fit_tables, together, book_alike, fit_alike, counted, book_fits, fit_fits, header_fits, tables_bad, book_tables_bad, fit_tables_bad}
+use Rattle.tables.specs.Tables.{Tables, all, value, number, book_lent, fit_lent, fit_tables, together, fit_alike, book_fits, fit_fits, tables_bad, book_tables_bad, fit_tables_bad}
 use Rattle.tables.proofs.SameVerdict.{decided, like_fit, few_fit}
 use Rattle.lent.specs.Alone.{attributes_alone, effects_alone, type_effects_alone, buff_collections_alone, objects_alone, bases_alone, asks_alone}
 use Rattle.lent.proofs.Nths.{bases_long, ids_long}

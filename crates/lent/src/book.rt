@@ -19,13 +19,12 @@ fn attributes_good(attributes: &[AttributeFields], defaults: &[f64]) -> bool
     ensures defined { result ≡ attributes_good (attributes_alone attributes.now defaults.now) }
 {
     let mut last = 0;
-    for i in 0usize..attributes.len() {
+    for i in 0..attributes.len() {
         let r = attribute(attributes, defaults, i);
-        let good = attribute_good(i, last, r);
-        last = r.id;
-        if !good {
+        if !attribute_good(i, last, r) {
             return false;
         }
+        last = r.id;
     }
     true
 }
@@ -37,13 +36,12 @@ fn effects_good(effects: &[EffectFields], modifiers: &[ModifierFields]) -> bool
 {
     let count = modifiers.len();
     let mut last = 0;
-    for i in 0usize..effects.len() {
+    for i in 0..effects.len() {
         let r = effect(effects, i);
-        let good = effect_good(i, last, r, count);
-        last = r.id;
-        if !good {
+        if !effect_good(i, last, r, count) {
             return false;
         }
+        last = r.id;
     }
     true
 }
@@ -53,13 +51,12 @@ fn type_effects_good(type_effects: &[TypeEffectFields]) -> bool
     ensures defined { result ≡ type_effects_good (type_effects_alone type_effects.now) }
 {
     let mut last = 0;
-    for i in 0usize..type_effects.len() {
+    for i in 0..type_effects.len() {
         let r = type_effect(type_effects, i);
-        let good = type_effect_good(i, last, r);
-        last = r.type_id;
-        if !good {
+        if !type_effect_good(i, last, r) {
             return false;
         }
+        last = r.type_id;
     }
     true
 }
@@ -74,13 +71,12 @@ fn buff_collections_good(
 {
     let count = modifiers.len();
     let mut last = 0;
-    for i in 0usize..buff_collections.len() {
+    for i in 0..buff_collections.len() {
         let r = buff_collection(buff_collections, i);
-        let good = buff_collection_good(i, last, r, count);
-        last = r.id;
-        if !good {
+        if !buff_collection_good(i, last, r, count) {
             return false;
         }
+        last = r.id;
     }
     true
 }

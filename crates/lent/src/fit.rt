@@ -25,15 +25,13 @@ fn objects_good(objects: &[ObjectFields], base_attributes: &[u32], ids: &[u32]) 
     let bases = base_attributes.len();
     let count = ids.len();
     let mut last = SHIP;
-    for i in 0usize..objects.len() {
+    for i in 0..objects.len() {
         let o = object(objects, i);
-        let kind = o.kind;
-        let standing = stands(i, last, kind);
-        let good = standing & object_good(o, bases, count);
-        last = kind;
+        let good = stands(i, last, o.kind) & object_good(o, bases, count);
         if !good {
             return false;
         }
+        last = o.kind;
     }
     CHAR <= last
 }
@@ -42,14 +40,7 @@ fn objects_good(objects: &[ObjectFields], base_attributes: &[u32], ids: &[u32]) 
 fn all_finite(values: &[f64]) -> bool
     ensures defined { result ≡ every? finite values.now }
 {
-    for i in 0usize..values.len() {
-        let x = values[i];
-        let good = is_finite(x);
-        if !good {
-            return false;
-        }
-    }
-    true
+    values.iter().all(|x| is_finite(*x))
 }
 
 // Whether n base attributes ascend, from the first on.
@@ -59,13 +50,12 @@ fn range_ascends(base_attributes: &[u32], base_values: &[f64], first: usize, n: 
     ensures defined { result ≡ ascends (map (λ x. x.attribute_id) (span first n (bases_alone [] base_attributes.now base_values.now).bases)) }
 {
     let mut last = 0;
-    for i in 0usize..n {
+    for i in 0..n {
         let r = base_attribute(base_attributes, base_values, first + i);
-        let good = base_attribute_stands(i, last, r);
-        last = r.attribute_id;
-        if !good {
+        if !base_attribute_stands(i, last, r) {
             return false;
         }
+        last = r.attribute_id;
     }
     true
 }
@@ -83,12 +73,11 @@ fn bases_ascend(
     ensures defined { let f = bases_alone objects.now base_attributes.now base_values.now in
         result ≡ every? (range_ascends f) f.objects }
 {
-    for i in 0usize..objects.len() {
+    for i in 0..objects.len() {
         let o = object(objects, i);
         let first = index(o.first_attribute);
         let count = index(o.attributes);
-        let good = range_ascends(base_attributes, base_values, first, count);
-        if !good {
+        if !range_ascends(base_attributes, base_values, first, count) {
             return false;
         }
     }
@@ -100,11 +89,8 @@ fn asks_good(asks: &[AskFields], objects: &[ObjectFields]) -> bool
     ensures defined { result ≡ asks_good (asks_alone asks.now objects.now) }
 {
     let count = objects.len();
-    for i in 0usize..asks.len() {
-        let a = ask(asks, i);
-        let o = index(a.object);
-        let good = o < count;
-        if !good {
+    for i in 0..asks.len() {
+        if index(ask(asks, i).object) >= count {
             return false;
         }
     }

@@ -14,7 +14,9 @@ use columns::{
     TYPE_EFFECT_DEFAULT, TYPE_EFFECT_EFFECT, TYPE_EFFECT_TYPE, TypeEffectFields,
 };
 use numbers::integers::signed;
-use rules::{Ask, BaseAttribute, DbuffCollection, DogmaAttribute, DogmaEffect, Item, TypeDogmaEffect};
+use rules::{
+    Ask, BaseAttribute, DbuffCollection, DogmaAttribute, DogmaEffect, Item, TypeDogmaEffect,
+};
 
 // Record i of table 1.
 pub fn attribute(attributes: &[AttributeFields], defaults: &[f64], i: usize) -> DogmaAttribute

@@ -1,18 +1,10 @@
 -- `sheet_shape` meets its contract. Assumes nothing.
 use Rattle.lent.proofs.sheet_shape.Goals as goal
-use Rattle.lent.proofs.sheet_shape.Reads as reads
-use Rattle.lent.proofs.sheet_shape.Lts as lts
-use Rattle.lent.proofs.book.book_bad.Reads as book-bad-reads
-use Rattle.lent.proofs.book.book_fits.Reads as book-fits-reads
-use Rattle.lent.proofs.fit.fit_bad.Reads as fit-bad-reads
-use Rattle.lent.proofs.fit.fit_fits.Reads as fit-fits-reads
 use Rattle.std.proofs.lemmas.Result.{err_from_is_err_and}
-use Rattle.shape.proofs.Scans.{passed, failed}
-use mathlib.Core.Path.{◌≡◌, refl, sym, ◌∙◌}
-use mathlib.Core.List.{[], ◌∷◌}
-use lib.ListN.{length, get_or}
+use Rattle.shape.proofs.Scans.{passed}
+use mathlib.Core.Path.{◌∙◌}
+use mathlib.Core.List.{[]}
 use Rattle.tables.specs.Tables.{book_tables, fit_tables}
-use Rattle.tables.specs.Tables.{together, fit_fits}
 use Rattle.lent.proofs.Verdicts.{sheet_book_header, sheet_fit_header, sheet_book_bad, sheet_fit_judged, sheet_alike, sheet_few, fits_whole}
 
 pub returns-then-not-book_fits : goal.returns-then-not-book_fits

@@ -1,16 +1,9 @@
 -- `book::book_bad` meets its contract. Assumes nothing.
 use Rattle.lent.proofs.book.book_bad.Goals as goal
-use Rattle.lent.proofs.book.book_bad.Reads as reads
-use Rattle.lent.proofs.book.book_bad.Lts as lts
-use Rattle.lent.proofs.book.attributes_good.Reads as attributes-good-reads
-use Rattle.lent.proofs.book.buff_collections_good.Reads as buff-collections-good-reads
-use Rattle.lent.proofs.book.effects_good.Reads as effects-good-reads
-use Rattle.lent.proofs.book.type_effects_good.Reads as type-effects-good-reads
 use Rattle.shape.proofs.Scans.{passed, failed}
-use mathlib.Core.Path.{◌≡◌, refl, sym, ◌∙◌}
-use mathlib.Core.List.{[], ◌∷◌}
-use lib.ListN.{length, get_or}
-use Rattle.tables.specs.Tables.{book_tables, fit_tables}
+use mathlib.Core.Path.{◌∙◌}
+use mathlib.Core.List.{[]}
+use Rattle.tables.specs.Tables.{book_tables}
 use borrow.Author.Tests.{eqb-true}
 use Rattle.rules.specs.Shape.{book_bad}
 use Rattle.tables.proofs.SameVerdict.{few_book, like_book}

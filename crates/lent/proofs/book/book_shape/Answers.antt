@@ -1,14 +1,8 @@
 -- `book::book_shape` meets its contract. Assumes nothing.
 use Rattle.lent.proofs.book.book_shape.Goals as goal
-use Rattle.lent.proofs.book.book_shape.Reads as reads
-use Rattle.lent.proofs.book.book_shape.Lts as lts
-use Rattle.lent.proofs.book.book_bad.Reads as book-bad-reads
-use Rattle.lent.proofs.book.book_fits.Reads as book-fits-reads
-use Rattle.shape.proofs.Scans.{passed, failed}
-use mathlib.Core.Path.{◌≡◌, refl, sym, ◌∙◌}
-use mathlib.Core.List.{[], ◌∷◌}
-use lib.ListN.{length, get_or}
-use Rattle.tables.specs.Tables.{book_tables, fit_tables}
+use Rattle.shape.proofs.Scans.{passed}
+use mathlib.Core.List.{[]}
+use Rattle.tables.specs.Tables.{book_tables}
 use Rattle.lent.proofs.Verdicts.{book_header_bad, book_judged}
 
 pub returns-then-not-book_fits : goal.returns-then-not-book_fits

@@ -1,16 +1,9 @@
 -- `fit::fit_bad` meets its contract. Assumes nothing.
 use Rattle.lent.proofs.fit.fit_bad.Goals as goal
-use Rattle.lent.proofs.fit.fit_bad.Reads as reads
-use Rattle.lent.proofs.fit.fit_bad.Lts as lts
-use Rattle.lent.proofs.fit.all_finite.Reads as all-finite-reads
-use Rattle.lent.proofs.fit.asks_good.Reads as asks-good-reads
-use Rattle.lent.proofs.fit.bases_ascend.Reads as bases-ascend-reads
-use Rattle.lent.proofs.fit.objects_good.Reads as objects-good-reads
 use Rattle.shape.proofs.Scans.{passed, failed}
-use mathlib.Core.Path.{◌≡◌, refl, sym, ◌∙◌}
-use mathlib.Core.List.{[], ◌∷◌}
-use lib.ListN.{length, get_or}
-use Rattle.tables.specs.Tables.{book_tables, fit_tables}
+use mathlib.Core.Path.{sym, ◌∙◌}
+use mathlib.Core.List.{[]}
+use Rattle.tables.specs.Tables.{fit_tables}
 use borrow.Author.Tests.{eqb-true}
 use Rattle.laws.proofs.Bools.{and_left}
 use Rattle.rules.specs.Shape.{fit_bad}

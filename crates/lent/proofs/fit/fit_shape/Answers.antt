@@ -1,18 +1,11 @@
 -- `fit::fit_shape` meets its contract. Assumes nothing.
 use Rattle.lent.proofs.fit.fit_shape.Goals as goal
-use Rattle.lent.proofs.fit.fit_shape.Reads as reads
-use Rattle.lent.proofs.fit.fit_shape.Lts as lts
-use Rattle.lent.proofs.fit.fit_bad.Reads as fit-bad-reads
-use Rattle.lent.proofs.fit.fit_fits.Reads as fit-fits-reads
-use Rattle.shape.proofs.Scans.{passed, failed}
-use mathlib.Core.Path.{◌≡◌, refl, sym, ◌∙◌}
-use mathlib.Core.List.{[], ◌∷◌}
-use lib.ListN.{length, get_or}
-use Rattle.tables.specs.Tables.{book_tables, fit_tables}
+use mathlib.Core.Path.{◌≡◌, ◌∙◌}
+use Rattle.tables.specs.Tables.{fit_tables}
 use Rattle.std.proofs.Common.{arith, rules, ◌<◌, Err}
 use Rattle.std.proofs.iter.Serving.{serving}
 use Rattle.shape.specs.declared.BadTable.{BadTable}
-use Rattle.tables.specs.Tables.{fit_fits, fit_lent}
+use Rattle.tables.specs.Tables.{fit_lent}
 use Rattle.shape.proofs.Shapes.{fit_place}
 use Rattle.lent.proofs.Verdicts.{fit_header_bad, fit_judged, fit_alike_lem, fit_few, fits_numbers, bad_numbers}
 
