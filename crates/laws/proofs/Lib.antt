@@ -21,5 +21,4 @@ pub mod Nans
 pub mod Unique
 pub mod Ones
 pub mod Sizes
-pub mod SelfFinite
 pub mod Within
