@@ -11,7 +11,7 @@ use columns::{
 };
 
 // One column: zero from a place on; a place past the end changes nothing.
-fn zero_from<T: Copy>(column: &mut [T], zero: T, from: usize)
+pub fn zero_from<T: Copy>(column: &mut [T], zero: T, from: usize)
     ensures cleared { ClearedFrom column zero from }
 {
     for i in from..column.len() {

@@ -8,7 +8,7 @@ ghost use Rattle.settled.specs.Lines.{line_of};
 ghost use Rattle.listing.specs.Pieces.{Tells};
 ghost use Rattle.listing.specs.Put.{Added, Begins};
 ghost use Rattle.figures.specs.Figures.{longest_fields};
-ghost use Rattle.said.specs.Said.{says_of};
+ghost use Rattle.said.specs.Said.{says_of, SaidWithin};
 ghost use Rattle.text.specs.SheetText.{rooms};
 ghost use Rattle.checks.specs.Check.{checked, number_of, place_of};
 ghost use Rattle.compared.specs.CheckText.{place_text, listed_text, run_text, loop_text, bad_row, check_lent, verdict_text, check_text};
@@ -18,10 +18,10 @@ use checks::dogma_check;
 use columns::{AttributeRow, ENTRY_WIDTH, OBJECTS, ROW_ATTRIBUTE, ROW_OBJECT, SOURCE_WIDTH};
 use figures::{bits_of, put_fields};
 use given::lines::{LINE_ATTRIBUTE, LINE_HIGH, LINE_LOW, LINE_OBJECT, LineRow};
-use lines::{Read, figure_rows};
+use lines::{BadLine, figure_rows};
 use listing::{put_byte, put_text, put_u32, refusal};
 use numbers::integers::signed;
-use said::{Said, bad_line};
+use said::{RefusalLine, bad_line};
 use text::ROWS;
 
 // One line more than a run has rows: a listing that is too long is judged too.
@@ -230,26 +230,19 @@ fn verdict_line(out: &mut [u8], sheet: &[u8], listing: &[LineRow]) -> usize
 }
 
 // What the program says, at the front of a lent line.
-pub fn check_text(out: &mut [u8; LINE_BYTES], sheet: &[u8], text: &[u8]) -> Said
+pub fn check_text(out: &mut [u8; LINE_BYTES], sheet: &[u8], text: &[u8]) -> Result<usize, RefusalLine>
     requires short { length text.now ≤ 4294967295 }
     ensures says { says_of result out.new ≡ check_text sheet.now text.now }
-    ensures inside { result.end ≤ length out.new }
+    ensures inside { SaidWithin result (length out.new) }
 {
     let mut lines = [[0u32; 4]; LINES];
-    let read = figure_rows(&mut lines, text);
-    match read {
-        Read::Bad(i) => Said {
-            end: bad_line(
-                out,
-                b"listing, line ",
-                i as u32,
-                b": not an object, an attribute and 16 hexadecimal digits\n",
-            ),
-            good: false,
-        },
-        Read::Rows(n) => Said {
-            end: verdict_line(out, sheet, &lines[..n]),
-            good: true,
-        },
+    match figure_rows(&mut lines, text) {
+        Ok(n) => Ok(verdict_line(out, sheet, &lines[..n])),
+        Err(BadLine { line }) => Err(bad_line(
+            out,
+            b"listing, line ",
+            line as u32,
+            b": not an object, an attribute and 16 hexadecimal digits\n",
+        )),
     }
 }

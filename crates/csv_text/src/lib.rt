@@ -12,10 +12,11 @@ ghost use Rattle.csv_text.specs.Csv.{record_text, csv};
 ghost use Rattle.csv_text.specs.Labels.{label_bad, labels_of, fields_of, records, export_of};
 ghost use Rattle.csv_text.specs.Puts.{AddedOr, BeginsOr, Gives};
 
+use clear::zero_from;
 use columns::{ATTRIBUTE_SLOTS, AttributePlaces, AttributeRow, ROW_ATTRIBUTE, ROW_OBJECT};
 use fields::put_record;
 use labels::{LabelRow, Table, bad_label, part_at, tell};
-use listing::{put_text, zero_bytes};
+use listing::put_text;
 use numbers::integers::signed;
 
 // Room for the longest record: 10 + 11 + 130 + 16 bytes, three commas, CR and LF.
@@ -135,7 +136,7 @@ fn refused(text: &mut [u8], number: u64, place: u64) -> Told
     ensures answer { result ≡ record { number = number; place = place; length = 0 } }
     ensures zeros { text.new ≡ replicate (length text.old) 0 }
 {
-    zero_bytes(text, 0);
+    zero_from(text, 0, 0);
     Told {
         number,
         place,
@@ -148,7 +149,7 @@ fn done(text: &mut [u8], end: usize) -> Told
     ensures answer { result ≡ record { number = 0; place = 0; length = end } }
     ensures cleared { ClearedFrom text 0 end }
 {
-    zero_bytes(text, end);
+    zero_from(text, 0, end);
     Told {
         number: 0,
         place: 0,

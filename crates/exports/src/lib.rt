@@ -5,16 +5,16 @@ ghost use Rattle.std.specs.Prelude.{◌≡◌, ◌≤◌, length};
 ghost use Rattle.rules.specs.Outcome.{outcome};
 ghost use Rattle.csv_text.specs.Labels.{export_of};
 ghost use Rattle.csv_text.specs.Puts.{Gives};
-ghost use Rattle.said.specs.Said.{says_of};
+ghost use Rattle.said.specs.Said.{says_of, SaidWithin};
 ghost use Rattle.text.specs.SheetText.{rooms};
 ghost use Rattle.exports.specs.ExportText.{export_says, export_text};
 
 use columns::{ENTRY_WIDTH, OBJECTS, SOURCE_WIDTH};
 use csv_text::Told;
 use csv_text::labels::{LABEL_WIDTH, LabelRow};
-use lines::{Read, label_rows};
+use lines::{BadLine, label_rows};
 use listing::refusal;
-use said::{Said, bad_line};
+use said::{RefusalLine, bad_line};
 use spreadsheet::dogma_export;
 use text::ROWS;
 
@@ -77,57 +77,45 @@ fn said_export(
     sheet: &[u8],
     labels: &[LabelRow],
     label_bytes: &[u8],
-) -> Said
+) -> Result<usize, RefusalLine>
     requires few { length labels.now ≤ 4096 }
     ensures says { let o = outcome sheet.now rooms in
         says_of result text.new ≡ export_says (export_of o labels.now label_bytes.now (length text.old)) }
-    ensures inside { result.end ≤ length text.new }
+    ensures inside { SaidWithin result (length text.new) }
 {
     let told = exported_text(text, sheet, labels, label_bytes);
     let number = told.number;
     let place = told.place;
     if number == 0 {
-        return Said {
-            end: told.length as usize,
-            good: true,
-        };
+        return Ok(told.length as usize);
     }
     if number == LABEL {
-        let line = (place + 1) as u32;
-        return Said {
-            end: bad_line(
-                text,
-                b"labels, line ",
-                line,
-                b": over 64 bytes, a byte that is not printable, or an id that does not ascend\n",
-            ),
-            good: false,
-        };
+        return Err(bad_line(
+            text,
+            b"labels, line ",
+            (place + 1) as u32,
+            b": over 64 bytes, a byte that is not printable, or an id that does not ascend\n",
+        ));
     }
-    Said {
+    Err(RefusalLine {
         end: refusal(text, number, place),
-        good: false,
-    }
+    })
 }
 
 // What the program says, at the front of a lent text.
-pub fn export_text(text: &mut [u8; TEXT_BYTES], sheet: &[u8], labels: &[u8]) -> Said
+pub fn export_text(text: &mut [u8; TEXT_BYTES], sheet: &[u8], labels: &[u8]) -> Result<usize, RefusalLine>
     requires short { length labels.now ≤ 4294967295 }
     ensures says { says_of result text.new ≡ export_text (length text.old) sheet.now labels.now }
-    ensures inside { result.end ≤ length text.new }
+    ensures inside { SaidWithin result (length text.new) }
 {
     let mut rows = [[0u32; LABEL_WIDTH]; LABELS];
-    let read = label_rows(&mut rows, labels);
-    match read {
-        Read::Bad(i) => Said {
-            end: bad_line(
-                text,
-                b"labels, line ",
-                i as u32,
-                b": not an id, a space and a label\n",
-            ),
-            good: false,
-        },
-        Read::Rows(n) => said_export(text, sheet, &rows[..n], labels),
+    match label_rows(&mut rows, labels) {
+        Ok(n) => said_export(text, sheet, &rows[..n], labels),
+        Err(BadLine { line }) => Err(bad_line(
+            text,
+            b"labels, line ",
+            line as u32,
+            b": not an id, a space and a label\n",
+        )),
     }
 }

@@ -9,7 +9,6 @@ ghost use Rattle.rules.specs.Answer as answer;
 ghost use Rattle.rules.specs.Answer.{Res, ok, refused};
 ghost use Rattle.rules.specs.Outcome.{Done};
 ghost use Rattle.rules.specs.Dispatch.{Row};
-ghost use Rattle.clear.specs.Ends.{ClearedFrom};
 ghost use Rattle.listing.specs.Put.{Added, Begins};
 ghost use Rattle.rules.specs.declared.Refusal.{Refusal};
 ghost use Rattle.rules.specs.Answer.{Refused};
@@ -126,23 +125,9 @@ pub fn put_text(out: &mut [u8], at: usize, text: &[u8]) -> usize
     ensures added { Added out at result text.now }
     ensures next { result ≡ at + length text.now }
 {
-    let mut i = 0;
-    while i < text.len() {
-        let x = text[i];
-        out[at + i] = x;
-        i += 1;
-    }
-    at + i
-}
-
-// Zeros from a place on.
-pub fn zero_bytes(bytes: &mut [u8], from: usize)
-    ensures cleared { ClearedFrom bytes 0 from }
-{
-    let n = bytes.len();
-    for i in from..n {
-        bytes[i] = 0;
-    }
+    let end = at + text.len();
+    out[at..end].copy_from_slice(text);
+    end
 }
 
 // The first line of a listing of so many rows.

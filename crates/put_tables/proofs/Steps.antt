@@ -48,19 +48,6 @@ float_low x = low (to_bits binary64 x)
         let seven : n / 256 ^ 7 ≡ n / 2 ^ 32 / 256 / 256 / 256 = omega arith in
         rw (zero, one, two, three, five, six, seven) refl
 
--- bytes copied into a stretch are put there
-pub copied : {xs ys : List ℕ} (at k : ℕ) (out : List ℕ) → ys ≡ xs → length xs ≡ k → at + k ≤ length out
-    → put (at + k) (put_mid at (at + k - at) out ys) ≡ puts xs (put at out)
-copied {xs} {ys} at k out e l h = rw (into, ← l) (sym (puts-sets xs at out))
-  where
-    here : at + k ≡ at + length xs
-    here = ap (λ (n : ℕ). at + n) (sym l)
-
-    into : put_mid at (at + k - at) out ys ≡ sets out at xs
-    into =
-        rw (e, Post-is at (at + k) out (omega arith), here)
-        (sym (sets-eq xs out at (omega (arith, h, l)) ∙ append_assoc (take at out) xs (drop (at + length xs) out)))
-
 pub words_append : (r s : List ℕ) → words (r ++ s) ≡ words r ++ words s
 words_append [] s = refl
 words_append (x ∷ r) s = ap (λ (l : List ℕ). word x ++ l) (words_append r s) ∙ sym (append_assoc (word x) (words r) (words s))

@@ -8,6 +8,7 @@ ghost use Rattle.tables.specs.Tables.{together, tables_bad, book_tables_bad, fit
 ghost use Rattle.tables.specs.At.{book_now, book_at, fit_now, fit_at};
 ghost use Rattle.write.specs.Given.{Gives};
 
+use clear::zero_from;
 use columns::{
     AskFields, AttributeFields, BookNumbers, BuffCollectionFields, EffectFields, FitNumbers,
     ModifierFields, ObjectFields, SheetNumbers, TypeEffectFields,
@@ -15,7 +16,6 @@ use columns::{
 use lent::book::book_shape;
 use lent::fit::fit_shape;
 use lent::sheet_shape;
-use listing::zero_bytes;
 use put_tables::pairs::{book_length, fit_length};
 use put_tables::{put_book_file, put_fit_file, put_sheet};
 
@@ -40,7 +40,7 @@ fn refused(bytes: &mut [u8], number: u64, place: u64) -> Written
     ensures answer { result ≡ record { number = number; place = place; length = 0 } }
     ensures zeros { bytes.new ≡ replicate (length bytes.old) 0 }
 {
-    zero_bytes(bytes, 0);
+    zero_from(bytes, 0, 0);
     Written {
         number,
         place,
@@ -53,7 +53,7 @@ fn done(bytes: &mut [u8], end: usize) -> Written
     ensures answer { result ≡ record { number = 0; place = 0; length = end } }
     ensures cleared { ClearedFrom bytes 0 end }
 {
-    zero_bytes(bytes, end);
+    zero_from(bytes, 0, end);
     Written {
         number: 0,
         place: 0,

@@ -1,11 +1,6 @@
 -- `listing::put_hundredths` meets its contract. Assumes nothing.
 use Rattle.rules.specs.Number.{rounded}
 use Rattle.listing.proofs.put_hundredths.Goals as goal
-use Rattle.listing.proofs.put_hundredths.Reads as reads
-use Rattle.listing.proofs.put_hundredths.Lts as lts
-use Rattle.listing.proofs.put_byte.Reads as put-byte-reads
-use Rattle.listing.proofs.put_rounded.Reads as put-rounded-reads
-use Rattle.listing.proofs.put_minus.Reads as put-minus-reads
 use mathlib.Core.Bool.{false}
 use mathlib.Core.List.{[]}
 use Rattle.rules.specs.Listing.{minus_if, decimals}

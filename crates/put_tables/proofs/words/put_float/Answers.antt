@@ -1,7 +1,8 @@
 -- `words::put_float` meets its contract. Assumes nothing.
 use Rattle.std.proofs.Common.{refl, ◌∙◌}
 use Rattle.tables.proofs.Numbers.{float-length}
-use Rattle.put_tables.proofs.Steps.{number-bits, float_low, copied}
+use Rattle.put_tables.proofs.Steps.{number-bits, float_low}
+use Rattle.listing.proofs.Puts.{copied}
 use Rattle.put_tables.proofs.words.put_float.Goals as goal
 
 pub float_to_bits-x : goal.float_to_bits-x

@@ -1,7 +1,8 @@
 -- `words::put_word` meets its contract. Assumes nothing.
 use Rattle.std.proofs.Common.{refl, ◌∙◌}
 use Rattle.tables.proofs.Numbers.{word-length}
-use Rattle.put_tables.proofs.Steps.{word_low, copied}
+use Rattle.put_tables.proofs.Steps.{word_low}
+use Rattle.listing.proofs.Puts.{copied}
 use Rattle.put_tables.proofs.words.put_word.Goals as goal
 
 pub returns : goal.returns
