@@ -67,7 +67,7 @@ pub fn reach_of(book: &[u8], fit: &[u8], pairs: &TablePairs, i: usize) -> ReachR
 }
 
 // No skill: above every 32 bits.
-const NO_SKILL: u64 = 4294967296;
+pub const NO_SKILL: u64 = 4294967296;
 
 // The place in a row of the skill that an attribute names: past it for any other attribute.
 fn slot_of(id: i32) -> usize

@@ -36,22 +36,23 @@ pub fn head_of(width: usize, m: usize) -> usize
     6 * width + m * (width + 1)
 }
 
-// The map of a key, by its number plus 1; 0 where none has it.
-pub fn find(words: &[u64], heads: &[u32], width: usize, key: u64) -> usize
+// The map of a key, by its number.
+pub fn find(words: &[u64], heads: &[u32], width: usize, key: u64) -> Option<usize>
     requires maps { Holding width words.now heads.now }
     ensures found { (location has : ℕ → ℕ → Bool) (ks : List ℕ) → Mapped width location has ks words.now heads.now → Found ks key result }
 {
     let slot = (key % 1024) as usize;
     let last = heads[slot];
     let mut m = last as usize;
+    // a while: from a map to the one before it of the same residue, by their numbers plus 1, as the heads have them
     while m != 0 {
         let head = words[head_of(width, m - 1)];
         if head % KEYS == key {
-            return m;
+            return Some(m - 1);
         }
         m = (head / KEYS) as usize;
     }
-    0
+    None
 }
 
 // Two stretches of so many words: what a location lets in, and what passes a test.
@@ -86,17 +87,14 @@ pub fn clear_map(words: &mut [u64], at: usize, n: usize)
     requires inside { at + n ≤ length words.old }
     ensures cleared { Zeroed at n words.old words.new }
 {
-    for k in 0..n {
-        words[at + k] = 0;
-    }
+    words[at..at + n].fill(0);
 }
 
 // All words are zero.
 pub fn clear_words(words: &mut [u64])
     ensures cleared { words.new ≡ replicate (length words.old) 0 }
 {
-    let n = words.len();
-    clear_map(words, 0, n);
+    words.fill(0);
 }
 
 pub mod build;

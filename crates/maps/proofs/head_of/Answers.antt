@@ -1,7 +1,5 @@
 -- `head_of` meets its contract.
 use Rattle.maps.proofs.head_of.Goals as goal
-use Rattle.maps.proofs.head_of.Reads as reads
-use Rattle.maps.proofs.head_of.Lts as lts
 use Prim.Native.Nat.{◌+◌}
 use native.Mathlib.Omega.{arith}
 use native.Mathlib.Nat.{mul-le-mul}

@@ -1,13 +1,6 @@
 -- `build::mark_object` meets its contract.
 use Rattle.maps.proofs.build.mark_object.Goals as goal
-use Rattle.maps.proofs.build.mark_object.Reads as reads
-use Rattle.maps.proofs.build.mark_object.Lts as lts
-use Rattle.hits.proofs.reach.reach_of.Reads as reach-of-reads
-use Rattle.maps.proofs.build.keys_of.Reads as keys-of-reads
-use Rattle.maps.proofs.build.mark_columns.Reads as mark-columns-reads
-use Rattle.maps.proofs.build.mark_keys.Reads as mark-keys-reads
 use native.Mathlib.Omega.{arith}
-use mathlib.Core.Path.{refl}
 use lib.ListN.{length}
 use Rattle.rules.specs.Item.{object}
 use Rattle.rules.specs.Sheet.{book_of, fit_of}
