@@ -93,15 +93,10 @@ fn lay(keys: &mut Keys, lines: &[RuleLine], first: usize) -> usize
     ensures laid { Laid (map line_of lines.now) first result keys.new }
     ensures some { 0 < result }
 {
-    let mut n = 0;
-    while first + n < lines.len() {
-        if n == BLOCK_LINES {
-            return n;
-        }
-        let line = lines[first + n];
-        let id = signed(line[RULE_ID]);
-        keys[n] = line_key(line[RULE_KIND], id);
-        n += 1;
+    let n = BLOCK_LINES.min(lines.len() - first);
+    for i in 0..n {
+        let line = lines[first + i];
+        keys[i] = line_key(line[RULE_KIND], signed(line[RULE_ID]));
     }
     n
 }
