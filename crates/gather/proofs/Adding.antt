@@ -22,13 +22,15 @@ use Rattle.rules.specs.declared.Refusal.{Refusal}
 use Rattle.rules.specs.declared.Refusal.TheVariants.{Number}
 use Rattle.rules.specs.declared.Source.{Source}
 use Rattle.operate.specs.Held as bucket
+use Rattle.operate.specs.declared.Running.{Running}
+use Rattle.operate.specs.declared.buckets.Bucket.{Bucket}
 use Rattle.operate.specs.SoFar.{RunningOf, copies_from, with_copies}
 use Rattle.operate.proofs.Snocs.{kept, step_good, bind_good}
-use Rattle.sources.specs.declared.Noted.TheVariants.{At, Refused}
+use Rattle.sources.specs.declared.SourceCounts.{SourceCounts}
+use Rattle.std.specs.Prelude.{Ok, Err}
 use Rattle.sources.specs.Keeping.{NotedAs, notes, penalised_notes}
 use Rattle.sources.proofs.Copying.{went, ended}
 use Rattle.gather.specs.declared.Pile.{Pile}
-use Rattle.gather.specs.declared.Stop.TheVariants.{No, Because}
 use Rattle.gather.specs.Piles.{PileOf, PiledAs, entered, entered_count}
 use Rattle.gather.proofs.Copies.{copies_split}
 
@@ -68,41 +70,37 @@ module _ (w : World) (counts : List ℕ) (s₀ : List (List ℕ)) (f₀ : List (
 
   module _ (e : Effect) (v x : Float) where
     -- its source rows were refused
-    pub penalised_stops : (y : Refusal) (r : Pile) → NotedAs counts w.room s₀ f₀ i (penalised_notes w i row e v g.mem) (Refused y) s' f' → r.stop ≡ Because y
-        → PiledAs counts w.room s₀ f₀ i high op found (penalised w i row e v x g) r s' f'
-    penalised_stops y r n q = rw (penalised_split w i row e v x g inside, ended counts w.room s₀ f₀ i s' f' (penalised_notes w i row e v g.mem) n) q
+    pub penalised_stops : (y : Refusal) → NotedAs counts w.room s₀ f₀ i (penalised_notes w i row e v g.mem) (Err y) s' f'
+        → PiledAs counts w.room s₀ f₀ i high op found (penalised w i row e v x g) (Err y) s' f'
+    penalised_stops y n = rw (penalised_split w i row e v x g inside, ended counts w.room s₀ f₀ i s' f' (penalised_notes w i row e v g.mem) n) refl
 
-    pub penalised_goes : (own used : ℕ) (r q : Pile) → NotedAs counts w.room s₀ f₀ i (penalised_notes w i row e v g.mem) (At own used) s' f'
-        → p.stop ≡ No → q.stop ≡ p.stop → q.running ≡ p.running
-        → bucket.Gathered (with_copies (lt x zero_f) (copies_from x p.own (yes1 w.recording) (min e.quantity 8)) g.values).positive q.positive
-        → bucket.Gathered (with_copies (lt x zero_f) (copies_from x p.own (yes1 w.recording) (min e.quantity 8)) g.values).negative q.negative
-        → r.own ≡ own → r.used ≡ used → r.stop ≡ q.stop → r.running ≡ q.running → r.positive ≡ q.positive → r.negative ≡ q.negative
-        → PiledAs counts w.room s₀ f₀ i high op found (penalised w i row e v x g) r s' f'
-    penalised_goes own used r q n a b c d m o₁ u₁ t₁ r₁ p₁ n₁ =
+    pub penalised_goes : (now : SourceCounts) (q : Pile) → NotedAs counts w.room s₀ f₀ i (penalised_notes w i row e v g.mem) (Ok now) s' f' → q.running ≡ p.running
+        → bucket.Gathered (with_copies (lt x zero_f) (copies_from x p.counts.own (yes1 w.recording) (min e.quantity 8)) g.values).positive q.positive
+        → bucket.Gathered (with_copies (lt x zero_f) (copies_from x p.counts.own (yes1 w.recording) (min e.quantity 8)) g.values).negative q.negative
+        → PiledAs counts w.room s₀ f₀ i high op found (penalised w i row e v x g) (Ok (record { running = q.running; positive = q.positive; negative = q.negative; counts = now })) s' f'
+    penalised_goes now q n c d m =
         let t = went counts w.room s₀ f₀ i s' f' (penalised_notes w i row e v g.mem) n in
         rw (penalised_split w i row e v x g inside, t.is) (
-          t₁ ∙ b ∙ a,
           record {
-            keeping = rw (o₁, u₁) t.keeping;
-            running = rw (r₁, c, same_plain (lt x zero_f) (copies_from x (length (own_sources i g.mem)) (yes1 w.recording) (min e.quantity 8)) g.values) k.running;
-            positive = rw (p₁, sym k.keeping.mine) d;
-            negative = rw (n₁, sym k.keeping.mine) m;
-          },
+            keeping = t.keeping;
+            running = rw (c, same_plain (lt x zero_f) (copies_from x (length (own_sources i g.mem)) (yes1 w.recording) (min e.quantity 8)) g.values) k.running;
+            positive = rw (sym k.keeping.mine) d;
+            negative = rw (sym k.keeping.mine) m;
+          }
         )
 
   -- a source row, and values that the pile then holds
   module _ (r : Source) (vs : Values) where
-    pub note_stops : (y : Refusal) (q : Pile) → NotedAs counts w.room s₀ f₀ i (note w i row r g.mem) (Refused y) s' f' → q.stop ≡ Because y
-        → PiledAs counts w.room s₀ f₀ i high op found (note w i row r g.mem >>= λ m. ok (record { mem = m; values = vs })) q s' f'
-    note_stops y q n e = rw (ended counts w.room s₀ f₀ i s' f' (note w i row r g.mem) n) e
+    pub note_stops : (y : Refusal) → NotedAs counts w.room s₀ f₀ i (note w i row r g.mem) (Err y) s' f'
+        → PiledAs counts w.room s₀ f₀ i high op found (note w i row r g.mem >>= λ m. ok (record { mem = m; values = vs })) (Err y) s' f'
+    note_stops y n = rw (ended counts w.room s₀ f₀ i s' f' (note w i row r g.mem) n) refl
 
-    pub note_goes : (own used : ℕ) (q : Pile) → NotedAs counts w.room s₀ f₀ i (note w i row r g.mem) (At own used) s' f'
-        → q.stop ≡ No → q.own ≡ own → q.used ≡ used
-        → RunningOf high op found vs.unpenalized q.running → bucket.Gathered vs.positive q.positive → bucket.Gathered vs.negative q.negative
-        → PiledAs counts w.room s₀ f₀ i high op found (note w i row r g.mem >>= λ m. ok (record { mem = m; values = vs })) q s' f'
-    note_goes own used q n a b c d e f =
+    pub note_goes : (now : SourceCounts) (u : Running) (a b : Bucket) → NotedAs counts w.room s₀ f₀ i (note w i row r g.mem) (Ok now) s' f'
+        → RunningOf high op found vs.unpenalized u → bucket.Gathered vs.positive a → bucket.Gathered vs.negative b
+        → PiledAs counts w.room s₀ f₀ i high op found (note w i row r g.mem >>= λ m. ok (record { mem = m; values = vs })) (Ok (record { running = u; positive = a; negative = b; counts = now })) s' f'
+    note_goes now u a b n d e f =
         let t = went counts w.room s₀ f₀ i s' f' (note w i row r g.mem) n in
-        rw t.is (a, record { keeping = rw (b, c) t.keeping; running = d; positive = e; negative = f })
+        rw t.is (record { keeping = t.keeping; running = d; positive = e; negative = f })
 
 -- with a value of any quantity the copies stay
 pub stack_positive : (x : Float) (q : ℕ) (g : Values) → (with_stack x q g).positive ≡ g.positive
