@@ -81,12 +81,12 @@ module _ (w : World) (counts : List ℕ) (s₀ : List (List ℕ)) (f₀ : List (
     penalised_goes now q n c d m =
         let t = went counts w.room s₀ f₀ i s' f' (penalised_notes w i row e v g.mem) n in
         rw (penalised_split w i row e v x g inside, t.is) (
-          record {
-            keeping = t.keeping;
-            running = rw (c, same_plain (lt x zero_f) (copies_from x (length (own_sources i g.mem)) (yes1 w.recording) (min e.quantity 8)) g.values) k.running;
-            positive = rw (sym k.keeping.mine) d;
-            negative = rw (sym k.keeping.mine) m;
-          }
+        record {
+          keeping = t.keeping;
+          running = rw (c, same_plain (lt x zero_f) (copies_from x (length (own_sources i g.mem)) (yes1 w.recording) (min e.quantity 8)) g.values) k.running;
+          positive = rw (sym k.keeping.mine) d;
+          negative = rw (sym k.keeping.mine) m;
+        }
         )
 
   -- a source row, and values that the pile then holds

@@ -88,10 +88,26 @@ fn with_copies(
     let own = p.counts.own;
     let step = flag(recording);
     if less(x, 0.0) {
-        let negative = put_copies(negatives, negative_sources, p.negative, x, own, step, copies);
+        let negative = put_copies(
+            negatives,
+            negative_sources,
+            p.negative,
+            x,
+            own,
+            step,
+            copies,
+        );
         return Growing { negative, ..p };
     }
-    let positive = put_copies(positives, positive_sources, p.positive, x, own, step, copies);
+    let positive = put_copies(
+        positives,
+        positive_sources,
+        p.positive,
+        x,
+        own,
+        step,
+        copies,
+    );
     Growing { positive, ..p }
 }
 

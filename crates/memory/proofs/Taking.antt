@@ -182,20 +182,21 @@ module _ {t : Tables} {run : Recording} {v : List Float} {s : List (List ℕ)} {
           pub entry-number : T (finite y)
           entry-number = q.number
 
-          pub entry_pile : (r : Pile) → r.counts.own ≡ p.counts.own → r.counts.used ≡ more → r.running ≡ p.running → r.positive ≡ p.positive → r.negative ≡ p.negative → PileOf (counts_of w) w.room s₀ f₀ i high op h.found after r s' f'
-          entry_pile r own used a b c =
+          -- the pile with so many source rows of all rows
+          pub entry_pile : PileOf (counts_of w) w.room s₀ f₀ i high op h.found after (record { running = p.running; positive = p.positive; negative = p.negative; counts = record { own = p.counts.own; used = more } }) s' f'
+          entry_pile =
               record {
-                keeping = rw (own ∙ h.piled.keeping.mine ∙ sym (ap length own_same), used) (q.holds.sources i);
-                running = rw a h.piled.running;
-                positive = rw b h.piled.positive;
-                negative = rw c h.piled.negative;
+                keeping = subst (λ (n : ℕ). Keeping (counts_of w) w.room s₀ f₀ i q.read.mem s' f' n more) (ap length own_same ∙ sym h.piled.keeping.mine) (q.holds.sources i);
+                running = h.piled.running;
+                positive = h.piled.positive;
+                negative = h.piled.negative;
               }
 
-          pub entry-lengths : (r : Pile) → r.counts.own ≡ p.counts.own → r.counts.used ≡ more → (run.room ≤ length s') × (run.room ≤ length f') × (r.counts.own ≤ r.counts.used)
-          entry-lengths r own used = (
+          pub entry-lengths : (run.room ≤ length s') × (run.room ≤ length f') × (p.counts.own ≤ more)
+          entry-lengths = (
             omega (arith, sources_long q.holds h.ready.told.roomy.0, h.ready.told.recorded.room),
             omega (arith, floats_long q.holds h.ready.told.roomy.1, h.ready.told.recorded.room),
-            omega (arith, own, used, h.piled.keeping.mine, ap length own_same, (q.holds.sources i).few i, (q.holds.sources i).all),
+            omega (arith, h.piled.keeping.mine, ap length own_same, (q.holds.sources i).few i, (q.holds.sources i).all),
           )
 
           pub entry_room : w.recording ≡ true → length (own_sources i after.mem) + entered_count runs x ≤ get_or (counts_of w) i 0

@@ -373,7 +373,10 @@ fn operated(
 fn is_assign(operator: EffectOperator) -> bool
     ensures defined { result ≡ is_assign operator }
 {
-    matches!(operator, EffectOperator::PreAssign | EffectOperator::PostAssign)
+    matches!(
+        operator,
+        EffectOperator::PreAssign | EffectOperator::PostAssign
+    )
 }
 
 // Whether high is good of an attribute; only an operator that assigns asks its record.

@@ -23,14 +23,7 @@ use reading::turns::{turns_of, walked};
 use rules::Refusal;
 use sources::Recording;
 
-// How many source rows there are, or the refusal.
-#[derive(Clone, Copy)]
-pub enum Valued {
-    At(u32),
-    Refused(Refusal),
-}
-
-// The asks, in their order.
+// The asks, in their order: how many source rows there are then.
 fn asks(
     values: &mut [f64],
     sources: &mut [SourceRow],
@@ -46,7 +39,7 @@ fn asks(
     entry_values: &[f64],
     run: Recording,
     fit: &[u8],
-) -> Valued
+) -> Result<u32, Refusal>
     requires holding { let t = lent book pairs states stretches limits rows bases entries entry_values in
         ReadyNow t values sources floats run 0 }
     requires sound { SoundFit fit.now pairs.now }
@@ -59,8 +52,6 @@ fn asks(
     let mut used: u32 = 0;
     for i in 0..n {
         let a = ask(fit, pairs, i);
-        let object = a.object;
-        let attribute = a.attribute_id;
         let got = calculated_value(
             values,
             sources,
@@ -75,17 +66,14 @@ fn asks(
             entries,
             entry_values,
             run,
-            object,
-            attribute,
+            a.object,
+            a.attribute_id,
             depth,
             used,
-        );
-        match got {
-            Got::Value(_, u) => used = u,
-            Got::Refused(y) => return Valued::Refused(y),
-        }
+        )?;
+        used = got.used;
     }
-    Valued::At(used)
+    Ok(used)
 }
 
 // Whether a row's value is its base: it has no entries, its attribute has no limit, and depth is left.
@@ -123,7 +111,7 @@ fn walk_row(
     row: usize,
     left: u32,
     used: u32,
-) -> Got
+) -> Result<Got, Refusal>
     requires holding { let t = lent book pairs states stretches limits rows bases entries entry_values in
         ReadyNow t values sources floats run used }
     requires within { row < length rows.now }
@@ -132,13 +120,12 @@ fn walk_row(
 {
     let v = values[row];
     if v == v {
-        return Got::Value(v, used);
+        return Ok(Got { value: v, used });
     }
-    let plain = untouched(rows, limits, row, left);
-    if plain {
+    if untouched(rows, limits, row, left) {
         let base = bases[row];
         values[row] = base;
-        return Got::Value(base, used);
+        return Ok(Got { value: base, used });
     }
     calculate_value(
         values,
@@ -177,7 +164,7 @@ fn walk(
     run: Recording,
     fit: &[u8],
     before: u32,
-) -> Valued
+) -> Result<u32, Refusal>
     requires holding { let t = lent book pairs states stretches limits rows bases entries entry_values in
         WalkableNow t values sources floats run before fit }
     requires sound { SoundFit fit.now pairs.now }
@@ -208,13 +195,10 @@ fn walk(
             row,
             depth,
             used,
-        );
-        match got {
-            Got::Value(_, u) => used = u,
-            Got::Refused(y) => return Valued::Refused(y),
-        }
+        )?;
+        used = got.used;
     }
-    Valued::At(used)
+    Ok(used)
 }
 
 // The value of every row: the asks, then the walk.
@@ -233,7 +217,7 @@ pub fn calculate_values(
     entry_values: &[f64],
     run: Recording,
     fit: &[u8],
-) -> Valued
+) -> Result<u32, Refusal>
     requires holding { let t = lent book pairs states stretches limits rows bases entries entry_values in
         WalkableNow t values sources floats run 0 fit }
     requires sound { SoundFit fit.now pairs.now }
@@ -241,7 +225,7 @@ pub fn calculate_values(
         let f = fit_of fit.now pairs.now in
         WalkGives t values sources floats run 0 fit result (λ w. valued w f.depth (starts_of f w.rows)) }
 {
-    let asked = asks(
+    let used = asks(
         values,
         sources,
         floats,
@@ -256,25 +240,22 @@ pub fn calculate_values(
         entry_values,
         run,
         fit,
-    );
-    match asked {
-        Valued::At(used) => walk(
-            values,
-            sources,
-            floats,
-            book,
-            pairs,
-            states,
-            stretches,
-            limits,
-            rows,
-            bases,
-            entries,
-            entry_values,
-            run,
-            fit,
-            used,
-        ),
-        Valued::Refused(y) => Valued::Refused(y),
-    }
+    )?;
+    walk(
+        values,
+        sources,
+        floats,
+        book,
+        pairs,
+        states,
+        stretches,
+        limits,
+        rows,
+        bases,
+        entries,
+        entry_values,
+        run,
+        fit,
+        used,
+    )
 }

@@ -12,9 +12,14 @@ pub note-requires : goal.note-requires
 note-requires c = record { roomy = (omega (arith, c.requires.roomy, c.loop-n.invariant.1), omega (arith, c.requires.roomy, c.loop-n.invariant.2), omega (arith, c.requires.roomy, c.loop-n.invariant.0)) }
 
 pub loop-n-preserved : goal.loop-n-preserved
-loop-n-preserved c = ((more_on c.args.run.recording _ _ _ 1 c.loop-n.invariant.0.0 c.in_ok-now.ensures.advanced.0, more_on c.args.run.recording _ _ _ 1 c.loop-n.invariant.0.1 c.in_ok-now.ensures.advanced.1, omega (arith, c.loop-n-test.true)), c.note.auto.sources ∙ c.loop-n.invariant.1, c.note.auto.floats ∙ c.loop-n.invariant.2, λ w counts s₀ f₀ i row m t b k fit.
-    let q = c.loop-n.invariant.3 w counts s₀ f₀ i row m t b k fit in
-    again w counts s₀ f₀ i row _ _ m q _ _ c.loop-n-test.true (omega (arith, c.in_ok-now.ensures.advanced.0, more_few c.args.run.recording 1)) (c.in_ok-now.ensures.defined w counts s₀ f₀ i row q.mem t b q.keeping (free w counts s₀ f₀ i row _ _ m q c.loop-n-test.true)))
+loop-n-preserved c = (
+  (more_on c.args.run.recording _ _ _ 1 c.loop-n.invariant.0.0 c.in_ok-now.ensures.advanced.0, more_on c.args.run.recording _ _ _ 1 c.loop-n.invariant.0.1 c.in_ok-now.ensures.advanced.1, omega (arith, c.loop-n-test.true)),
+  c.note.auto.sources ∙ c.loop-n.invariant.1,
+  c.note.auto.floats ∙ c.loop-n.invariant.2,
+  λ w counts s₀ f₀ i row m t b k fit.
+      let q = c.loop-n.invariant.3 w counts s₀ f₀ i row m t b k fit in
+      again w counts s₀ f₀ i row _ _ m q _ _ c.loop-n-test.true (omega (arith, c.in_ok-now.ensures.advanced.0, more_few c.args.run.recording 1)) (c.in_ok-now.ensures.defined w counts s₀ f₀ i row q.mem t b q.keeping (free w counts s₀ f₀ i row _ _ m q c.loop-n-test.true)),
+)
 
 pub shape_of-sources-in_err-now : goal.shape_of-sources-in_err-now
 shape_of-sources-in_err-now c = c.note.auto.sources ∙ c.loop-n.invariant.1
