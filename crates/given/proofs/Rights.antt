@@ -1,4 +1,5 @@
 -- Whether a listed value is right, by its parts; and the first that is not.
+use Rattle.std.specs.Prelude.{Ok, Err}
 use Prim.Native.Nat.{ℕ, suc, ◌+◌, ◌≤◌, ◌<◌}
 use native.Mathlib.Numerals.{add-one}
 use native.Mathlib.Omega.{arith}
@@ -25,7 +26,6 @@ use Rattle.memory.specs.Holding.{Tables}
 use Rattle.memory.specs.Memory.{value_column}
 use Rattle.memory.specs.Steps.{row_at}
 use Rattle.memory.specs.declared.apply.Got.{Got}
-use Rattle.memory.specs.declared.apply.Got.TheVariants as got
 use Rattle.memory.proofs.Nanned.{valued, unvalued}
 use Rattle.settled.specs.Given.{idles, where_recorded, given}
 use Rattle.settled.specs.Lines.{same_float, is_given, first_wrong}
@@ -46,7 +46,7 @@ bits_same x y f g =
     (λ e. float_same x y (sym (of_bits-to_bits binary64 x (subst T (sym f) tt)) ∙ ap (of_bits binary64) (eqb-true (to_bits binary64 x) (to_bits binary64 y) e) ∙ of_bits-to_bits binary64 y (subst T (sym g) tt)))
     (λ e. eq-eqb (to_bits binary64 x) (to_bits binary64 y) (ap (to_bits binary64) (same_float_lem x y e)))
 
-pub got_number : (x : Res Read) (y : Float) (used : ℕ) → GotIs x (got.Value y used) → T (finite y)
+pub got_number : (x : Res Read) (y : Float) (used : ℕ) → GotIs x (Ok (record { value = y; used = used })) → T (finite y)
 got_number (ok q) y used h = h.1
 got_number (refused z) y used h = absurd h
 
@@ -97,11 +97,11 @@ module _ {t : Tables} {v : List Float} (h : Judged t v) (i : ℕ) where
   not_listed e = no_value (given h.world h.values i (row_at h.world i)) ∙ ap (is_given (given h.world h.values i (row_at h.world i))) (sym (unvalued h.values i h.numbers (sym (ap (λ (x : Float). eq x x) shown) ∙ not_self e)))
 
   -- the rules give nothing
-  pub nothing-given : (z : Refusal) → GotIs (calculated_from h.world h.values i) (got.Refused z) → false ≡ is_given (given h.world h.values i (row_at h.world i)) (get_or h.values i none)
+  pub nothing-given : (z : Refusal) → GotIs (calculated_from h.world h.values i) (Err z) → false ≡ is_given (given h.world h.values i (row_at h.world i)) (get_or h.values i none)
   unfolding given
   nothing-given z k = by (calculated_from h.world h.values i) k
     where
-      by : (x : Res Read) → GotIs x (got.Refused z)
+      by : (x : Res Read) → GotIs x (Err z)
           → false ≡ is_given (x >>= λ r. where_recorded h.world.recording (idles (unrecorded h.world) (looks h.world h.values) i (row_at h.world i) (row_at h.world i).entries (blank h.world.rows)) >>= λ s. ok r.value) (get_or h.values i none)
       by (ok q) k = absurd k
       by (refused y) k = refl
@@ -110,12 +110,12 @@ module _ {t : Tables} {v : List Float} (h : Judged t v) (i : ℕ) where
   abbrev quiet : Res (Unit {0})
   quiet = idles (unrecorded h.world) (looks h.world h.values) i (row_at h.world i) (row_at h.world i).entries (blank h.world.rows)
 
-  module _ (y : Float) (used : ℕ) (k : GotIs (calculated_from h.world h.values i) (got.Value y used)) (e : ne (get_or v i nan) (get_or v i nan) ≡ false) where
+  module _ (y : Float) (used : ℕ) (k : GotIs (calculated_from h.world h.values i) (Ok (record { value = y; used = used }))) (e : ne (get_or v i nan) (get_or v i nan) ≡ false) where
     by_parts : is_given (given h.world h.values i (row_at h.world i)) (get_or h.values i none) ≡ is_ok (where_recorded h.world.recording quiet) && same_float y here
     unfolding given
     by_parts = ap (is_given (given h.world h.values i (row_at h.world i))) (listed_here e) ∙ by (calculated_from h.world h.values i) (where_recorded h.world.recording quiet) k
       where
-        by : (x : Res Read) (s : Res (Unit {0})) → GotIs x (got.Value y used) → is_given (x >>= λ r. s >>= λ u. ok r.value) (some here) ≡ is_ok s && same_float y here
+        by : (x : Res Read) (s : Res (Unit {0})) → GotIs x (Ok (record { value = y; used = used })) → is_given (x >>= λ r. s >>= λ u. ok r.value) (some here) ≡ is_ok s && same_float y here
         by (ok q) (ok u) k = ap (λ (z : Float). same_float z here) (sym k.0)
         by (ok q) (refused z) k = refl
         by (refused z) s k = absurd k

@@ -1,10 +1,11 @@
 -- What the columns hold while a listing is judged, and what a line's value is held against. Definitions only.
-use Rattle.std.specs.Prelude.{ℕ, ◌+◌, ◌*◌, ◌≡◌, Bool, true, false, List, [], map, T, Float, length, get_or, None, Some}
+use Rattle.std.specs.Prelude.{ℕ, ◌+◌, ◌*◌, ◌≡◌, Bool, true, false, List, [], map, T, Float, length, get_or, None, Some, Result, Ok, Err}
 use Rattle.std.proofs.Math.Option
 use Rattle.std.proofs.Math.Option.{Option}
 use Rattle.std.specs.Float.{nan, binary64}
 use Rattle.std.specs.Float.Ieee.{eq, of_bits}
 use Rattle.columns.specs.Lending.{Column, LentColumn}
+use Rattle.rules.specs.declared.Refusal.{Refusal}
 use Rattle.rules.specs.Answer.{Res, ok, refused}
 use Rattle.laws.specs.Floats.{finite}
 use Rattle.rules.specs.Number.{times}
@@ -19,7 +20,6 @@ use Rattle.memory.specs.Holding.{Tables, Tells}
 use Rattle.memory.specs.Memory.{value_column, AllFinite}
 use Rattle.memory.specs.Steps.{row_at}
 use Rattle.memory.specs.declared.apply.Got.{Got}
-use Rattle.memory.specs.declared.apply.Got.TheVariants as got
 use Rattle.std.specs.Prelude as code
 use Rattle.rules.specs.Dispatch.{Key}
 use Rattle.settled.specs.Given.{listed_reader}
@@ -69,18 +69,18 @@ abbrev pub calculated_from : World → List (Option Float) → ℕ → Res Read
 calculated_from w vs i = calculate (unrecorded w) (looks w vs) i (row_at w i) (blank w.rows)
 
 -- an answer has that value, a number, or there is none
-abbrev pub GotIs : Res Read → Got → Type 0
-GotIs (ok q) (got.Value x used) = (x ≡ q.value) × T (finite x)
-GotIs (ok q) (got.Refused z) = ⊥
-GotIs (refused y) (got.Value x used) = ⊥
-GotIs (refused y) (got.Refused z) = Unit {0}
+abbrev pub GotIs : Res Read → Result Got Refusal → Type 0
+GotIs (ok q) (Ok g) = (g.value ≡ q.value) × T (finite g.value)
+GotIs (ok q) (Err z) = ⊥
+GotIs (refused y) (Ok g) = ⊥
+GotIs (refused y) (Err z) = Unit {0}
 
 -- with a value the column is as it was; after a refusal it may hold anything
-abbrev pub RestoredAs : Got → List Float → List Float → Type 0
-RestoredAs (got.Value x used) v v' = v' ≡ v
-RestoredAs (got.Refused z) v v' = Unit {0}
+abbrev pub RestoredAs : Result Got Refusal → List Float → List Float → Type 0
+RestoredAs (Ok g) v v' = v' ≡ v
+RestoredAs (Err z) v v' = Unit {0}
 
-abbrev pub Restored : Got → LentColumn Float → Type 0
+abbrev pub Restored : Result Got Refusal → LentColumn Float → Type 0
 Restored r v = RestoredAs r v.entry.now v.exit.now
 
 -- the same of a test, and of a search for what is wrong

@@ -22,6 +22,7 @@ use memory::apply::Got;
 use numbers::integers::signed;
 use pass_3::calculate_value;
 use reading::stretches::is_limited;
+use rules::Refusal;
 use sources::Recording;
 
 // Whether a row's value is its base: it has no entries, and its attribute has no limit.
@@ -52,7 +53,7 @@ fn given_at(
     entries: &[EntryRow],
     entry_values: &[f64],
     row: usize,
-) -> Got
+) -> Result<Got, Refusal>
     requires judged { let t = lent book pairs states stretches limits rows bases entries entry_values in
         Judged t values.old }
     requires within { row < length rows.now }
@@ -63,7 +64,10 @@ fn given_at(
     let plain = is_untouched(rows, limits, row);
     if plain {
         let base = bases[row];
-        return Got::Value(base, 0);
+        return Ok(Got {
+            value: base,
+            used: 0,
+        });
     }
     let listed = values[row];
     values[row] = 0.0 / 0.0;
@@ -143,10 +147,10 @@ fn is_right(
         entry_values,
         row,
     );
-    let Got::Value(v, _) = got else {
+    let Ok(Got { value, .. }) = got else {
         return false;
     };
-    let same = has_bits(v, listed);
+    let same = has_bits(value, listed);
     if !same {
         return false;
     }

@@ -20,7 +20,7 @@ use Rattle.run.specs.declared.lists.ListRooms as given
 use Rattle.run.specs.declared.lists.Listed.{Listed}
 use Rattle.run.specs.declared.lists.Listed.TheVariants as listed
 use Rattle.values.proofs.Taken.{few_objects}
-use Rattle.values.specs.declared.walk.Valued.{Valued}
+use Rattle.std.specs.Prelude.{Result}
 use Rattle.values.specs.Setting as values
 use Rattle.values.specs.Setting.{SetAs}
 use Rattle.run.specs.Filled.{Columns, lent_of, RanAs, ran_by}
@@ -128,7 +128,7 @@ module _ (a b : List ℕ) (p : List (List ℕ)) (sf : SoundFit b p) (c₀ c : Co
           recording = t;
         }
 
-    pub filled_as : (room objects : ℕ) (v : Valued) (y : Ran) → y ≡ ran_by v n objects → room ≡ counted (min (length c₀.sources) (length c₀.source_floats)) → objects ≡ count_of p 6 → SetAs (rows_in k f) (valued (world_of k f room) f.depth (starts_of f (rows_in k f)) (blank (rows_in k f))) v c₀.rows c.rows c₀.values c.values c₀.sources c.sources c₀.source_floats c.source_floats → RanAs (run k f (rooms_of (lent_of c₀))) y st c₀ c
+    pub filled_as : (room objects : ℕ) (v : Result ℕ Refusal) (y : Ran) → y ≡ ran_by v n objects → room ≡ counted (min (length c₀.sources) (length c₀.source_floats)) → objects ≡ count_of p 6 → SetAs (rows_in k f) (valued (world_of k f room) f.depth (starts_of f (rows_in k f)) (blank (rows_in k f))) v c₀.rows c.rows c₀.values c.values c₀.sources c.sources c₀.source_floats c.source_floats → RanAs (run k f (rooms_of (lent_of c₀))) y st c₀ c
     filled_as room objects v y a g o w =
         subst (λ (x : Ran). RanAs (run k f (rooms_of (lent_of c₀))) x st c₀ c) (sym a)
         (ran_as k f (rooms_of (lent_of c₀)) by_lists.0 c₀ c st n objects by_lists.1 by_lists.2 S (o ∙ sym (objects_length b p)) (few_objects b p sf) v

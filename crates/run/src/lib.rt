@@ -19,7 +19,6 @@ use rules::Refusal;
 use sources::Recording;
 use states::correct_states;
 use values::set_values;
-use values::walk::Valued;
 
 // The counts of a run that is done; or why it is refused.
 #[derive(Clone, Copy)]
@@ -47,11 +46,11 @@ fn least_of(a: usize, b: usize) -> usize
 }
 
 // The answer once the lists are counted.
-fn ran_of(valued: Valued, n: ListCounts, objects: usize) -> Ran
+fn ran_of(valued: Result<u32, Refusal>, n: ListCounts, objects: usize) -> Ran
     ensures defined { result ≡ ran_by valued n objects }
 {
     match valued {
-        Valued::At(used) => {
+        Ok(used) => {
             Ran::Done(KeptCounts {
                 objects: objects,
                 collected: n.collected,
@@ -61,7 +60,7 @@ fn ran_of(valued: Valued, n: ListCounts, objects: usize) -> Ran
                 sources: used as usize,
             })
         }
-        Valued::Refused(y) => Ran::Refused(y),
+        Err(y) => Ran::Refused(y),
     }
 }
 

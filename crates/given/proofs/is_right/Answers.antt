@@ -32,28 +32,28 @@ returns-in_default c = record {
 }
 
 pub has_bits-same-requires : goal.has_bits-same-requires
-has_bits-same-requires c = record { numbers = (got_number (calculated_from c.requires.judged.world c.requires.judged.values c.args.row) c.in-Value.v c.in-Value.field-1 (rw c.in-Value.is at (c.given_at-got.ensures.defined c.requires.judged)), listed_number c.requires.judged c.args.row c.if-listed.false) }
+has_bits-same-requires c = record { numbers = (got_number (calculated_from c.requires.judged.world c.requires.judged.values c.args.row) _ _ (rw c.in-Ok.is at (c.given_at-got.ensures.defined c.requires.judged)), listed_number c.requires.judged c.args.row c.if-listed.false) }
 
 pub returns-then-not-same : goal.returns-then-not-same
 returns-then-not-same c = record {
-  defined = λ h e. other_bits h c.args.row c.in-Value.v c.in-Value.field-1 (rw c.in-Value.is at (c.given_at-got.ensures.defined h)) c.if-listed.false _ c.has_bits-same.ensures.defined (ap not c.if-not-same.true);
+  defined = λ h e. other_bits h c.args.row _ _ (rw c.in-Ok.is at (c.given_at-got.ensures.defined h)) c.if-listed.false _ c.has_bits-same.ensures.defined (ap not c.if-not-same.true);
   kept = tt;
 }
 
 pub returns-then-not-recording : goal.returns-then-not-recording
 returns-then-not-recording c = record {
-  defined = λ h e. unrecorded_right h c.args.row c.in-Value.v c.in-Value.field-1 (rw c.in-Value.is at (c.given_at-got.ensures.defined h)) c.if-listed.false _ c.has_bits-same.ensures.defined (ap not c.if-not-same.false) c.args.recording (ap not c.if-not-recording.true) e;
-  kept = rw c.in-Value.is at c.given_at-got.ensures.kept;
+  defined = λ h e. unrecorded_right h c.args.row _ _ (rw c.in-Ok.is at (c.given_at-got.ensures.defined h)) c.if-listed.false _ c.has_bits-same.ensures.defined (ap not c.if-not-same.false) c.args.recording (ap not c.if-not-recording.true) e;
+  kept = rw c.in-Ok.is at c.given_at-got.ensures.kept;
 }
 
 pub idles_have_strength-requires : goal.idles_have_strength-requires
 idles_have_strength-requires c = record {
-  judged = with_column c.requires.judged (rw c.in-Value.is at c.given_at-got.ensures.kept);
+  judged = with_column c.requires.judged (rw c.in-Ok.is at c.given_at-got.ensures.kept);
   within = c.requires.within;
 }
 
 pub returns : goal.returns
 returns c = record {
-  defined = λ h e. recorded_right h c.args.row c.in-Value.v c.in-Value.field-1 (rw c.in-Value.is at (c.given_at-got.ensures.defined h)) c.if-listed.false _ c.has_bits-same.ensures.defined (ap not c.if-not-same.false) c.args.recording (ap not c.if-not-recording.false) e _ (c.idles_have_strength.ensures.defined (with_column h (rw c.in-Value.is at c.given_at-got.ensures.kept)));
-  kept = kept_any c.idles_have_strength.result _ _ (rw c.in-Value.is at c.given_at-got.ensures.kept);
+  defined = λ h e. recorded_right h c.args.row _ _ (rw c.in-Ok.is at (c.given_at-got.ensures.defined h)) c.if-listed.false _ c.has_bits-same.ensures.defined (ap not c.if-not-same.false) c.args.recording (ap not c.if-not-recording.false) e _ (c.idles_have_strength.ensures.defined (with_column h (rw c.in-Ok.is at c.given_at-got.ensures.kept)));
+  kept = kept_any c.idles_have_strength.result _ _ (rw c.in-Ok.is at c.given_at-got.ensures.kept);
 }
