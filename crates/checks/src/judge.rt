@@ -12,7 +12,8 @@ use super::verdict::{Verdict, verdict_of};
 use columns::{AttributeRow, EntryRow, States, TablePairs};
 use given::first_bad;
 use given::lines::LineRow;
-use loops::{Looped, loop_of};
+use loops::loop_of;
+use needs::NeedColumns;
 use order::WorkRow;
 use reading::stretches::{set_limits, set_stretches};
 
@@ -43,10 +44,18 @@ pub fn judged(
 {
     let stretches = set_stretches(&rows[..n]);
     let limits = set_limits(sheet, pairs);
-    let looped = loop_of(work, sheet, pairs, &stretches, &limits, &rows[..n], entries);
+    let columns = NeedColumns {
+        book: sheet,
+        pairs,
+        stretches: &stretches,
+        limits: &limits,
+        rows: &rows[..n],
+        entries,
+    };
+    let looped = loop_of(work, columns);
     match looped {
-        Looped::At(object) => Verdict::Loop(object),
-        Looped::Nothing => {
+        Some(object) => Verdict::Loop(object),
+        None => {
             let bad = first_bad(
                 &mut values[..n],
                 sheet,

@@ -1,20 +1,11 @@
--- `needs::need_at` meets its contract.
-use Rattle.needs.proofs.need_at.Goals as goal
+-- `needs::NeedColumns::need_at` meets its contract.
+use Rattle.needs.proofs.NeedColumns.need_at.Goals as goal
 use Prim.Native.Nat.{◌/◌, ◌%◌, ◌+◌}
 use native.Mathlib.Omega.{arith}
-use Rattle.needs.proofs.Showing.{source_few, entry-inside, entry_shown, from_source, from_resistance, from-limit}
-
-pub held_need-requires : goal.held_need-requires
-held_need-requires c = record {
-  holding = c.requires.holding;
-  within = (c.requires.within.0, omega arith);
-}
+use Rattle.needs.proofs.Showing.{source_few, entry_shown, from_source, from_resistance, from-limit}
 
 pub returns-then-count-k : goal.returns-then-count-k
 returns-then-count-k c = record { defined = λ h. from-limit h.told c.args.row c.requires.within.0 c.args.slot (c.args.slot % 2) (omega (arith, c.requires.within.1, c.if-count-k.true, c.index-count.ensures.defined.0)) (c.held_need.ensures.defined h) }
-
-pub bounds-entries-at : goal.bounds-entries-at
-bounds-entries-at c = entry-inside c.requires.holding.told c.args.row c.requires.within.0 (c.args.slot / 2) (omega (arith, c.if-count-k.false, c.index-count.ensures.defined.0)) _ (omega (arith, c.index.ensures.defined.0))
 
 pub source_need-requires : goal.source_need-requires
 source_need-requires c = record { an_object = source_few (entry_shown c.requires.holding.told c.args.row c.requires.within.0 (c.args.slot / 2) (omega (arith, c.if-count-k.false, c.index-count.ensures.defined.0)) (c.index.result + (c.args.slot / 2)) (omega (arith, c.index.ensures.defined.0))) }
