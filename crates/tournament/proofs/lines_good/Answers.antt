@@ -1,8 +1,6 @@
--- `bad_line` meets its contract: what is left decides. The measure is how many lines are left.
-use Rattle.tournament.proofs.bad_line.Goals as goal
-use Prim.Native.Nat.{◌-◌}
-use lib.ListN.{length}
-use Rattle.tournament.proofs.Judging.{Scanned, scanned_none, scanned_more, scanned_bad, scanned_all}
+-- `lines_good` meets its contract: what is left decides. The measure is how many lines are left.
+use Rattle.tournament.proofs.lines_good.Goals as goal
+use Rattle.tournament.proofs.Judging.{scanned_none, scanned_more, scanned_bad, scanned_all}
 
 pub loop-i-init : goal.loop-i-init
 loop-i-init c = scanned_none c.args.lines.now
