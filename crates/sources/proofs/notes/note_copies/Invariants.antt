@@ -1,5 +1,5 @@
 use Rattle.sources.proofs.notes.note_copies.Given as goal
-use Prim.Native.Nat.{◌+◌, ◌-◌, ◌≤◌}
+use Prim.Native.Nat.{◌+◌, ◌≤◌}
 use lib.ListN.{length}
 use mathlib.Core.Path.{◌≡◌}
 use Rattle.sources.specs.Keeping.{more_of}
