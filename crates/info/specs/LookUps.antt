@@ -1,12 +1,8 @@
 -- What the look-ups work over, and their answers in the definition's words.
 use Rattle.std.specs.Prelude.{ℕ, ◌+◌, ◌*◌, ◌-◌, ◌≤◌, ◌≡◌, true, List, map, ℤ, length}
-use Rattle.std.proofs.Math.Option.{Option, none, some}
 use Rattle.laws.specs.Lists.{eq_z, keep, from, span, not_descending}
 use Rattle.laws.proofs.Search.{Between, less_than}
 use Rattle.rules.specs.Bytes.{i32_at}
-use Rattle.rules.specs.declared.DogmaEffect.{DogmaEffect}
-use Rattle.rules.specs.declared.DbuffCollection.{DbuffCollection}
-use Rattle.rules.specs.declared.BaseAttribute.{BaseAttribute}
 
 -- the key with which record k begins, where records of w bytes stand from `at` on
 unfoldable pub key_at : List ℕ → ℕ → ℕ → ℕ → ℤ

@@ -109,15 +109,13 @@ fn run_end(b: &[u8], at: usize, w: usize, n: usize, id: i32, low: usize) -> usiz
     requires from_the_first { Lower b.now at w n id low }
     ensures defined { RunTo b.now at w n id low result }
 {
-    let mut end = low;
-    while end < n {
+    for end in low..n {
         let key = key_at(b, at, w, end);
         if key != id {
             return end;
         }
-        end += 1;
     }
-    end
+    n
 }
 
 // A missing attribute record: not stackable, high not good, default 0.0.

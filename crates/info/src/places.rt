@@ -47,9 +47,7 @@ fn tell_effects(places: &mut EffectPlaces, book: &[u8], pairs: &TablePairs)
 fn tell_types(places: &mut EffectPlaces, book: &[u8], pairs: &TablePairs)
     requires held_book { HeldBook book.now pairs.now }
 {
-    let mut i = count_of(pairs, TABLE_TYPE_EFFECTS);
-    while 0 < i {
-        i -= 1;
+    for i in (0..count_of(pairs, TABLE_TYPE_EFFECTS)).rev() {
         let t = type_effect(book, pairs, i);
         let at = effect_slot(t.type_id);
         let place = i as u16;

@@ -7,7 +7,10 @@ ghost use Rattle.info.specs.Sound.{HeldBook, HeldFit, Nth};
 use super::header::offset_of;
 use super::little_endian::{f64_at, i32_at, u32_at};
 use columns::TablePairs;
-use rules::{Ask, BaseAttribute, DbuffCollection, DogmaAttribute, DogmaEffect, DogmaModifier, Item, ProjectedBuff, TypeDogmaEffect};
+use rules::{
+    Ask, BaseAttribute, DbuffCollection, DogmaAttribute, DogmaEffect, DogmaModifier, Item,
+    ProjectedBuff, TypeDogmaEffect,
+};
 
 // The bytes of record i of a table that begins at `at`, each of w bytes.
 fn record_of(b: &[u8], at: usize, w: usize, i: usize) -> &[u8]

@@ -5,7 +5,6 @@ ghost use Rattle.std.proofs.Common.{to_z, of_z};
 ghost use Rattle.rules.specs.Number as N;
 ghost use Rattle.rules.specs.Columns.{yes1, optional_numbers};
 
-
 // Whether an id is given, and the id.
 pub type OptionalPair = [u32; 2];
 

@@ -94,7 +94,13 @@ fn multiplied(step: Option<f64>, x: f64, quantity: u32) -> Option<f64>
 }
 
 // One unpenalised value more.
-fn stepped(running: Running, high: bool, operator: EffectOperator, x: f64, quantity: u32) -> Option<f64>
+fn stepped(
+    running: Running,
+    high: bool,
+    operator: EffectOperator,
+    x: f64,
+    quantity: u32,
+) -> Option<f64>
     ensures defined { result ≡ plainly_one high operator running x quantity }
 {
     let step = step_so_far(running);

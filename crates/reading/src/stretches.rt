@@ -49,15 +49,13 @@ fn past(rows: &[AttributeRow], first: usize, object: u32) -> usize
     requires inside { first ≤ length rows.now }
     ensures past { Past rows.now object first result }
 {
-    let mut i = first;
-    while i < rows.len() {
+    for i in first..rows.len() {
         let own = rows[i][ROW_OBJECT];
         if own > object {
             return i;
         }
-        i += 1;
     }
-    i
+    rows.len()
 }
 
 // The stretches of all objects, in one pass over the rows. Those of objects behind the last row are empty, and stand at the end.

@@ -46,15 +46,13 @@ fn projected_end(fit: &[u8], pairs: &TablePairs, character: u32) -> u32
     ensures defined { result ≡ projected_end (fit_of fit.now pairs.now) }
 {
     let objects = count_of(pairs, TABLE_OBJECTS);
-    let mut i = character as usize + 1;
-    while i < objects {
+    for i in character as usize + 1..objects {
         let o = object(fit, pairs, i);
         if o.kind != PROJECTED {
             return i as u32;
         }
-        i += 1;
     }
-    i as u32
+    objects as u32
 }
 
 // Where the walk leaves the order of the rows, and where it takes it up again.

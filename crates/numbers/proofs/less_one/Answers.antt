@@ -1,6 +1,6 @@
 -- `numbers::less_one` meets its contract.
 use Rattle.numbers.proofs.less_one.Goals as goal
-use Rattle.std.proofs.Common.{sym, ◌∙◌, rules}
+use Rattle.std.proofs.Common.{sym, ◌∙◌}
 use lib.Ieee
 use Rattle.numbers.proofs.Steps.{bound, refused}
 

@@ -1,9 +1,8 @@
 -- `numbers::power` meets its contract: what is left of the digits decides.
 use Rattle.numbers.proofs.power.Goals as goal
-use Rattle.std.proofs.Common.{rules, ◌∙◌}
+use Rattle.std.proofs.Common.{◌∙◌}
 use lib.Ieee
-use Rattle.rules.specs.Number.{power}
-use Rattle.numbers.proofs.Powers.{Left, start, done, no_product, no_square, again}
+use Rattle.numbers.proofs.Powers.{start, done, no_product, no_square, again}
 
 pub loop-digits-init : goal.loop-digits-init
 unfolding Ieee.of_bits

@@ -1,5 +1,4 @@
 use Rattle.operate.proofs.put_copies.Given as goal
-use Prim.Native.Nat.{◌-◌}
 use lib.ListN.{length}
 use mathlib.Core.Path.{◌≡◌}
 use Rattle.operate.specs.Held.{bucket}

@@ -1,12 +1,6 @@
 -- `look_ups::attribute_by` meets its contract. Assumes nothing.
 use Rattle.laws.specs.Options.{option_of}
 use Rattle.info.proofs.look_ups.attribute_by.Goals as goal
-use Rattle.info.proofs.look_ups.attribute_by.Reads as reads
-use Rattle.info.proofs.look_ups.attribute_by.Lts as lts
-use Rattle.info.proofs.header.count_of.Reads as count-of-reads
-use Rattle.info.proofs.header.offset_of.Reads as offset-of-reads
-use Rattle.info.proofs.look_ups.find.Reads as find-reads
-use Rattle.info.proofs.records.attribute.Reads as attribute-reads
 use mathlib.Core.Path.{refl, sym, ap, ◌∙◌}
 use mathlib.Core.Option.{get_or}
 use lib.Dec.{lit≤}

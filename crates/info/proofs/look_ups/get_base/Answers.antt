@@ -1,12 +1,6 @@
 -- `look_ups::get_base` meets its contract. Assumes nothing.
 use Rattle.laws.specs.Options.{option_of}
 use Rattle.info.proofs.look_ups.get_base.Goals as goal
-use Rattle.info.proofs.look_ups.get_base.Reads as reads
-use Rattle.info.proofs.look_ups.get_base.Lts as lts
-use Rattle.info.proofs.header.offset_of.Reads as offset-of-reads
-use Rattle.info.proofs.little_endian.index.Reads as index_Reads
-use Rattle.info.proofs.look_ups.find.Reads as find-reads
-use Rattle.info.proofs.records.base_attribute.Reads as base-attribute-reads
 use Prim.Native.Nat.{ℕ, ◌+◌, ◌*◌}
 use native.Mathlib.Omega.{arith}
 use mathlib.Core.Path.{sym, ap, ◌∙◌}

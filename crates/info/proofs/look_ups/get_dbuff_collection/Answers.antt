@@ -1,12 +1,6 @@
 -- `look_ups::get_dbuff_collection` meets its contract. Assumes nothing.
 use Rattle.laws.specs.Options.{option_of}
 use Rattle.info.proofs.look_ups.get_dbuff_collection.Goals as goal
-use Rattle.info.proofs.look_ups.get_dbuff_collection.Reads as reads
-use Rattle.info.proofs.look_ups.get_dbuff_collection.Lts as lts
-use Rattle.info.proofs.header.count_of.Reads as count-of-reads
-use Rattle.info.proofs.header.offset_of.Reads as offset-of-reads
-use Rattle.info.proofs.look_ups.find.Reads as find-reads
-use Rattle.info.proofs.records.buff_collection.Reads as buff-collection-reads
 use mathlib.Core.Path.{refl, sym, ap, ◌∙◌}
 use lib.Dec.{lit≤}
 use Rattle.rules.specs.Sheet.{book_of, buff_collection_from}

@@ -1,14 +1,6 @@
 -- `look_ups::get_dogma_effect` meets its contract. Assumes nothing.
 use Rattle.laws.specs.Options.{option_of}
 use Rattle.info.proofs.look_ups.get_dogma_effect.Goals as goal
-use Rattle.info.proofs.look_ups.get_dogma_effect.Reads as reads
-use Rattle.info.proofs.look_ups.get_dogma_effect.Lts as lts
-use Rattle.info.proofs.header.count_of.Reads as count-of-reads
-use Rattle.info.proofs.header.offset_of.Reads as offset-of-reads
-use Rattle.info.proofs.look_ups.find.Reads as find-reads
-use Rattle.info.proofs.places.effect_slot.Reads as effect-slot-reads
-use Rattle.info.proofs.places.place_of.Reads as place-of-reads
-use Rattle.info.proofs.records.effect.Reads as effect-reads
 use mathlib.Core.Path.{refl, sym, ap, ◌∙◌}
 use lib.Dec.{lit≤}
 use Rattle.rules.specs.Sheet.{book_of, effect_from}

@@ -1,18 +1,10 @@
 -- `look_ups::lower` meets its contract. The lesser of the places before k are counted. The measure is what is left of the window. Assumes nothing.
 use Rattle.info.proofs.look_ups.lower.Goals as goal
-use Rattle.info.proofs.look_ups.lower.Reads as reads
-use Rattle.info.proofs.look_ups.lower.Lts as lts
-use Rattle.laws.proofs.step.Reads as step-reads
-use Rattle.info.proofs.look_ups.key_at.Reads as key-at-reads
-use Rattle.info.proofs.look_ups.narrowed.Reads as narrowed-reads
-use Prim.Native.Nat.{◌-◌}
 use native.Mathlib.Omega.{arith}
 use borrow.Author.Rules.{sfits_of}
 use mathlib.Core.Path.{refl}
-use mir.Syntax.{w32}
-use mir.Val.{to_z}
 use Rattle.laws.proofs.Windows.{counted_start, counted_end}
-use Rattle.info.proofs.Searches.{CountedBelow, bounds_back, bounds_high, counts-more, key_inside, key_less}
+use Rattle.info.proofs.Searches.{bounds_back, bounds_high, counts-more, key_inside, key_less}
 
 pub overflow_add-end : goal.overflow_add-end
 overflow_add-end c = omega (arith, bounds_high _ _ _ _ _ c.requires.keyed c.narrowed-window.ensures.narrowed, c.ranges.n.fits)

@@ -1,11 +1,5 @@
 -- `places::tell_effects` meets its contract: it stays inside. The measure is how many records are left. Assumes nothing.
 use Rattle.info.proofs.places.tell_effects.Goals as goal
-use Rattle.info.proofs.places.tell_effects.Reads as reads
-use Rattle.info.proofs.places.tell_effects.Lts as lts
-use Rattle.info.proofs.header.count_of.Reads as count-of-reads
-use Rattle.info.proofs.places.effect_slot.Reads as effect-slot-reads
-use Rattle.info.proofs.records.effect.Reads as effect-reads
-use Prim.Native.Nat.{◌-◌}
 use native.Mathlib.Omega.{arith}
 
 pub loop-i-init : goal.loop-i-init

@@ -1,5 +1,4 @@
 use Rattle.reading.proofs.entries.operators_in.Given as goal
-use Prim.Native.Nat.{◌-◌}
 use Rattle.reading.proofs.Decodes.{Marks}
 
 abbrev pub invariant-loop-i : goal.invariant-loop-i

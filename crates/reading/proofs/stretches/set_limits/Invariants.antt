@@ -1,5 +1,4 @@
 use Rattle.reading.proofs.stretches.set_limits.Given as goal
-use Prim.Native.Nat.{◌-◌}
 use Rattle.rules.specs.Sheet.{book_of}
 use Rattle.reading.proofs.Limiting.{Marking}
 

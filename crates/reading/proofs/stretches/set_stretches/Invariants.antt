@@ -1,5 +1,4 @@
 use Rattle.reading.proofs.stretches.set_stretches.Given as goal
-use Prim.Native.Nat.{◌-◌}
 use Rattle.reading.proofs.Laying.{Laying}
 
 abbrev pub invariant-loop-object : goal.invariant-loop-object
