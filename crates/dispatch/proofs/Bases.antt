@@ -1,13 +1,11 @@
--- Base attributes counted object by object; and a scan of rows.
+-- Base attributes counted object by object.
 use Prim.Native.Nat.{ℕ, ◌+◌, ◌≤◌, ◌<◌}
 use native.Mathlib.Omega.{arith}
 use mathlib.Core.Path.{◌≡◌, refl, sym, ap, ◌∙◌}
-use mathlib.Core.Bool.{Bool, ◌||◌}
-use mathlib.Core.List.{List, [], ◌∷◌, ◌++◌, map}
-use Rattle.std.specs.List.{list_any}
+use mathlib.Core.List.{List, ◌++◌, map}
 use lib.ListN.{length, take, length-map, length-append}
 use lib.Seq.{take_all}
-use Rattle.laws.specs.Lists.{some?, flat}
+use Rattle.laws.specs.Lists.{flat}
 use Rattle.laws.proofs.Flat.{flat-next}
 use Rattle.laws.proofs.Spans.{span_length}
 use Rattle.rules.specs.Bytes.{count_of}
@@ -38,9 +36,3 @@ module _ (b : List ℕ) (pairs : List (List ℕ)) (S : SoundFit b pairs) where
   pub base_all : (i : ℕ) → count_of pairs 6 ≤ i → (t : ℕ) → t ≡ length (keys_to (fit_of b pairs) i) → t ≡ length (base_keys (fit_of b pairs))
   unfolding base_keys
   base_all i h t s = s ∙ ap (λ (l : List Item). length (flat (keys_of (fit_of b pairs)) l)) (take_all i (fit_of b pairs).objects (rw (objects_length b pairs) h))
-
--- ---- a scan
-
-pub any_some : {A : Type 0} (p : A → Bool) (xs : List A) → list_any p xs ≡ some? p xs
-any_some p [] = refl
-any_some p (x ∷ xs) = ap (λ (t : Bool). p x || t) (any_some p xs)

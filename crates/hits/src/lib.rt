@@ -1,10 +1,9 @@
 // Whom the collected effects touch (pass_2.rs, second half): the aims of an effect, and the test of an object.
 #![tactic(auto)]
 
-ghost use Rattle.std.specs.Prelude.{◌≡◌, [], ◌<◌, eqb, ℤ, length, get_or};
+ghost use Rattle.std.specs.Prelude.{◌≡◌, [], ◌<◌, ℤ, length, get_or};
 ghost use Rattle.std.specs.Int.{w32};
 ghost use Rattle.std.proofs.Common.{SFits};
-ghost use Rattle.laws.specs.Lists.{some?};
 ghost use Rattle.rules.specs.Bytes as bytes;
 ghost use Rattle.rules.specs.Bytes.{count_of};
 ghost use Rattle.rules.specs.Sheet.{Book, Fit, fit_of};
@@ -248,19 +247,6 @@ pub fn aim_then(collected: &[CollectedRow], s: Spans, j: usize) -> Aim
 
 // ---- the test
 
-// Whether a skill is among those that an object requires.
-fn requires_skill(row: SkillRow, skill: u32) -> bool
-    ensures defined { result ≡ some? (eqb skill) row }
-{
-    let wanted = skill as u64;
-    (wanted == row[0])
-        | (wanted == row[1])
-        | (wanted == row[2])
-        | (wanted == row[3])
-        | (wanted == row[4])
-        | (wanted == row[5])
-}
-
 // Whether an aim by that column and that test is at object i, which stands in its range.
 pub fn is_hit(reach: &[ReachRow], skills: &[SkillRow], column: usize, test: Test, i: usize) -> bool
     requires inside { (i < length reach.now) × (i < length skills.now) × (column < 8) }
@@ -273,10 +259,7 @@ pub fn is_hit(reach: &[ReachRow], skills: &[SkillRow], column: usize, test: Test
     match test {
         Test::All => true,
         Test::OfGroup(group) => reach[i][GROUP] == group,
-        Test::Requiring(skill) => {
-            let row = skills[i];
-            requires_skill(row, skill)
-        }
+        Test::Requiring(skill) => skills[i].contains(&u64::from(skill)),
     }
 }
 

@@ -10,6 +10,7 @@ pub mod Sums
 pub mod Scans
 pub mod Runs
 pub mod Order
+pub mod Any
 pub mod Signs
 pub mod Ascending
 pub mod Search

@@ -4,16 +4,8 @@ use Prim.Native.Nat.{ℕ}
 use mathlib.Core.Path.{◌≡◌, refl, sym, ap, ◌∙◌}
 use mathlib.Core.Bool.{Bool}
 use mathlib.Core.List.{List, [], ◌∷◌, ◌++◌}
-use lib.Dec.{eqb}
-use lib.IntN.{ℤ, pos}
-use mir.Syntax.{w32}
-use mir.Val.{SFits, of_z}
-use mir.Facts.{sfits_lit}
-use Rattle.laws.specs.Lists.{eq_z, some?}
-use Rattle.laws.proofs.Signs.{eq_z-bits}
 use Rattle.rules.specs.Bytes.{bits}
 use Rattle.rules.specs.Codes.{operator_code}
-use Rattle.rules.specs.Constants.{exempt_categories}
 use Rattle.rules.specs.Sheet.{Book, Fit}
 use Rattle.rules.specs.Dispatch.{Numbered, entry}
 use Rattle.rules.specs.Columns.{yes1, origin_numbers, modifier_numbers, optional_numbers, collected_numbers, entry_numbers}
@@ -24,19 +16,7 @@ use Rattle.rules.specs.declared.Origin.TheVariants as origin
 use Rattle.rules.specs.declared.Modifier.{Modifier}
 use Rattle.rules.specs.declared.Modifier.TheVariants.{LocationRequiredSkillModifier, LocationGroupModifier, LocationModifier, OwnerRequiredSkillModifier, ItemModifier}
 use Rattle.rules.specs.Ids.{OptionalId}
-use Rattle.rows.specs.Entries.{exempt_bits, entry_row}
-
--- the exempt categories by their bits
-pub exempt_bits_lem : (c : ℤ) → SFits w32 c → some? (eqb (of_z w32 c)) exempt_bits ≡ some? (eq_z c) exempt_categories
-exempt_bits_lem c f =
-    rw (
-      eq_z-bits {w = w32} c (pos 6) f (sfits_lit tt),
-      eq_z-bits {w = w32} c (pos 8) f (sfits_lit tt),
-      eq_z-bits {w = w32} c (pos 16) f (sfits_lit tt),
-      eq_z-bits {w = w32} c (pos 20) f (sfits_lit tt),
-      eq_z-bits {w = w32} c (pos 32) f (sfits_lit tt),
-      eq_z-bits {w = w32} c (pos 65) f (sfits_lit tt),
-    ) refl
+use Rattle.rows.specs.Entries.{entry_row}
 
 -- a modifier's two numbers
 record Two (l : List ℕ) : Type 0 where

@@ -3,7 +3,7 @@ use Rattle.std.proofs.Common.{◌∙◌, take, rules, tests}
 use Rattle.std.proofs.lemmas.Iterator.{YieldsList-from_slice}
 use Rattle.std.proofs.lemmas.Iterator.Search.{any_from_yields_List}
 use Rattle.dispatch.specs.Keyed.{is_row}
-use Rattle.dispatch.proofs.Bases.{any_some}
+use Rattle.laws.proofs.Any.{any_some}
 use Rattle.dispatch.proofs.room.has_row.Goals as goal
 
 pub returns : goal.returns
