@@ -15,7 +15,7 @@ use Rattle.rules.specs.declared.EffectOperator.{EffectOperator}
 use Rattle.rules.specs.declared.EffectOperator.TheVariants.{PreAssign, PreMul, PreDiv, ModAdd, ModSub, PostMul, PostDiv, PostPercent, PostAssign}
 use Rattle.numbers.proofs.Steps.{bound, refused}
 use Rattle.operate.specs.declared.Running.{Running}
-use Rattle.operate.specs.SoFar.{plainly, step_of, RunningOf}
+use Rattle.operate.specs.SoFar.{plainly, RunningOf}
 use Rattle.operate.proofs.Snocs.{kept, bind_good, bind_step_good, unit, unchanged}
 
 weighed_good : (p : ℕ) (l : List Copy) (v : Float) → T (finite v) → (w : Float) → weighed p l v ≡ Some w → T (finite w)
@@ -66,13 +66,13 @@ abbrev pub Unpenalised : EffectOperator → Values → Type 0
 Unpenalised op g = has_penalty op ≡ false → (g.positive ≡ []) × (g.negative ≡ [])
 
 module _ {high : Bool} {op : EffectOperator} {v : Float} {g : Values} {r : Running} (R : RunningOf high op v g.unpenalized r) (u : Unpenalised op g) where
-  begun : applied high op v g ≡ (step_of r >>= copied g)
+  begun : applied high op v g ≡ (r.value >>= copied g)
   begun = applied-is high v g op u ∙ ap (λ s. s >>= copied g) (sym R.step)
 
-  pub not_plain : step_of r ≡ None → None ≡ applied high op v g
+  pub not_plain : r.value ≡ None → None ≡ applied high op v g
   not_plain e = sym (begun ∙ refused _ e)
 
-  module _ {x : Float} (e : step_of r ≡ Some x) {s : Step} (weighs : T (finite x) → s ≡ weighed 0 (sorted g.positive) x) where
+  module _ {x : Float} (e : r.value ≡ Some x) {s : Step} (weighs : T (finite x) → s ≡ weighed 0 (sorted g.positive) x) where
     pub not_positive : s ≡ None → None ≡ applied high op v g
     not_positive n = sym (begun ∙ bound _ e ∙ refused _ (sym (weighs (R.good x e)) ∙ n))
 
@@ -84,7 +84,7 @@ module _ {high : Bool} {op : EffectOperator} {v : Float} {g : Values} {r : Runni
   -- a value that comes of it is finite
   pub applied_good : {x : Float} → applied high op v g ≡ Some x → T (finite x)
   applied_good {x} e =
-      next_good (step_of r) (copied g) R.good
+      next_good r.value (copied g) R.good
       (λ y f. next_good (weighed 0 (sorted g.positive) y) (weighed 0 (sorted g.negative)) (weighed_good 0 (sorted g.positive) y f) (weighed_good 0 (sorted g.negative)))
       x (sym begun ∙ e)
 

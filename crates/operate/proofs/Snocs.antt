@@ -17,7 +17,7 @@ use Rattle.rules.specs.declared.EffectOperator.{EffectOperator}
 use Rattle.rules.specs.declared.EffectOperator.TheVariants.{PreAssign, PreMul, PreDiv, ModAdd, ModSub, PostMul, PostDiv, PostPercent, PostAssign}
 use Rattle.numbers.proofs.Steps.{assoc}
 use Rattle.operate.specs.declared.Running.{Running}
-use Rattle.operate.specs.SoFar.{plainly, any?, set?, step_of, RunningOf, better, chosen_of, added_one, multiplied_one, plainly_one}
+use Rattle.operate.specs.SoFar.{plainly, any?, RunningOf, better, chosen_of, added_one, multiplied_one, plainly_one}
 
 -- ---- steps that have a value have a finite one
 
@@ -120,11 +120,6 @@ multiplied_good g x n =
     (λ v. bind_good (plus one_f x) (λ y. power y n >>= λ z. times v z)
     (λ y. bind_good (power y n) (λ z. times v z) (λ z w e. step_good (mul binary64 v z) e)))
 
--- a flag that is not 0
-pub set_if : (n : ℕ) → (n ≡ 0 → ⊥) → true ≡ set? n
-set_if zero z = absurd (z refl)
-set_if (suc n) z = refl
-
 -- ---- any operator
 
 pub unchanged : (high : Bool) (op : EffectOperator) (v : Float) → Some v ≡ plainly high op v []
@@ -139,7 +134,7 @@ unchanged high PostDiv v = refl
 unchanged high PostPercent v = refl
 unchanged high PostAssign v = refl
 
-pub begun : {v : Float} (high : Bool) (op : EffectOperator) → T (finite v) → RunningOf high op v [] (record { value = v; finite = 1; any = 0 })
+pub begun : {v : Float} (high : Bool) (op : EffectOperator) → T (finite v) → RunningOf high op v [] (record { value = Some v; any = false })
 begun {v} high op f = record { step = unchanged high op v; any = refl; good = λ w e. kept f e }
 
 abbrev stack : Float → ℕ → Stack
@@ -147,13 +142,13 @@ stack x n = record { value = x; quantity = n }
 
 module _ {high : Bool} {v : Float} {l : List Stack} {r : Running} (x : Float) (n : ℕ) where
   module _ {op : EffectOperator} (R : RunningOf high op v l r) where
-    sum_more : plainly high op v l ≡ added v l → (step_of r >>= λ w. added_one w x n) ≡ added v (l ++ (stack x n ∷ []))
+    sum_more : plainly high op v l ≡ added v l → (r.value >>= λ w. added_one w x n) ≡ added v (l ++ (stack x n ∷ []))
     sum_more e = ap (λ g. g >>= λ w. added_one w x n) (R.step ∙ e) ∙ sym (added_snoc v l (stack x n))
 
-    product_more : plainly high op v l ≡ multiplied v l → (step_of r >>= λ w. multiplied_one w x n) ≡ multiplied v (l ++ (stack x n ∷ []))
+    product_more : plainly high op v l ≡ multiplied v l → (r.value >>= λ w. multiplied_one w x n) ≡ multiplied v (l ++ (stack x n ∷ []))
     product_more e = ap (λ g. g >>= λ w. multiplied_one w x n) (R.step ∙ e) ∙ sym (multiplied_snoc v l (stack x n))
 
-    choice_more : plainly high op v l ≡ Some (assigned high v l) → chosen_of high (set? r.any) (step_of r) x ≡ Some (assigned high v (l ++ (stack x n ∷ [])))
+    choice_more : plainly high op v l ≡ Some (assigned high v l) → chosen_of high r.any r.value x ≡ Some (assigned high v (l ++ (stack x n ∷ [])))
     choice_more e =
         ap₂ (λ t g. chosen_of high t g x) R.any (R.step ∙ e) ∙ chosen_is high (any? l) (assigned high v l) x ∙ ap Some (sym (assigned_snoc high v l (stack x n)))
 
@@ -169,15 +164,15 @@ module _ {high : Bool} {v : Float} {l : List Stack} {r : Running} (x : Float) (n
   one_more PostAssign R = choice_more R refl
 
   one_good : (op : EffectOperator) → RunningOf high op v l r → T (finite x) → (w : Float) → plainly_one high op r x n ≡ Some w → T (finite w)
-  one_good PreAssign R f = chosen_good high (set? r.any) (step_of r) x R.good f
-  one_good PreMul R f = multiplied_good (step_of r) x n
-  one_good PreDiv R f = multiplied_good (step_of r) x n
-  one_good ModAdd R f = added_good (step_of r) x n
-  one_good ModSub R f = added_good (step_of r) x n
-  one_good PostMul R f = multiplied_good (step_of r) x n
-  one_good PostDiv R f = multiplied_good (step_of r) x n
-  one_good PostPercent R f = multiplied_good (step_of r) x n
-  one_good PostAssign R f = chosen_good high (set? r.any) (step_of r) x R.good f
+  one_good PreAssign R f = chosen_good high r.any r.value x R.good f
+  one_good PreMul R f = multiplied_good r.value x n
+  one_good PreDiv R f = multiplied_good r.value x n
+  one_good ModAdd R f = added_good r.value x n
+  one_good ModSub R f = added_good r.value x n
+  one_good PostMul R f = multiplied_good r.value x n
+  one_good PostDiv R f = multiplied_good r.value x n
+  one_good PostPercent R f = multiplied_good r.value x n
+  one_good PostAssign R f = chosen_good high r.any r.value x R.good f
 
 any_snoc : (l : List Stack) (s : Stack) → true ≡ any? (l ++ (s ∷ []))
 any_snoc [] s = refl
@@ -189,7 +184,7 @@ module _ (high : Bool) (op : EffectOperator) {r : Running} (x : Float) where
   none_more zero e v g f R = R
   none_more (suc n) e v g f R = absurd (omega arith)
 
-  pub some_more : (n : ℕ) → (n ≡ 0 → ⊥) → {s : Running} → step_of s ≡ plainly_one high op r x n → set? s.any ≡ true → (v : Float) (g : Values) → T (finite x)
+  pub some_more : (n : ℕ) → (n ≡ 0 → ⊥) → {s : Running} → s.value ≡ plainly_one high op r x n → s.any ≡ true → (v : Float) (g : Values) → T (finite x)
       → RunningOf high op v g.unpenalized r → RunningOf high op v (with_stack x n g).unpenalized s
   some_more zero z e a v g f R = absurd (z refl)
   some_more (suc n) z e a v g f R = record {

@@ -1,5 +1,5 @@
 -- What an operator has made of its unpenalised values so far, and copies one after another. Definitions only.
-use Rattle.std.specs.Prelude.{ℕ, zero, suc, ◌+◌, ◌≡◌, Bool, true, false, cond, List, [], ◌∷◌, ◌++◌, T, pos, Float, None, Some}
+use Rattle.std.specs.Prelude.{ℕ, zero, suc, ◌+◌, ◌≡◌, Bool, true, false, cond, List, [], ◌∷◌, ◌++◌, T, pos, Float, Some}
 use Rattle.std.specs.Float.{binary64}
 use Rattle.std.specs.Float.Ieee.{lt, of_int}
 use Rattle.laws.specs.Floats.{finite, one_f}
@@ -27,24 +27,11 @@ abbrev pub any? : List Stack → Bool
 any? [] = false
 any? (x ∷ l) = true
 
-abbrev pub step_from : Bool → Float → Step
-step_from true v = Some v
-step_from false v = None
-
--- a flag that is not 0 says yes
-abbrev pub set? : ℕ → Bool
-set? zero = false
-set? (suc n) = true
-
--- the value so far, as a step
-abbrev pub step_of : Running → Step
-step_of r = step_from (set? r.finite) r.value
-
 -- r is what the values l, in their order, have made of v; a value that it has is finite
 pub record RunningOf (high : Bool) (op : EffectOperator) (v : Float) (l : List Stack) (r : Running) : Type 0 where
-  pub step : step_of r ≡ plainly high op v l
-  pub any : set? r.any ≡ any? l
-  pub good : (x : Float) → step_of r ≡ Some x → T (finite x)
+  pub step : r.value ≡ plainly high op v l
+  pub any : r.any ≡ any? l
+  pub good : (x : Float) → r.value ≡ Some x → T (finite x)
 
 -- ---- one value more
 
@@ -65,15 +52,15 @@ abbrev pub multiplied_one : Float → Float → ℕ → Step
 multiplied_one v x n = plus one_f x >>= λ y. power y n >>= λ z. times v z
 
 abbrev pub plainly_one : Bool → EffectOperator → Running → Float → ℕ → Step
-plainly_one high PreAssign r x n = chosen_of high (set? r.any) (step_of r) x
-plainly_one high PreMul r x n = step_of r >>= λ v. multiplied_one v x n
-plainly_one high PreDiv r x n = step_of r >>= λ v. multiplied_one v x n
-plainly_one high ModAdd r x n = step_of r >>= λ v. added_one v x n
-plainly_one high ModSub r x n = step_of r >>= λ v. added_one v x n
-plainly_one high PostMul r x n = step_of r >>= λ v. multiplied_one v x n
-plainly_one high PostDiv r x n = step_of r >>= λ v. multiplied_one v x n
-plainly_one high PostPercent r x n = step_of r >>= λ v. multiplied_one v x n
-plainly_one high PostAssign r x n = chosen_of high (set? r.any) (step_of r) x
+plainly_one high PreAssign r x n = chosen_of high r.any (r.value) x
+plainly_one high PreMul r x n = r.value >>= λ v. multiplied_one v x n
+plainly_one high PreDiv r x n = r.value >>= λ v. multiplied_one v x n
+plainly_one high ModAdd r x n = r.value >>= λ v. added_one v x n
+plainly_one high ModSub r x n = r.value >>= λ v. added_one v x n
+plainly_one high PostMul r x n = r.value >>= λ v. multiplied_one v x n
+plainly_one high PostDiv r x n = r.value >>= λ v. multiplied_one v x n
+plainly_one high PostPercent r x n = r.value >>= λ v. multiplied_one v x n
+plainly_one high PostAssign r x n = chosen_of high r.any (r.value) x
 
 -- ---- copies
 

@@ -7,29 +7,18 @@ ghost use Rattle.rules.specs.Number as N;
 ghost use Rattle.rules.specs.Operate.{Copy, Values, has_penalty, applied};
 ghost use Rattle.rules.specs.Value.{with_stack};
 ghost use Rattle.operate.specs.Held.{Gathered, bucket_before, bucket_after};
-ghost use Rattle.operate.specs.SoFar.{set?, better, chosen_of, added_one, multiplied_one, plainly_one, step_of, RunningOf, copies_from};
+ghost use Rattle.operate.specs.SoFar.{better, chosen_of, added_one, multiplied_one, plainly_one, RunningOf, copies_from};
 
 use buckets::{Bucket, insert};
 use columns::{CopySources, CopyValues};
 use numbers::{as_float, less, power, product, sum};
 use rules::EffectOperator;
 
-// What an operator has made of its unpenalised values so far, whether that is finite, and whether there was one.
-// Yes is 1: flags of four bytes leave no gap that would be copied with each entry.
+// What an operator has made of its unpenalised values so far, None where a step was not finite, and whether there was one.
 #[derive(Clone, Copy)]
 pub struct Running {
-    pub value: f64,
-    pub finite: u32,
-    pub any: u32,
-}
-
-fn is_set(flag: u32) -> bool
-    ensures defined { result ≡ set? flag }
-{
-    if flag == 0 {
-        return false;
-    }
-    true
+    pub value: Option<f64>,
+    pub any: bool,
 }
 
 // No value is there yet.
@@ -37,20 +26,9 @@ pub fn start(v: f64) -> Running
     ensures nothing_yet { (high : Bool) (op : EffectOperator) → T (finite v) → RunningOf high op v [] result }
 {
     Running {
-        value: v,
-        finite: 1,
-        any: 0,
+        value: Some(v),
+        any: false,
     }
-}
-
-// The same as a step.
-fn step_so_far(running: Running) -> Option<f64>
-    ensures defined { result ≡ step_of running }
-{
-    if is_set(running.finite) {
-        return Some(running.value);
-    }
-    None
 }
 
 // The last of equal greatest, or the first of equal least.
@@ -103,10 +81,9 @@ fn stepped(
 ) -> Option<f64>
     ensures defined { result ≡ plainly_one high operator running x quantity }
 {
-    let step = step_so_far(running);
-    let any = is_set(running.any);
+    let step = running.value;
     match operator {
-        EffectOperator::PreAssign => chosen(high, any, step, x),
+        EffectOperator::PreAssign => chosen(high, running.any, step, x),
         EffectOperator::PreMul => multiplied(step, x, quantity),
         EffectOperator::PreDiv => multiplied(step, x, quantity),
         EffectOperator::ModAdd => added(step, x, quantity),
@@ -114,7 +91,7 @@ fn stepped(
         EffectOperator::PostMul => multiplied(step, x, quantity),
         EffectOperator::PostDiv => multiplied(step, x, quantity),
         EffectOperator::PostPercent => multiplied(step, x, quantity),
-        EffectOperator::PostAssign => chosen(high, any, step, x),
+        EffectOperator::PostAssign => chosen(high, running.any, step, x),
     }
 }
 
@@ -132,18 +109,9 @@ pub fn more(
     if quantity == 0 {
         return running;
     }
-    let step = stepped(running, high, operator, x, quantity);
-    match step {
-        Some(value) => Running {
-            value,
-            finite: 1,
-            any: 1,
-        },
-        None => Running {
-            value: 0.0,
-            finite: 0,
-            any: 1,
-        },
+    Running {
+        value: stepped(running, high, operator, x, quantity),
+        any: true,
     }
 }
 
@@ -153,7 +121,7 @@ pub fn finished(running: Running, positive: Bucket, negative: Bucket) -> Option<
         → Gathered g.positive positive → Gathered g.negative negative → (has_penalty op ≡ false → (g.positive ≡ []) × (g.negative ≡ []))
         → result ≡ applied high op v g }
 {
-    let plain = step_so_far(running)?;
+    let plain = running.value?;
     let w = positive.weigh(plain)?;
     negative.weigh(w)
 }
