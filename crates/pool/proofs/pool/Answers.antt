@@ -1,13 +1,6 @@
 -- `pool::pool` meets its contract.
 use Rattle.pool.proofs.pool.Goals as goal
-use Rattle.pool.proofs.pool.Reads as reads
-use Rattle.pool.proofs.pool.Lts as lts
-use Rattle.pool.proofs.astray.Reads as astray-reads
-use Rattle.pool.proofs.seated.Reads as seated-reads
-use mathlib.Core.Path.{ap}
-use mathlib.Core.Bool.{not}
-use Rattle.rules.specs.Pool.{astray}
-use Rattle.pool.proofs.Below.{Failing, failing_none, failing_next, passing, all_failing}
+use Rattle.pool.proofs.Below.{failing_none, failing_next, passing, all_failing}
 use Rattle.pool.proofs.Answers.{not-seated, one-astray, none_astray}
 
 pub returns-then-not-seated : goal.returns-then-not-seated
