@@ -106,20 +106,6 @@ none_more false a = omega arith
 pub all_more : (t : Bool) (a b n k : ℕ) → n ≤ k → k ≤ n → b ≡ a + more_of t n → b ≡ a + more_of t k
 all_more t a b n k h l p = p ∙ ap (λ (x : ℕ). a + more_of t x) (omega (arith, h, l))
 
--- n notes and then k
-pub advanced_on : (t : Bool) (x : Result SourceCounts Refusal) (before now : SourceCounts) (n k : ℕ) → now.own ≡ before.own + more_of t n → now.used ≡ before.used + more_of t n → Advanced t k now x → Advanced t (n + k) before x
-advanced_on t (Ok c) before now n k p q h = (more_on t before.own now.own n k p h.0, more_on t before.used now.used n k q h.1)
-advanced_on t (Err y) before now n k p q h = tt
-
--- the counts of a penalised entry's source rows
-pub none_rest : (t : Bool) (q : ℕ) (own used a : ℕ) {b n : ℕ} → n ≡ min q 8 → q ≤ 8 → (a ≡ own + more_of t n) × (b ≡ used + more_of t n) → (a ≡ own + more_of t (min q 9)) × (b ≡ used + more_of t (min q 9))
-none_rest t q own used a e h p = let same : min q 9 ≡ min q 8 = omega (arith, h) in rw (same, sym e) p
-
-pub one_rest : (t : Bool) (q : ℕ) (x : Result SourceCounts Refusal) (before now : SourceCounts) (n : ℕ) → n ≡ min q 8 → 8 < q → (now.own ≡ before.own + more_of t n) × (now.used ≡ before.used + more_of t n) → Advanced t 1 now x → Advanced t (min q 9) before x
-one_rest t q x before now n e h p g =
-    let nine : min q 9 ≡ n + 1 = omega (arith, e, h) in
-    rw nine (advanced_on t x before now n 1 p.0 p.1 g)
-
 -- a penalised entry: copies, then the rest
 module _ (w : World) (counts : List ℕ) (s₀ : List (List ℕ)) (f₀ : List (List Float)) (i : ℕ) (row : Row) (e : Effect) (v : Float) (m : Mem) (s : List (List ℕ)) (f : List (List Float)) where
   abbrev one : Source

@@ -3,7 +3,7 @@ use Rattle.sources.proofs.notes.note_copies.Goals as goal
 use native.Mathlib.Omega.{arith}
 use mathlib.Core.Path.{refl, ◌∙◌}
 use Rattle.std.proofs.lemmas.Result.{err_from_is_err_and}
-use Rattle.sources.proofs.Copying.{start, free, again, stopped, done, more_on, more_few, none_more, all_more}
+use Rattle.sources.proofs.Copying.{start, free, again, stopped, done, more_on, more_few, none_more}
 
 pub loop-n-init : goal.loop-n-init
 loop-n-init c = ((none_more c.args.run.recording _, none_more c.args.run.recording _, omega arith), refl, refl, λ w counts s₀ f₀ i row m t b k fit. start w counts s₀ f₀ i row _ _ m k fit)
@@ -38,8 +38,5 @@ shape_of-sources c = c.loop-n.invariant.1
 pub shape_of-floats : goal.shape_of-floats
 shape_of-floats c = c.loop-n.invariant.2
 
-pub returns : goal.returns
-returns c = record {
-  defined = λ w counts s₀ f₀ i row m t b k fit. done w counts s₀ f₀ i row _ _ m (c.loop-n.invariant.3 w counts s₀ f₀ i row m t b k fit) c.loop-n-test.false;
-  advanced = (all_more c.args.run.recording _ _ _ _ c.loop-n.invariant.0.2 c.loop-n-test.false c.loop-n.invariant.0.0, all_more c.args.run.recording _ _ _ _ c.loop-n.invariant.0.2 c.loop-n-test.false c.loop-n.invariant.0.1);
-}
+pub returns-clause-defined : goal.returns-clause-defined
+returns-clause-defined c = λ w counts s₀ f₀ i row m t b k fit. done w counts s₀ f₀ i row _ _ m (c.loop-n.invariant.3 w counts s₀ f₀ i row m t b k fit) c.loop-n-test.false

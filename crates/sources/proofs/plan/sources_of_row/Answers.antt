@@ -20,8 +20,5 @@ overflow_add-total c = omega (arith, c.loop-i.invariant.0, c.loop-i-test.true, c
 pub loop-i-preserved : goal.loop-i-preserved
 loop-i-preserved c = ((omega (arith, c.loop-i-test.true), omega (arith, c.loop-i.invariant.0, c.sources_of-more.ensures.few)), λ es h t. counted _ es c.args.first c.loop-i.i _ (omega (arith, t, c.loop-i-test.true)) (is-entry h (c.args.first + c.loop-i.i) (omega (arith, t, c.loop-i-test.true)) _ c.entry_at-e.ensures.defined) (c.loop-i.invariant.1 es h t) c.is_running.ensures.defined c.sources_of-more.ensures.defined)
 
-pub returns : goal.returns
-returns c = record {
-  defined = λ es h t. ends _ es c.args.first c.loop-i.i c.args.count c.loop-i.invariant.0.0 c.loop-i-test.false (c.loop-i.invariant.1 es h t);
-  few = omega (arith, c.loop-i.invariant.0);
-}
+pub returns-clause-defined : goal.returns-clause-defined
+returns-clause-defined c = λ es h t. ends _ es c.args.first c.loop-i.i c.args.count c.loop-i.invariant.0.0 c.loop-i-test.false (c.loop-i.invariant.1 es h t)
