@@ -27,7 +27,7 @@ contains_some x [] = refl
 contains_some x (y ∷ xs) = ap (λ (t : Bool). t || list_any (λ z. eqb z x) xs) (eqb_turned x y) ∙ ap (λ (t : Bool). eqb x y || t) (contains_some x xs)
 
 -- the same of signed numbers
-int_eq_turned : (x y : ℤ) → int_eq y x ≡ eq_z x y
+pub int_eq_turned : (x y : ℤ) → int_eq y x ≡ eq_z x y
 int_eq_turned x y =
     same_test (int_eq y x) (eq_z x y) (λ e. eq_z_same x y (sym ((Decides-int_eq y x).0 e))) (λ e. (Decides-int_eq y x).1 (sym (eq_z_true x y e)))
 

@@ -1,6 +1,6 @@
 -- `reach::required_skills` meets its contract. The measure is how many base attributes are left.
 use Rattle.hits.proofs.reach.required_skills.Goals as goal
-use Rattle.hits.proofs.reach.required_skills.Goals.{then-slot-lt-SKILL_WIDTH, else-slot-lt-SKILL_WIDTH}
+use Rattle.hits.proofs.reach.required_skills.Goals.{in-Some, in_default}
 use mathlib.Core.Path.{ap, ◌∙◌}
 use native.Mathlib.Omega.{arith}
 use mir.Syntax.{w32}
@@ -30,9 +30,9 @@ base_attribute-b-requires c = record {
 }
 
 pub loop-k-preserved : goal.loop-k-preserved
-loop-k-preserved c = elim c.if-slot-lt-SKILL_WIDTH.branch [
-  | then-slot-lt-SKILL_WIDTH w ↦ rw w.row-is (filled_here _ _ _ c.loop-k.invariant c.loop-k-test.true (bases_within (fit_of c.args.fit.now c.args.pairs.now) c.object-o.result (based c.args.fit.now c.args.pairs.now c.object-o.result c.args.i c.requires.sound_fit c.requires.an_object c.object-o.ensures.record_i) c.index-first.ensures.defined.0 c.index-n.ensures.defined.0) c.base_attribute-b.ensures.record_i (c.slot_of-slot.ensures.defined ∙ ap slot_of (to_z-of_z (sfits_of {w = w32} {z = c.base_attribute-b.result.attribute_id} c.struct_told-1.given.0.1))) (w.bits-skill.ensures.defined ∙ ap bits (to_z-of_z {w = w32} (sfits_of w.cut.type_inv) ∙ w.cut.ensures.defined)))
-  | else-slot-lt-SKILL_WIDTH w ↦ rw w.row-is (filled_on _ _ _ c.loop-k.invariant c.loop-k-test.true (bases_within (fit_of c.args.fit.now c.args.pairs.now) c.object-o.result (based c.args.fit.now c.args.pairs.now c.object-o.result c.args.i c.requires.sound_fit c.requires.an_object c.object-o.ensures.record_i) c.index-first.ensures.defined.0 c.index-n.ensures.defined.0) c.base_attribute-b.ensures.record_i (c.slot_of-slot.ensures.defined ∙ ap slot_of (to_z-of_z (sfits_of {w = w32} {z = c.base_attribute-b.result.attribute_id} c.struct_told-1.given.0.1))) w.if-slot-lt-SKILL_WIDTH.false)
+loop-k-preserved c = elim c.match-slot_of.branch [
+  | in-Some w ↦ rw w.row-is (filled_here _ _ _ c.loop-k.invariant c.loop-k-test.true (bases_within (fit_of c.args.fit.now c.args.pairs.now) c.object-o.result (based c.args.fit.now c.args.pairs.now c.object-o.result c.args.i c.requires.sound_fit c.requires.an_object c.object-o.ensures.record_i) c.index-first.ensures.defined.0 c.index-n.ensures.defined.0) c.base_attribute-b.ensures.record_i (w.in-Some.ensures.defined ∙ ap slot_of (to_z-of_z (sfits_of {w = w32} {z = c.base_attribute-b.result.attribute_id} c.struct_told-1.given.0.1))) (w.bits-skill.ensures.defined ∙ ap bits (to_z-of_z {w = w32} (sfits_of w.cut.type_inv) ∙ w.cut.ensures.defined)))
+  | in_default w ↦ rw w.row-is (filled_on _ _ _ c.loop-k.invariant c.loop-k-test.true (bases_within (fit_of c.args.fit.now c.args.pairs.now) c.object-o.result (based c.args.fit.now c.args.pairs.now c.object-o.result c.args.i c.requires.sound_fit c.requires.an_object c.object-o.ensures.record_i) c.index-first.ensures.defined.0 c.index-n.ensures.defined.0) c.base_attribute-b.ensures.record_i (w.in_default.ensures.defined ∙ ap slot_of (to_z-of_z (sfits_of {w = w32} {z = c.base_attribute-b.result.attribute_id} c.struct_told-1.given.0.1))))
 ]
 
 pub returns : goal.returns
