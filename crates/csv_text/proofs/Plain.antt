@@ -4,13 +4,11 @@ use Prim.Native.Nat.{ℕ, zero, suc, ◌+◌, ◌/◌, ◌%◌}
 use native.Mathlib.Omega.{arith}
 use mathlib.Core.Path.{◌≡◌, refl, sym, ap, ◌∙◌}
 use mathlib.Core.Bool.{Bool, true, false, ◌||◌, true≢false}
-use mathlib.Core.List.{List, [], ◌∷◌, ◌++◌, cons-ne-nil}
+use mathlib.Core.List.{List, [], ◌∷◌, ◌++◌}
 use lib.IntN.{ℤ, pos, negsuc}
-use lib.Ieee.{Float}
 use Rattle.laws.specs.Lists.{some?, every?}
 use Rattle.laws.proofs.Bools.{and_left, and_right}
 use Rattle.rules.specs.Listing.{digits, natural, integer, minus_if, decimals}
-use Rattle.rules.specs.Number.{hundredths_of}
 use Rattle.rules.specs.declared.Hundredths.{Hundredths}
 use Rattle.csv_text.specs.Csv.{Class, text, other, class_of, special, quoted_if, field, record_text, Allowed, AllAllowed}
 use Rattle.csv_text.specs.Labels.{allowed}

@@ -31,9 +31,8 @@ fn any_special(text: &[u8]) -> bool
     ensures defined { result ≡ some? (λ b. special (class_of b)) text.now }
 {
     let mut found = false;
-    for i in 0..text.len() {
-        let own = is_special(text[i]);
-        found = found | own;
+    for b in text {
+        found |= is_special(*b);
     }
     found
 }
@@ -58,9 +57,8 @@ fn put_doubled(out: &mut [u8], at: usize, text: &[u8]) -> usize
     ensures within { result ≤ at + 2 * length text.now }
 {
     let mut end = at;
-    for i in 0..text.len() {
-        let b = text[i];
-        end = put_twice(out, end, b);
+    for b in text {
+        end = put_twice(out, end, *b);
     }
     end
 }

@@ -1,15 +1,7 @@
--- `labels::bad_label` meets its contract: what is left decides. The measure is how many labels are left.
-use Rattle.csv_text.proofs.labels.bad_label.Goals as goal
-use Rattle.csv_text.proofs.labels.bad_label.Reads as reads
-use Rattle.csv_text.proofs.labels.bad_label.Lts as lts
-use Rattle.csv_text.proofs.labels.all_allowed.Reads as all-allowed-reads
-use Rattle.csv_text.proofs.labels.label_good.Reads as label-good-reads
-use Rattle.csv_text.proofs.labels.stands.Reads as stands-reads
-use Prim.Native.Nat.{◌-◌}
-use lib.ListN.{length}
+-- `labels::check_labels` meets its contract: what is left decides. The measure is how many labels are left.
+use Rattle.csv_text.proofs.labels.check_labels.Goals as goal
 use mathlib.Core.Path.{sym, ◌∙◌}
-use borrow.Author.Tests.{not-true, not-false}
-use Rattle.csv_text.proofs.Judging.{Scanned, scanned_none, scanned_more, scanned_bad, scanned_all}
+use Rattle.csv_text.proofs.Judging.{scanned_none, scanned_more, scanned_bad, scanned_all}
 
 pub loop-i-init : goal.loop-i-init
 loop-i-init c = scanned_none c.args.bytes.now c.args.labels.now
