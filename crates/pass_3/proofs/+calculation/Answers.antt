@@ -1,32 +1,27 @@
 -- The answers of the cycle around `calculate_value` and `calculated_value`: each cites a law of memory's proofs.
 use Rattle.pass_3.proofs.+calculation.Goals as goal
 use native.Mathlib.Omega.{arith}
-use Prim.Native.Nat.{◌+◌, ◌*◌, ◌-◌, ◌≤◌, ◌<◌, ◌^◌}
+use Prim.Native.Nat.{◌≤◌, ◌<◌, ◌^◌}
 use Rattle.std.proofs.Common.{rules}
 use mathlib.Core.Path.{◌≡◌, refl, sym, ap, subst, ◌∙◌}
-use mathlib.Core.List.{[], ◌∷◌}
-use lib.ListN.{length, get_or, length-set}
-use Rattle.laws.specs.Floats.{nans}
+use mathlib.Core.List.{[]}
+use lib.ListN.{length, get_or}
 use Rattle.laws.proofs.Signs.{same_bits, tested-apart}
-use Rattle.rules.specs.Codes.{operators}
 use Rattle.rules.specs.Operate.{applied}
 use Rattle.rules.specs.Info.{get_dogma_attribute, high_is_good}
 use Rattle.rules.specs.Sheet.{book_of}
 use Rattle.rules.specs.Value.{value_of}
 use Rattle.memory.specs.Steps.{row_at}
-use Rattle.memory.specs.Holding.{tables, Busy}
 use mir.Facts.{to_z-of_z}
 use Rattle.rules.specs.declared.DogmaAttribute.{DogmaAttribute}
-use Rattle.memory.proofs.Holdings.{value_long, ready_on, sources_long, floats_long}
-use borrow.Author.Rules.{sfits_of, scaled_Fits}
-use mathlib.Core.Bool.{Bool, true, false, not, ◌||◌}
+use borrow.Author.Rules.{sfits_of}
+use mathlib.Core.Bool.{Bool, false, ◌||◌}
 use mir.Syntax.{w32}
 use mir.Val.{to_z, of_z}
 use lib.IntN.{ℤ, pos}
 use lib.Signed.{mag}
-use Rattle.laws.proofs.Bools.{not-not, or_false_left, or_false_right}
+use Rattle.laws.proofs.Bools.{or_false_left, or_false_right}
 use Rattle.memory.proofs.Holdings.{goes_on_from, number_of}
-use Rattle.memory.proofs.Fitting.{fits_below, row_inside, first_and_count, first_fits, count_fits, end_fits}
 use Rattle.memory.proofs.Evaluating as evaluating
 use Rattle.memory.proofs.Starts as starting
 use Rattle.memory.proofs.Finding as finding
@@ -40,10 +35,6 @@ use Rattle.memory.proofs.Operating.{Operating}
 use Rattle.std.proofs.lemmas.Result.{err_from_is_err_and}
 use Rattle.sources.specs.declared.SourceCounts.{SourceCounts}
 use Rattle.pass_3.proofs.+calculation.Goals.{operated-then-mark-ne0+in_ok-part, operated-else-mark-ne0}
-use Rattle.gather.specs.Piles.{whole, Eights}
-
-pub calculate_value-bounds-values-row : goal.calculate_value-bounds-values-row
-calculate_value-bounds-values-row t c = omega (arith, c.requires.within, value_long c.requires.holding.holds, c.requires.holding.told.held.long)
 
 pub calculate_value-returns-then-v : goal.calculate_value-returns-then-v
 calculate_value-returns-then-v t c = record { defined = λ h. starting.known_row h c.args.row c.requires.within c.args.left c.if-v.true }
@@ -51,14 +42,8 @@ calculate_value-returns-then-v t c = record { defined = λ h. starting.known_row
 pub calculate_value-returns-then-left-eq0 : goal.calculate_value-returns-then-left-eq0
 calculate_value-returns-then-left-eq0 t c = record { defined = λ h. starting.deep_row h c.args.row c.requires.within c.args.left c.if-left-eq0.true refl c.if-v.false }
 
-pub calculate_value-bounds-values-row-2 : goal.calculate_value-bounds-values-row-2
-calculate_value-bounds-values-row-2 t c = omega (arith, c.requires.within, value_long c.requires.holding.holds, c.requires.holding.told.held.long)
-
 pub calculate_value-evaluated-requires : goal.calculate_value-evaluated-requires
 calculate_value-evaluated-requires t c = (omega (arith, starting.fewer c.requires.holding c.args.row c.requires.within c.if-v.false), starting.starts c.requires.holding c.args.row c.requires.within c.if-v.false)
-
-pub calculate_value-bounds-values-row-3 : goal.calculate_value-bounds-values-row-3
-calculate_value-bounds-values-row-3 t c = let k = simp length-set at c.evaluated.auto.values in omega (arith, c.requires.within, value_long c.requires.holding.holds, c.requires.holding.told.held.long)
 
 pub calculate_value-returns : goal.calculate_value-returns
 calculate_value-returns t c = record { defined = λ h. starting.ends h c.args.row c.requires.within c.if-v.false c.args.left c.if-left-eq0.false _ _ _ _ _ (c.in_ok-got.ensures.defined (starting.starts h c.args.row c.requires.within c.if-v.false)) }
@@ -79,18 +64,12 @@ pub evaluated-returns-then-not-has_limits : goal.evaluated-returns-then-not-has_
 evaluated-returns-then-not-has_limits t c = let id : c.signed-id.result ≡ to_z w32 (get_or (get_or c.args.rows.now c.args.row []) 1 0) = c.signed-id.ensures.defined in
     record { defined = λ h. evaluating.plain-meets h c.args.left c.if-count-eq0.true (λ k l. subst (λ (a : ℤ). ((get_dogma_attribute k a).min_attribute_id ≡ pos 0) × ((get_dogma_attribute k a).max_attribute_id ≡ pos 0)) (to_z-of_z {w = w32} (sfits_of c.signed-id.type_inv) ∙ id) (c.is_limited-has_limits.ensures.unlimited k l c.if-not-has_limits.true)) }
 
-pub evaluated-operated-requires : goal.evaluated-operated-requires
-evaluated-operated-requires t c = (omega arith, c.requires.begun)
-
 pub evaluated-returns-then-not-has_limits-2 : goal.evaluated-returns-then-not-has_limits-2
 evaluated-returns-then-not-has_limits-2 t c = let id : c.signed-id.result ≡ to_z w32 (get_or (get_or c.args.rows.now c.args.row []) 1 0) = c.signed-id.ensures.defined in
     record { defined = λ h. evaluating.free_meets h c.args.left (λ k l. subst (λ (a : ℤ). ((get_dogma_attribute k a).min_attribute_id ≡ pos 0) × ((get_dogma_attribute k a).max_attribute_id ≡ pos 0)) (to_z-of_z {w = w32} (sfits_of c.signed-id.type_inv) ∙ id) (c.is_limited-has_limits.ensures.unlimited k l c.if-not-has_limits-2.true)) _ _ _ _ (c.in_ok-got.ensures.defined h) }
 
 pub evaluated-returns-in_err-got : goal.evaluated-returns-in_err-got
 evaluated-returns-in_err-got t c = let p = err_from_is_err_and c.from_residual.result c.from_residual.ensures.1 in record { defined = λ h. rw (p.1, p.2) (limiting.evaluate_refused _ _ _ _ _ _ _ c.args.row _ _ _ _ refl (c.in_err-got.ensures.defined h)) }
-
-pub evaluated-get_dogma_attribute-record-requires : goal.evaluated-get_dogma_attribute-record-requires
-evaluated-get_dogma_attribute-record-requires t c = record { sound_book = c.requires.begun.ready.told.sound }
 
 pub evaluated-limited-requires : goal.evaluated-limited-requires
 evaluated-limited-requires t c = let h = c.requires.begun in let k = c.in_ok-got.ensures.defined h in
@@ -111,9 +90,10 @@ evaluated-limited-requires-2 t c = let least_fits : mag c.get_dogma_attribute-re
     let id : c.signed-id.result ≡ to_z w32 (get_or (get_or c.args.rows.now c.args.row []) 1 0) = c.signed-id.ensures.defined in
     let its = c.get_dogma_attribute-record.ensures.defined ∙ ap (λ (a : ℤ). get_dogma_attribute (book_of c.args.book.now c.args.pairs.now) a) (to_z-of_z {w = w32} (sfits_of c.signed-id.type_inv) ∙ id) in
     let h = c.requires.begun in let k = c.in_ok-got.ensures.defined h in
-    let l = rw (to_z-of_z {w = w32} (sfits_of least_fits)) at (c.in_ok-low.ensures.defined (evaluating.operated_on h c.args.left c.in_ok-got.got.value c.in_ok-got.got.used c.operated.new.values c.operated.new.sources c.operated.new.floats k)) in
-    (omega (arith, evaluating.operated_falls h c.args.left c.in_ok-got.got.value c.in_ok-got.got.used c.operated.new.values c.operated.new.sources c.operated.new.floats k, evaluating.raised-falls h c.args.left c.in_ok-got.got.value c.in_ok-got.got.used c.operated.new.values c.operated.new.sources c.operated.new.floats k (get_or (get_or c.args.rows.now c.args.row []) 0 0) c.get_dogma_attribute-record.result.min_attribute_id refl (ap (λ (r : DogmaAttribute). r.min_attribute_id) its) c.get_dogma_attribute-record.result.max_attribute_id (ap (λ (r : DogmaAttribute). r.max_attribute_id) its) c.in_ok-low.low.value c.in_ok-low.low.used c.limited.new.values c.limited.new.sources c.limited.new.floats l),
-    (evaluating.raised_on h c.args.left c.in_ok-got.got.value c.in_ok-got.got.used c.operated.new.values c.operated.new.sources c.operated.new.floats k (get_or (get_or c.args.rows.now c.args.row []) 0 0) c.get_dogma_attribute-record.result.min_attribute_id refl (ap (λ (r : DogmaAttribute). r.min_attribute_id) its) c.get_dogma_attribute-record.result.max_attribute_id (ap (λ (r : DogmaAttribute). r.max_attribute_id) its) c.in_ok-low.low.value c.in_ok-low.low.used c.limited.new.values c.limited.new.sources c.limited.new.floats l, (evaluating.object_few h, evaluating.raised_good h c.args.left c.in_ok-got.got.value c.in_ok-got.got.used c.operated.new.values c.operated.new.sources c.operated.new.floats k (get_or (get_or c.args.rows.now c.args.row []) 0 0) c.get_dogma_attribute-record.result.min_attribute_id refl (ap (λ (r : DogmaAttribute). r.min_attribute_id) its) c.get_dogma_attribute-record.result.max_attribute_id (ap (λ (r : DogmaAttribute). r.max_attribute_id) its) c.in_ok-low.low.value c.in_ok-low.low.used c.limited.new.values c.limited.new.sources c.limited.new.floats l)))
+    let l = rw (to_z-of_z {w = w32} (sfits_of least_fits)) at (c.in_ok-low.ensures.defined (evaluating.operated_on h c.args.left c.in_ok-got.got.value c.in_ok-got.got.used c.operated.new.values c.operated.new.sources c.operated.new.floats k)) in (
+      omega (arith, evaluating.operated_falls h c.args.left c.in_ok-got.got.value c.in_ok-got.got.used c.operated.new.values c.operated.new.sources c.operated.new.floats k, evaluating.raised-falls h c.args.left c.in_ok-got.got.value c.in_ok-got.got.used c.operated.new.values c.operated.new.sources c.operated.new.floats k (get_or (get_or c.args.rows.now c.args.row []) 0 0) c.get_dogma_attribute-record.result.min_attribute_id refl (ap (λ (r : DogmaAttribute). r.min_attribute_id) its) c.get_dogma_attribute-record.result.max_attribute_id (ap (λ (r : DogmaAttribute). r.max_attribute_id) its) c.in_ok-low.low.value c.in_ok-low.low.used c.limited.new.values c.limited.new.sources c.limited.new.floats l),
+      (evaluating.raised_on h c.args.left c.in_ok-got.got.value c.in_ok-got.got.used c.operated.new.values c.operated.new.sources c.operated.new.floats k (get_or (get_or c.args.rows.now c.args.row []) 0 0) c.get_dogma_attribute-record.result.min_attribute_id refl (ap (λ (r : DogmaAttribute). r.min_attribute_id) its) c.get_dogma_attribute-record.result.max_attribute_id (ap (λ (r : DogmaAttribute). r.max_attribute_id) its) c.in_ok-low.low.value c.in_ok-low.low.used c.limited.new.values c.limited.new.sources c.limited.new.floats l, (evaluating.object_few h, evaluating.raised_good h c.args.left c.in_ok-got.got.value c.in_ok-got.got.used c.operated.new.values c.operated.new.sources c.operated.new.floats k (get_or (get_or c.args.rows.now c.args.row []) 0 0) c.get_dogma_attribute-record.result.min_attribute_id refl (ap (λ (r : DogmaAttribute). r.min_attribute_id) its) c.get_dogma_attribute-record.result.max_attribute_id (ap (λ (r : DogmaAttribute). r.max_attribute_id) its) c.in_ok-low.low.value c.in_ok-low.low.used c.limited.new.values c.limited.new.sources c.limited.new.floats l)),
+    )
 
 pub evaluated-returns : goal.evaluated-returns
 evaluated-returns t c = let most_fits : mag c.get_dogma_attribute-record.result.max_attribute_id < 2 ^ 31 = search rules in
@@ -125,9 +105,6 @@ evaluated-returns t c = let most_fits : mag c.get_dogma_attribute-record.result.
           let l = rw (to_z-of_z {w = w32} (sfits_of least_fits)) at (c.in_ok-low.ensures.defined (evaluating.operated_on h c.args.left c.in_ok-got.got.value c.in_ok-got.got.used c.operated.new.values c.operated.new.sources c.operated.new.floats k)) in
           evaluating.evaluated_meets h c.args.left c.in_ok-got.got.value c.in_ok-got.got.used c.operated.new.values c.operated.new.sources c.operated.new.floats k (get_or (get_or c.args.rows.now c.args.row []) 0 0) c.get_dogma_attribute-record.result.min_attribute_id refl (ap (λ (r : DogmaAttribute). r.min_attribute_id) its) (to_z w32 (of_z w32 c.get_dogma_attribute-record.result.max_attribute_id)) (to_z-of_z {w = w32} (sfits_of most_fits) ∙ ap (λ (r : DogmaAttribute). r.max_attribute_id) its) c.in_ok-low.low.value c.in_ok-low.low.used c.limited.new.values c.limited.new.sources c.limited.new.floats l _ _ _ _ (c.limited-2.ensures.defined (evaluating.raised_on h c.args.left c.in_ok-got.got.value c.in_ok-got.got.used c.operated.new.values c.operated.new.sources c.operated.new.floats k (get_or (get_or c.args.rows.now c.args.row []) 0 0) c.get_dogma_attribute-record.result.min_attribute_id refl (ap (λ (r : DogmaAttribute). r.min_attribute_id) its) (to_z w32 (of_z w32 c.get_dogma_attribute-record.result.max_attribute_id)) (to_z-of_z {w = w32} (sfits_of most_fits) ∙ ap (λ (r : DogmaAttribute). r.max_attribute_id) its) c.in_ok-low.low.value c.in_ok-low.low.used c.limited.new.values c.limited.new.sources c.limited.new.floats l));
     }
-
-pub gathered-is_high-high-requires : goal.gathered-is_high-high-requires
-gathered-is_high-high-requires t c = record { sound = c.requires.begun.0.ready.told.sound }
 
 pub gathered-loop-k-init : goal.gathered-loop-k-init
 gathered-loop-k-init t c = ((omega arith, refl, refl, refl, record { positives = refl; positive_sources = refl; negatives = refl; negative_sources = refl }), λ h. gathering.gathering_starts h c.args.left c.is_high-high.result c.args.part.value _ (c.empty-p.ensures.defined _ _ _ _ c.args.row c.is_high-high.result c.args.operator _ _ _ _ _ _ _ c.requires.begun.1 (gathering.keeping_now h)) (ap (λ (n : SourceCounts). n.used) c.empty-p.ensures.counted))
@@ -143,9 +120,6 @@ gathered-returns-in_err-p t c = let p = err_from_is_err_and c.from_residual.resu
   defined = λ h. let inside : c.loop-k.k < length (row_at h.ready.world c.args.row).entries = omega (arith, c.loop-k-test.true, (h.ready.told.row c.args.row h.within).count) in
       rw (p.1, p.2) (gathering.gathering_refused h (c.loop-k.invariant.1 h) inside _ _ _ _ (c.in_err-p.ensures.defined (gathering.piling h (c.loop-k.invariant.1 h) inside)));
 }
-
-pub gathered-apply-requires : goal.gathered-apply-requires
-gathered-apply-requires t c = record { roomy = gathering.floats_there c.requires.begun.0 (c.loop-k.invariant.1 c.requires.begun.0) }
 
 pub gathered-returns : goal.gathered-returns
 gathered-returns t c = let id : c.signed-id.result ≡ to_z w32 (get_or (get_or c.args.rows.now c.args.row []) 1 0) = c.signed-id.ensures.defined in
@@ -163,15 +137,6 @@ limited-returns-in_err-bound t c = let p = err_from_is_err_and c.from_residual.r
 pub limited-returns : goal.limited-returns
 limited-returns t c = record { defined = λ h. rw c.held_to.ensures.defined (limiting.limit-held _ _ _ _ _ _ c.args.object _ c.args.least c.args.limit c.args.got.value _ (tested-apart {w = w32} c.args.limit (pos 0) c.ranges.limit (search rules) c.if-limit-eq0.false) _ _ c.requires.within.1 (rw (to_z-of_z c.ranges.limit) at (c.in_ok-bound.ensures.defined h))) }
 
-pub operated-overflow_add-end : goal.operated-overflow_add-end
-operated-overflow_add-end t c = end_fits c.requires.begun.ready c.args.row c.requires.begun.within (omega arith)
-
-pub operated-operators_in-marks-requires : goal.operated-operators_in-marks-requires
-operated-operators_in-marks-requires t c = record { inside = operating.end_inside c.requires.begun refl refl }
-
-pub operated-loop-code-init : goal.operated-loop-code-init
-operated-loop-code-init t c = ((omega arith, refl, refl, refl), λ h. operating.operating_starts h c.args.left)
-
 pub operated-gathered-requires : goal.operated-gathered-requires
 operated-gathered-requires t c = let O = c.loop-code.invariant.1 c.requires.begun in
     (omega (arith, falling.operating_falls c.requires.begun O), (operating.busy_now c.requires.begun O c.loop-code-test.true _ c.operator_of-operator.ensures.defined, O.number))
@@ -184,9 +149,6 @@ operated-loop-code-preserved t c = elim c.if-mark-ne0.branch [
   | operated-then-mark-ne0+in_ok-part w ↦ ((omega (arith, c.loop-code-test.true), rw w.values-is (w.gathered.auto.values ∙ c.loop-code.invariant.0.1), rw w.sources-is (w.gathered.auto.sources ∙ c.loop-code.invariant.0.2), rw w.floats-is (w.gathered.auto.floats ∙ c.loop-code.invariant.0.3)), λ h. rw (w.values-is, w.sources-is, w.floats-is, w.part-is) (operating.operating_next h (c.loop-code.invariant.1 h) c.loop-code-test.true _ c.operator_of-operator.ensures.defined _ _ _ _ _ _ (w.in_ok-part.ensures.defined (operating.busy_now h (c.loop-code.invariant.1 h) c.loop-code-test.true _ c.operator_of-operator.ensures.defined))))
   | operated-else-mark-ne0 w ↦ ((omega (arith, c.loop-code-test.true), rw w.values-is c.loop-code.invariant.0.1, rw w.sources-is c.loop-code.invariant.0.2, rw w.floats-is c.loop-code.invariant.0.3), λ h. rw (w.values-is, w.sources-is, w.floats-is, w.part-is) (operating.operating_passed h (c.loop-code.invariant.1 h) c.loop-code-test.true _ c.operator_of-operator.ensures.defined (operating.unmarked_none h (c.loop-code.invariant.1 h) c.loop-code-test.true _ c.operator_of-operator.ensures.defined c.operators_in-marks.result refl refl c.operators_in-marks.ensures.marked w.if-mark-ne0.false)))
 ]
-
-pub operated-returns : goal.operated-returns
-operated-returns t c = record { defined = λ h. operating.operating_ends h (c.loop-code.invariant.1 h) c.loop-code-test.false }
 
 pub resisted-returns-in_err-resisting : goal.resisted-returns-in_err-resisting
 resisted-returns-in_err-resisting t c = let fits : mag c.in-Some.attribute < 2 ^ 31 = search rules in let p = err_from_is_err_and c.from_residual.result c.from_residual.ensures.1 in
@@ -202,9 +164,6 @@ resisted-returns t c = let fits : mag c.in-Some.attribute < 2 ^ 31 = search rule
 pub resisted-returns-in_default-product : goal.resisted-returns-in_default-product
 resisted-returns-in_default-product t c = let fits : mag c.in-Some.attribute < 2 ^ 31 = search rules in
     record { defined = λ h i row o. rw c.in-Some.is (limiting.resist_not_finite _ _ _ _ _ _ i row _ c.args.got.value _ _ _ _ (rw (to_z-of_z {w = w32} (sfits_of fits)) at (c.in_ok-resisting.ensures.defined h)) (sym c.product.ensures.defined ∙ c.in_default-product.is) o) }
-
-pub strength-calculated_value-requires : goal.strength-calculated_value-requires
-strength-calculated_value-requires t c = (omega arith, (c.requires.holding, rw c.in-Effect.is at c.requires.good.sourced))
 
 pub strength-returns-in_err-got-in-Effect : goal.strength-returns-in_err-got-in-Effect
 strength-returns-in_err-got-in-Effect t c = let fits : mag c.in-Effect.attribute_id < 2 ^ 31 = search rules in let p = err_from_is_err_and c.from_residual.result c.from_residual.ensures.1 in
@@ -225,20 +184,8 @@ strength-returns-in_ok-got-in-Effect t c = let fits : mag c.in-Effect.attribute_
           limiting.strength_resisted h.world h.sources₀ h.floats₀ c.calculated_value.new.values c.calculated_value.new.sources c.calculated_value.new.floats i row (value_of h.world c.args.left) c.args.e h.mem _ c.in-Effect.source _ c.in-Effect.attribute_id c.in-Effect.is c.in_ok-got-in-Effect.got.value c.in_ok-got-in-Effect.got.used k _ _ _ _ (c.resisted.ensures.defined (goes_on_from h (value_of h.world c.args.left c.in-Effect.source c.in-Effect.attribute_id h.mem) c.in_ok-got-in-Effect.got.value c.in_ok-got-in-Effect.got.used c.calculated_value.new.values c.calculated_value.new.sources c.calculated_value.new.floats k) i row o);
     }
 
-pub with_entry-overflow_add-at : goal.with_entry-overflow_add-at
-with_entry-overflow_add-at t c = taking.place-fits c.requires.piling (omega arith)
-
-pub with_entry-bounds-entries-at : goal.with_entry-bounds-entries-at
-with_entry-bounds-entries-at t c = (taking.place_inside c.requires.piling).0
-
-pub with_entry-returns-then-code-operator_code : goal.with_entry-returns-then-code-operator_code
-with_entry-returns-then-code-operator_code t c = record {
-  defined = λ h. taking.entry_other h c.args.left (λ e. c.if-code-operator_code.true (e ∙ sym c.operator_code.ensures.defined));
-  eights = c.requires.eights;
-}
-
-pub with_entry-entry_at-e-requires : goal.with_entry-entry_at-e-requires
-with_entry-entry_at-e-requires t c = record { inside = taking.place_inside c.requires.piling }
+pub with_entry-returns-then-code-operator_code-clause-defined : goal.with_entry-returns-then-code-operator_code-clause-defined
+with_entry-returns-then-code-operator_code-clause-defined t c = λ h. taking.entry_other h c.args.left (λ e. c.if-code-operator_code.true (e ∙ sym c.operator_code.ensures.defined))
 
 pub with_entry-is_running-runs-requires : goal.with_entry-is_running-runs-requires
 with_entry-is_running-runs-requires t c = record { sourced = (taking.entry_good c.requires.piling c.args.left _ (c.entry_at-e.ensures.defined _ (taking.entry-held c.requires.piling)) (c.if-code-operator_code.false ∙ c.operator_code.ensures.defined)).sourced }
@@ -257,15 +204,12 @@ pub with_entry-add_entry-requires : goal.with_entry-add_entry-requires
 with_entry-add_entry-requires t c = let h = c.requires.piling in
     record { roomy = taking.entry-lengths h c.args.left _ (c.entry_at-e.ensures.defined _ (taking.entry-held h)) (c.if-code-operator_code.false ∙ c.operator_code.ensures.defined) _ c.is_running-runs.ensures.defined c.if-not-runs-run.false _ _ _ _ _ (c.in_ok-got.ensures.defined h.ready c.args.row (row_at h.ready.world c.args.row) (taking.entry-object h refl)); eights = c.requires.eights }
 
-pub with_entry-returns : goal.with_entry-returns
-with_entry-returns t c = record {
-  defined = λ h. let k = (c.in_ok-got.ensures.defined h.ready c.args.row (row_at h.ready.world c.args.row) (taking.entry-object h refl)) in
-      taking.entry-added h c.args.left _ (c.entry_at-e.ensures.defined _ (taking.entry-held h)) (c.if-code-operator_code.false ∙ c.operator_code.ensures.defined) _ c.is_running-runs.ensures.defined c.if-not-runs-run.false _ _ _ _ _ k _ _ _
-      (c.add_entry.ensures.defined h.ready.world _ h.ready.sources₀ h.ready.floats₀ c.args.row _ c.args.operator h.found _ h.ready.told.recorded (taking.entry-begins h refl) (taking.entry-object h refl) (taking.entry_operator h c.args.left _ (c.entry_at-e.ensures.defined _ (taking.entry-held h)) (c.if-code-operator_code.false ∙ c.operator_code.ensures.defined)) (taking.entry-number h c.args.left _ (c.entry_at-e.ensures.defined _ (taking.entry-held h)) (c.if-code-operator_code.false ∙ c.operator_code.ensures.defined) _ c.is_running-runs.ensures.defined c.if-not-runs-run.false _ _ _ _ _ k)
-      (taking.entry_pile h c.args.left _ (c.entry_at-e.ensures.defined _ (taking.entry-held h)) (c.if-code-operator_code.false ∙ c.operator_code.ensures.defined) _ c.is_running-runs.ensures.defined c.if-not-runs-run.false _ _ _ _ _ k)
-      (taking.entry_room h c.args.left _ (c.entry_at-e.ensures.defined _ (taking.entry-held h)) (c.if-code-operator_code.false ∙ c.operator_code.ensures.defined) _ c.is_running-runs.ensures.defined c.if-not-runs-run.false _ _ _ _ _ k));
-  eights = c.add_entry.ensures.eights;
-}
+pub with_entry-returns-clause-defined : goal.with_entry-returns-clause-defined
+with_entry-returns-clause-defined t c = λ h. let k = (c.in_ok-got.ensures.defined h.ready c.args.row (row_at h.ready.world c.args.row) (taking.entry-object h refl)) in
+    taking.entry-added h c.args.left _ (c.entry_at-e.ensures.defined _ (taking.entry-held h)) (c.if-code-operator_code.false ∙ c.operator_code.ensures.defined) _ c.is_running-runs.ensures.defined c.if-not-runs-run.false _ _ _ _ _ k _ _ _
+    (c.add_entry.ensures.defined h.ready.world _ h.ready.sources₀ h.ready.floats₀ c.args.row _ c.args.operator h.found _ h.ready.told.recorded (taking.entry-begins h refl) (taking.entry-object h refl) (taking.entry_operator h c.args.left _ (c.entry_at-e.ensures.defined _ (taking.entry-held h)) (c.if-code-operator_code.false ∙ c.operator_code.ensures.defined)) (taking.entry-number h c.args.left _ (c.entry_at-e.ensures.defined _ (taking.entry-held h)) (c.if-code-operator_code.false ∙ c.operator_code.ensures.defined) _ c.is_running-runs.ensures.defined c.if-not-runs-run.false _ _ _ _ _ k)
+    (taking.entry_pile h c.args.left _ (c.entry_at-e.ensures.defined _ (taking.entry-held h)) (c.if-code-operator_code.false ∙ c.operator_code.ensures.defined) _ c.is_running-runs.ensures.defined c.if-not-runs-run.false _ _ _ _ _ k)
+    (taking.entry_room h c.args.left _ (c.entry_at-e.ensures.defined _ (taking.entry-held h)) (c.if-code-operator_code.false ∙ c.operator_code.ensures.defined) _ c.is_running-runs.ensures.defined c.if-not-runs-run.false _ _ _ _ _ k))
 
 pub with_entry-returns-in_err-got : goal.with_entry-returns-in_err-got
 with_entry-returns-in_err-got t c = let p = err_from_is_err_and c.from_residual.result c.from_residual.ensures.1 in record {
@@ -273,3 +217,11 @@ with_entry-returns-in_err-got t c = let p = err_from_is_err_and c.from_residual.
   eights = c.requires.eights;
 }
 
+pub gathered-apply-requires : goal.gathered-apply-requires
+gathered-apply-requires t c = record { roomy = gathering.floats_there c.requires.begun.0 (c.loop-k.invariant.1 c.requires.begun.0) }
+
+pub operated-loop-code-init : goal.operated-loop-code-init
+operated-loop-code-init t c = ((omega arith, refl, refl, refl), λ h. operating.operating_starts h c.args.left)
+
+pub operated-returns : goal.operated-returns
+operated-returns t c = record { defined = λ h. operating.operating_ends h (c.loop-code.invariant.1 h) c.loop-code-test.false }

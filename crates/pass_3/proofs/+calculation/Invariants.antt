@@ -1,9 +1,9 @@
 -- The measure of the cycle is on the rows that are not started; the invariants of its loops.
 use Rattle.pass_3.proofs.+calculation.Given as goal
-use Prim.Native.Nat.{◌+◌, ◌*◌, ◌-◌, ◌≤◌, ◌<◌}
-use mathlib.Core.Path.{◌≡◌, refl, sym, ap, subst, ◌∙◌}
+use Prim.Native.Nat.{◌+◌, ◌*◌, ◌≤◌}
+use mathlib.Core.Path.{◌≡◌}
 use mathlib.Core.List.{[], ◌∷◌}
-use lib.ListN.{length, get_or, length-set}
+use lib.ListN.{length}
 use Rattle.laws.specs.Floats.{nans}
 use Rattle.rules.specs.Codes.{operators}
 use Rattle.memory.specs.Holding.{tables, Busy}
