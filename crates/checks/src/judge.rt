@@ -10,8 +10,8 @@ ghost use Rattle.checks.specs.Checked.{run, LaidIf};
 
 use super::verdict::{Verdict, verdict_of};
 use columns::{AttributeRow, EntryRow, States, TablePairs};
-use given::first_bad;
 use given::lines::LineRow;
+use given::{ReadColumns, first_bad};
 use loops::loop_of;
 use needs::NeedColumns;
 use order::WorkRow;
@@ -42,34 +42,33 @@ pub fn judged(
         result ≡ checked_in (world_of k f 0) (map line_of listing.now) }
     ensures laid { LaidIf result n listing.now values.old values.new }
 {
-    let stretches = set_stretches(&rows[..n]);
+    let rows = &rows[..n];
+    let stretches = set_stretches(rows);
     let limits = set_limits(sheet, pairs);
-    let columns = NeedColumns {
+    let needs = NeedColumns {
         book: sheet,
         pairs,
         stretches: &stretches,
         limits: &limits,
-        rows: &rows[..n],
+        rows,
         entries,
     };
-    let looped = loop_of(work, columns);
+    let looped = loop_of(work, needs);
     match looped {
         Some(object) => Verdict::Loop(object),
         None => {
-            let bad = first_bad(
-                &mut values[..n],
-                sheet,
+            let columns = ReadColumns {
+                book: sheet,
                 pairs,
                 states,
-                &stretches,
-                &limits,
-                &rows[..n],
-                &bases[..n],
+                stretches: &stretches,
+                limits: &limits,
+                rows,
+                bases: &bases[..n],
                 entries,
                 entry_values,
-                listing,
-                recording,
-            );
+            };
+            let bad = first_bad(&mut values[..n], &columns, listing, recording);
             verdict_of(bad)
         }
     }

@@ -1,6 +1,7 @@
 -- The first bad line, by its key or by its value.
 use Rattle.laws.specs.Options.{option_of}
-use Rattle.std.specs.Prelude.{None, Option, Some, ℕ}
+use Rattle.std.specs.Prelude.{None, Some}
+use Rattle.std.specs.Prelude as code
 use Prim.Native.Nat.{ℕ, zero, suc, ◌≤◌}
 use native.Mathlib.Omega.{arith}
 use mathlib.Core.Path.{◌≡◌, refl, sym, ap, subst, ◌∙◌}
@@ -58,7 +59,7 @@ values_finite (l ∷ ls) zero x e = only-finite (of_bits binary64 l.bits) x e
 values_finite (l ∷ ls) (suc j) x e = values_finite ls j x e
 
 module _ {t : Tables} {v : List Float} (h : Awaits t v) (ls : List (List ℕ)) where
-  abbrev Keyed : Option ℕ → Type 0
+  abbrev Keyed : code.Option ℕ → Type 0
   Keyed r = option_of r ≡ first_other 0 (map key_in ls) (map key_of h.world.rows)
 
   other_key : first_other 0 (map (λ (l : Line). l.key) (map line_of ls)) (map key_of h.world.rows) ≡ first_other 0 (map key_in ls) (map key_of h.world.rows)
@@ -98,6 +99,6 @@ module _ {t : Tables} {v : List Float} (h : Awaits t v) (ls : List (List ℕ)) w
       pub value_bad : {o : Option ℕ} → o ≡ first_wrong h.world (values_of (map line_of ls)) 0 h.world.rows → o ≡ first_bad h.world (map line_of ls)
       value_bad q = q ∙ sym (bad_key none e)
 
-      pub all_laid : (r : Option ℕ) (v'' : List Float) → KeptUnlessAs r v' v'' → LaidUnless r ls v''
+      pub all_laid : (r : code.Option ℕ) (v'' : List Float) → KeptUnlessAs r v' v'' → LaidUnless r ls v''
       all_laid (Some i) v'' k = tt
       all_laid None v'' k = k ∙ whole

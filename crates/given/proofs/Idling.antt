@@ -41,7 +41,8 @@ use Rattle.memory.proofs.Nanned.{shown_length as shown-long}
 use Rattle.memory.proofs.Readings.{at_row, nowhere}
 use Rattle.settled.specs.Given.{listed_reader, idle, idles}
 use Rattle.settled.proofs.Accepted.{listed_is, listed_default}
-use Rattle.given.specs.Judging.{Judged, looks, float_in, is_number, held_up, is_ok}
+use Rattle.std.specs.Option.{is_some}
+use Rattle.given.specs.Judging.{Judged, looks, float_in, held_up, is_ok}
 use Rattle.given.proofs.Beside.{listed_none}
 
 -- ---- a value as it is listed
@@ -92,13 +93,13 @@ module _ {t : Tables} {v : List Float} (h : Judged t v) (o : ℕ) (a : ℤ) wher
 
 -- ---- no number times anything, and anything times no number
 
-nan-times : (x : Float) → is_number (times nan x) ≡ false
+nan-times : (x : Float) → is_some (times nan x) ≡ false
 unfolding mul step
 nan-times nan = refl
 nan-times (inf s) = refl
 nan-times (fin s m e) = refl
 
-times-nan : (x : Float) → is_number (times x nan) ≡ false
+times-nan : (x : Float) → is_some (times x nan) ≡ false
 unfolding mul step
 times-nan nan = refl
 times-nan (inf s) = refl
@@ -106,10 +107,6 @@ times-nan (fin s m e) = refl
 
 nan-apart : eq nan nan ≡ false
 nan-apart = eq_self nan
-
--- what a step says, by its product with the resistance
-pub is_held : (s s' : Step) (x y z : Float) → s ≡ times x y → y ≡ z → s ≡ s' → is_number s' ≡ is_number (times x z)
-is_held s s' x y z e p q = ap is_number (sym q ∙ e ∙ ap (times x) p)
 
 -- ---- an entry that does not run
 
@@ -126,12 +123,12 @@ module _ {t : Tables} {v : List Float} (h : Judged t v) (i : ℕ) (row : Row) wh
   unfolding number_at resisted
   read_held o a res = by (listed_reader w h.values o a) refl res
     where
-      stepped : (s : Step) → is_number s ≡ is_ok {A = Unit {0}} ((number_at row.object s >>= λ z. ok (record { value = z; mem = m })) >>= λ (q : Read). ok tt)
+      stepped : (s : Step) → is_some s ≡ is_ok {A = Unit {0}} ((number_at row.object s >>= λ z. ok (record { value = z; mem = m })) >>= λ (q : Read). ok tt)
       stepped (Some x) = refl
       stepped None = refl
 
       against : (u : Float) (y : Res Float)
-          → is_number (times u (float_in y)) ≡ is_ok {A = Unit {0}} (((y >>= λ z. ok (record { value = z; mem = m })) >>= λ (q : Read). number_at row.object (times u q.value) >>= λ z. ok (record { value = z; mem = q.mem })) >>= λ (q : Read). ok tt)
+          → is_some (times u (float_in y)) ≡ is_ok {A = Unit {0}} (((y >>= λ z. ok (record { value = z; mem = m })) >>= λ (q : Read). number_at row.object (times u q.value) >>= λ z. ok (record { value = z; mem = q.mem })) >>= λ (q : Read). ok tt)
       against u (ok z) = stepped (times u z)
       against u (refused y) = times-nan u
 
@@ -225,13 +222,7 @@ module _ {t : Tables} {v : List Float} (h : Judged t v) (i : ℕ) (inside : i < 
   pub counted : count ≡ length (row_at h.world i).entries
   counted = b ∙ (h.told.row i within).count
 
-  pub placed-inside : first + count ≤ length t.entries
-  placed-inside = let r = h.told.row i within in omega (arith, a, b, r.first, r.count, r.inside.0)
-
   module _ (k : ℕ) (l : k < count) where
-    pub place_inside : (first + k < length t.entries) × (first + k < length t.values)
-    place_inside = let r = h.told.row i within in (omega (arith, l, a, b, r.first, r.count, r.inside.0), omega (arith, l, a, b, r.first, r.count, r.inside.1))
-
     pub its_entry : EntryHeld (get_or (row_at h.world i).entries k no_entry) (get_or t.entries (first + k) []) (get_or t.values (first + k) nan)
     its_entry =
         subst (λ (n : ℕ). EntryHeld (get_or (row_at h.world i).entries k no_entry) (get_or t.entries (n + k) []) (get_or t.values (n + k) nan)) (sym (a ∙ (h.told.row i within).first))

@@ -8,7 +8,7 @@ use mathlib.Core.Bool.{true, false}
 use mathlib.Core.List.{List, [], ◌∷◌, map}
 use mathlib.Core.Option.{Option, none, some}
 use lib.Dec.{T}
-use lib.Ieee.{Float, nan, eq}
+use lib.Ieee.{Float, nan, eq, binary64, of_bits}
 use lib.ListN.{length, get_or, set, length-set}
 use lib.Seq.{get_or-set_same, get_or-set_other}
 use Rattle.laws.specs.Floats.{finite}
@@ -32,6 +32,11 @@ use Rattle.values.proofs.Settling.{settled_meets}
 use Rattle.values.proofs.PreparedBlankLaws.{own_none, held-at-first}
 use Rattle.given.specs.Judging.{off, Judged, calculated_from, GotIs, RestoredAs}
 use Rattle.given.proofs.Beside.{own_calculation, taken_out, both, neither, put_back}
+
+-- the bits of `f64::NAN`
+pub nan_bits : of_bits binary64 9221120237041090560 ≡ nan
+unfolding of_bits
+nan_bits = refl
 
 -- a value taken out, in the column
 set_none : (vs : List (Option Float)) (i : ℕ) → set (value_column vs) i nan ≡ value_column (set vs i none)

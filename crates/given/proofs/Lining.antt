@@ -43,17 +43,6 @@ same_id x a back s =
     same_test (eqb x (of_z w32 a)) (eq_z (to_z w32 x) a) (λ e. eq_z_same (to_z w32 x) a (ap (to_z w32) (eqb-true x (of_z w32 a) e) ∙ to_z-of_z s))
     (λ e. eq-eqb x (of_z w32 a) (sym back ∙ ap (of_z w32) (eq_z_true (to_z w32 x) a e)))
 
--- what the code's tests say of a key
-pub apart_keys : (a b : ℕ) (t : Bool) → (a ≡ b → ⊥) → false ≡ eqb a b && t
-apart_keys a b t n = sym (ap (λ (s : Bool). s && t) (by (eqb a b) refl))
-  where
-    by : (s : Bool) → eqb a b ≡ s → s ≡ false
-    by true e = absurd (n (eqb-true a b e))
-    by false e = refl
-
-pub alike_keys : (a b x y p q : ℕ) → a ≡ b → p ≡ x → q ≡ y → eqb p q ≡ eqb a b && eqb x y
-alike_keys a b x y p q e g h = ap₂ eqb g h ∙ ap (λ (s : Bool). s && eqb x y) (sym (eq-eqb a b e))
-
 module _ {rs : List Row} {c : List (List ℕ)} (H : RowsHeld rs c) (ls : List (List ℕ)) where
   abbrev keys : List Key
   keys = map key_in ls

@@ -14,6 +14,7 @@ use lib.Ieee.Bits.{of_bits-to_bits}
 use lib.ListN.{length, get_or, drop}
 use Rattle.laws.specs.Floats.{finite}
 use Rattle.laws.proofs.Bools.{both_ways, not-not, same_test, and_false_right, and_true_right}
+use Rattle.laws.proofs.Nans.{nan?, eq_self}
 use Rattle.laws.proofs.Scans.{drop-step, drop_end}
 use Rattle.rules.specs.Answer.{Res, ok, refused, ◌>>=◌}
 use Rattle.rules.specs.Dispatch.{Row}
@@ -58,6 +59,16 @@ pub kept_true : (b : Bool) (v v' : List Float) → not b ≡ false → KeptIfAs 
 kept_true true v v' z k = k
 kept_true false v v' z k = both_ways refl z
 
+-- the code's test for a number
+pub not_nan : (x : Float) → eq x x ≡ not (is_nan x)
+unfolding is_nan
+not_nan x = eq_self x ∙ ap not (same x)
+  where
+    same : (x : Float) → nan? x ≡ is_nan x
+    same nan = refl
+    same (inf s) = refl
+    same (fin s m e) = refl
+
 -- the same column under another name
 abbrev pub with_column : {t : Tables} {v v' : List Float} → Judged t v → v' ≡ v → Judged t v'
 with_column h e = record { world = h.world; values = h.values; told = h.told; free = h.free; column = e ∙ h.column; numbers = h.numbers; long = h.long }
@@ -78,23 +89,18 @@ module _ {t : Tables} {v : List Float} (h : Judged t v) (i : ℕ) where
   shown : here ≡ get_or (value_column h.values) i nan
   shown = ap (λ (l : List Float). get_or l i nan) h.column
 
-  is_self : ne here here ≡ false → eq here here ≡ true
-  unfolding ne
-  is_self e = sym (not-not (eq here here)) ∙ ap not e
+  self_test : {b : Bool} → is_nan here ≡ b → eq here here ≡ not b
+  self_test e = not_nan here ∙ ap not e
 
-  not_self : ne here here ≡ true → eq here here ≡ false
-  unfolding ne
-  not_self e = sym (not-not (eq here here)) ∙ ap not e
+  pub listed_here : is_nan (get_or v i nan) ≡ false → get_or h.values i none ≡ some (get_or v i nan)
+  listed_here e = valued h.values i (sym (ap (λ (x : Float). eq x x) shown) ∙ self_test e) ∙ ap some (sym shown)
 
-  pub listed_here : ne (get_or v i nan) (get_or v i nan) ≡ false → get_or h.values i none ≡ some (get_or v i nan)
-  listed_here e = valued h.values i (sym (ap (λ (x : Float). eq x x) shown) ∙ is_self e) ∙ ap some (sym shown)
-
-  pub listed_number : ne (get_or v i nan) (get_or v i nan) ≡ false → T (finite (get_or v i nan))
+  pub listed_number : is_nan (get_or v i nan) ≡ false → T (finite (get_or v i nan))
   listed_number e = h.numbers i (get_or v i nan) (listed_here e)
 
   -- a line without a value
-  pub not_listed : ne (get_or v i nan) (get_or v i nan) ≡ true → false ≡ is_given (given h.world h.values i (row_at h.world i)) (get_or h.values i none)
-  not_listed e = no_value (given h.world h.values i (row_at h.world i)) ∙ ap (is_given (given h.world h.values i (row_at h.world i))) (sym (unvalued h.values i h.numbers (sym (ap (λ (x : Float). eq x x) shown) ∙ not_self e)))
+  pub not_listed : is_nan (get_or v i nan) ≡ true → false ≡ is_given (given h.world h.values i (row_at h.world i)) (get_or h.values i none)
+  not_listed e = no_value (given h.world h.values i (row_at h.world i)) ∙ ap (is_given (given h.world h.values i (row_at h.world i))) (sym (unvalued h.values i h.numbers (sym (ap (λ (x : Float). eq x x) shown) ∙ self_test e)))
 
   -- the rules give nothing
   pub nothing-given : (z : Refusal) → GotIs (calculated_from h.world h.values i) (Err z) → false ≡ is_given (given h.world h.values i (row_at h.world i)) (get_or h.values i none)
@@ -110,7 +116,7 @@ module _ {t : Tables} {v : List Float} (h : Judged t v) (i : ℕ) where
   abbrev quiet : Res (Unit {0})
   quiet = idles (unrecorded h.world) (looks h.world h.values) i (row_at h.world i) (row_at h.world i).entries (blank h.world.rows)
 
-  module _ (y : Float) (used : ℕ) (k : GotIs (calculated_from h.world h.values i) (Ok (record { value = y; used = used }))) (e : ne (get_or v i nan) (get_or v i nan) ≡ false) where
+  module _ (y : Float) (used : ℕ) (k : GotIs (calculated_from h.world h.values i) (Ok (record { value = y; used = used }))) (e : is_nan (get_or v i nan) ≡ false) where
     by_parts : is_given (given h.world h.values i (row_at h.world i)) (get_or h.values i none) ≡ is_ok (where_recorded h.world.recording quiet) && same_float y here
     unfolding given
     by_parts = ap (is_given (given h.world h.values i (row_at h.world i))) (listed_here e) ∙ by (calculated_from h.world h.values i) (where_recorded h.world.recording quiet) k

@@ -2,6 +2,7 @@
 use Rattle.std.specs.Prelude.{ℕ, ◌+◌, ◌*◌, ◌≡◌, Bool, true, false, List, [], map, T, Float, length, get_or, None, Some, Result, Ok, Err}
 use Rattle.std.proofs.Math.Option
 use Rattle.std.proofs.Math.Option.{Option}
+use Rattle.std.specs.Option.{is_some}
 use Rattle.std.specs.Float.{nan, binary64}
 use Rattle.std.specs.Float.Ieee.{eq, of_bits}
 use Rattle.columns.specs.Lending.{Column, LentColumn}
@@ -13,15 +14,15 @@ use Rattle.rules.specs.Outcome.{blank}
 use Rattle.rules.specs.Value.{World, Read, Reader, calculate}
 use Rattle.rules.specs.Fresh.{unrecorded, forgetful}
 use Rattle.rules.specs.Ids.{OptionalId}
-use Rattle.rules.specs.Number.{Step}
 use Rattle.promises.specs.NoMemory.{NoLoop}
 use Rattle.sources.specs.declared.Recording.{Recording}
-use Rattle.memory.specs.Holding.{Tables, Tells}
+use Rattle.memory.specs.Holding.{Tables, tables, Tells}
 use Rattle.memory.specs.Memory.{value_column, AllFinite}
 use Rattle.memory.specs.Steps.{row_at}
 use Rattle.memory.specs.declared.apply.Got.{Got}
 use Rattle.std.specs.Prelude as code
 use Rattle.rules.specs.Dispatch.{Key}
+use Rattle.given.specs.declared.ReadColumns.{ReadColumns}
 use Rattle.settled.specs.Given.{listed_reader}
 use Rattle.settled.specs.Lines.{line_of, finite_only}
 
@@ -38,6 +39,10 @@ abbrev pub shown_in : List ℕ → Float
 shown_in r = shown_bits (get_or r 2 0) (get_or r 3 0)
 
 -- ---- the columns
+
+-- what the code is lent
+abbrev pub tables_of : ReadColumns → Tables
+tables_of c = tables c.book.now c.pairs.now c.states.now c.stretches.now c.limits.now c.rows.now c.bases.now c.entries.now c.entry_values.now
 
 -- nothing is recorded, and list 5 has no room
 abbrev pub off : Recording
@@ -108,14 +113,10 @@ abbrev pub float_in : Res Float → Float
 float_in (ok v) = v
 float_in (refused y) = nan
 
-abbrev pub is_number : Step → Bool
-is_number (Some x) = true
-is_number None = false
-
 -- a strength that is there stands against the ship's resistance, where one is named
 abbrev pub held_up : World → List (Option Float) → OptionalId → Float → Bool
 held_up w vs None v = eq v v
-held_up w vs (Some a) v = is_number (times v (float_in (listed_reader w vs 0 a)))
+held_up w vs (Some a) v = is_some (times v (float_in (listed_reader w vs 0 a)))
 
 abbrev pub is_ok : {A : Type 0} → Res A → Bool
 is_ok (ok a) = true

@@ -13,7 +13,7 @@ ghost use Rattle.settled.specs.Lines.{first_other};
 ghost use Rattle.given.specs.Judging.{shown_bits, shown_in, key_in};
 
 use columns::{AttributeRow, ROW_ATTRIBUTE, ROW_OBJECT};
-use numbers::integers::signed;
+use info::little_endian::float_of;
 use numbers::is_finite;
 
 // A line: object, attribute, and the value's 64 bits as two halves.
@@ -27,33 +27,13 @@ pub const LINE_LOW: usize = 2;
 
 pub const LINE_HIGH: usize = 3;
 
-// 32 bits as 64.
-fn wider(x: u32) -> u64
-    ensures the_same { (result ≡ x) × (result < 2 ^ 32) }
-{
-    x as u64
-}
-
-// The float whose 64 bits these are; every NaN's bits give the one NaN.
-fn float_of(n: u64) -> f64
-    ensures defined { result ≡ of_bits binary64 n }
-{
-    if 0x7ff0_0000_0000_0000 < n % 0x8000_0000_0000_0000 {
-        return 0.0 / 0.0;
-    }
-    f64::from_bits(n)
-}
-
 // A line's value by the halves of its bits; NaN where they are no finite number.
 fn listed_float(low: u32, high: u32) -> f64
     ensures defined { result ≡ shown_bits low high }
 {
-    let bits = wider(low) + 0x1_0000_0000 * wider(high);
+    let bits = u64::from(low) + 0x1_0000_0000 * u64::from(high);
     let x = float_of(bits);
-    if is_finite(x) {
-        return x;
-    }
-    0.0 / 0.0
+    if is_finite(x) { x } else { f64::NAN }
 }
 
 // The listed values, one after another into the column.
@@ -61,11 +41,8 @@ pub fn set_listed(values: &mut [f64], listing: &[LineRow])
     requires inside { length listing.now ≤ length values.old }
     ensures laid { Col shown_in listing.now values.old values.new }
 {
-    let n = listing.len();
-    for i in 0..n {
-        let line = listing[i];
-        let x = listed_float(line[LINE_LOW], line[LINE_HIGH]);
-        values[i] = x;
+    for (i, line) in listing.iter().enumerate() {
+        values[i] = listed_float(line[LINE_LOW], line[LINE_HIGH]);
     }
 }
 
@@ -74,13 +51,7 @@ fn has_key(row: AttributeRow, line: LineRow) -> bool
     ensures defined { result ≡ eqb (get_or line 0 0) (get_or row 0 0) && eqb (get_or line 1 0) (get_or row 1 0) }
     ensures and_back { of_z w32 (to_z w32 (get_or line 1 0)) ≡ get_or line 1 0 }
 {
-    let listed = signed(line[LINE_ATTRIBUTE]);
-    let own = signed(row[ROW_ATTRIBUTE]);
-    let object = line[LINE_OBJECT];
-    if object != row[ROW_OBJECT] {
-        return false;
-    }
-    listed == own
+    line[LINE_OBJECT] == row[ROW_OBJECT] && line[LINE_ATTRIBUTE] == row[ROW_ATTRIBUTE]
 }
 
 // The first place where the lines' keys are not the rows', or where one of the two has ended.
@@ -88,21 +59,16 @@ pub fn first_other(rows: &[AttributeRow], listing: &[LineRow]) -> Option<usize>
     ensures defined { (rs : List Row) → RowsHeld rs rows.now
         → option_of result ≡ first_other 0 (map key_in listing.now) (map key_of rs) }
 {
-    let n = rows.len();
-    let lines = listing.len();
-    for i in 0..n {
-        if lines <= i {
+    for (i, row) in rows.iter().enumerate() {
+        if listing.len() <= i {
             return Some(i);
         }
-        let row = rows[i];
-        let line = listing[i];
-        let same = has_key(row, line);
-        if !same {
+        if !has_key(*row, listing[i]) {
             return Some(i);
         }
     }
-    if n < lines {
-        return Some(n);
+    if rows.len() < listing.len() {
+        return Some(rows.len());
     }
     None
 }

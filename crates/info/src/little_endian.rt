@@ -37,7 +37,7 @@ fn u64_at(b: &[u8], at: usize) -> u64
 }
 
 // The float whose 64 bits these are; every NaN's bits give the one NaN.
-fn float_of(n: u64) -> f64
+pub fn float_of(n: u64) -> f64
     ensures defined { result ≡ of_bits binary64 n }
 {
     if 0x7ff0_0000_0000_0000 < n % 0x8000_0000_0000_0000 {
