@@ -3,7 +3,7 @@ ghost use Rattle.std.specs.Prelude.{◌≡◌, true, [], ◌≤◌, length};
 ghost use Rattle.rules.specs.Shape.{attributes_good, effects_good, type_effects_good, buff_collections_good, book_bad};
 ghost use Rattle.shape.specs.Shaped.{shaped_of};
 ghost use Rattle.tables.specs.Tables.{book_fits, book_lent, book_tables_bad};
-ghost use Rattle.tables.specs.At.{book_now, book_at};
+ghost use Rattle.tables.specs.At.{book_in};
 ghost use Rattle.lent.specs.Alone.{attributes_alone, effects_alone, type_effects_alone, buff_collections_alone};
 
 use super::records::{attribute, buff_collection, effect, type_effect};
@@ -12,6 +12,7 @@ use columns::{
 };
 use shape::BadTable;
 use shape::book_tables::{attribute_good, buff_collection_good, effect_good, type_effect_good};
+use tables::BookTables;
 
 // Whether table 1 is good.
 fn attributes_good(attributes: &[AttributeFields], defaults: &[f64]) -> bool
@@ -82,78 +83,43 @@ fn buff_collections_good(
 }
 
 // Whether columns are alike and counts are allowed.
-pub fn book_fits(
-    attributes: &[AttributeFields],
-    defaults: &[f64],
-    effects: &[EffectFields],
-    modifiers: &[ModifierFields],
-    type_effects: &[TypeEffectFields],
-    buff_collections: &[BuffCollectionFields],
-) -> bool
-    ensures defined { result ≡ book_fits (book_at attributes defaults effects modifiers type_effects buff_collections []) }
+pub fn book_fits(book: BookTables) -> bool
+    ensures defined { result ≡ book_fits (book_in book.entry []) }
 {
-    let alike = attributes.len() == defaults.len();
-    let counted = (attributes.len() <= 2048)
-        & ((effects.len() <= 1024)
-            & ((modifiers.len() <= 4096)
-                & ((type_effects.len() <= 4096) & (buff_collections.len() <= 64))));
+    let alike = book.attributes.len() == book.defaults.len();
+    let counted = (book.attributes.len() <= 2048)
+        & ((book.effects.len() <= 1024)
+            & ((book.modifiers.len() <= 4096)
+                & ((book.type_effects.len() <= 4096) & (book.buff_collections.len() <= 64))));
     alike & counted
 }
 
 // The first bad table of a book whose header fits.
-pub fn book_bad(
-    attributes: &[AttributeFields],
-    defaults: &[f64],
-    effects: &[EffectFields],
-    modifiers: &[ModifierFields],
-    type_effects: &[TypeEffectFields],
-    buff_collections: &[BuffCollectionFields],
-) -> Result<(), BadTable>
-    requires fits { book_fits (book_now attributes defaults effects modifiers type_effects buff_collections []) ≡ true }
-    ensures defined { result ≡ shaped_of (book_bad (book_lent (book_at attributes defaults effects modifiers type_effects buff_collections []))) }
+pub fn book_bad(book: BookTables) -> Result<(), BadTable>
+    requires fits { book_fits (book_in book []) ≡ true }
+    ensures defined { result ≡ shaped_of (book_bad (book_lent (book_in book.entry []))) }
 {
-    if !attributes_good(attributes, defaults) {
+    if !attributes_good(book.attributes, book.defaults) {
         return Err(BadTable { table: 1 });
     }
-    if !effects_good(effects, modifiers) {
+    if !effects_good(book.effects, book.modifiers) {
         return Err(BadTable { table: 2 });
     }
-    if !type_effects_good(type_effects) {
+    if !type_effects_good(book.type_effects) {
         return Err(BadTable { table: 4 });
     }
-    if !buff_collections_good(buff_collections, modifiers) {
+    if !buff_collections_good(book.buff_collections, book.modifiers) {
         return Err(BadTable { table: 5 });
     }
     Ok(())
 }
 
 // The first bad table of a book, 0 for its header.
-pub fn book_shape(
-    attributes: &[AttributeFields],
-    defaults: &[f64],
-    effects: &[EffectFields],
-    modifiers: &[ModifierFields],
-    type_effects: &[TypeEffectFields],
-    buff_collections: &[BuffCollectionFields],
-) -> Result<(), BadTable>
-    ensures defined { result ≡ shaped_of (book_tables_bad (book_at attributes defaults effects modifiers type_effects buff_collections [])) }
+pub fn book_shape(book: BookTables) -> Result<(), BadTable>
+    ensures defined { result ≡ shaped_of (book_tables_bad (book_in book.entry [])) }
 {
-    if !book_fits(
-        attributes,
-        defaults,
-        effects,
-        modifiers,
-        type_effects,
-        buff_collections,
-    ) {
+    if !book_fits(book) {
         return Err(BadTable { table: 0 });
     }
-    book_bad(
-        attributes,
-        defaults,
-        effects,
-        modifiers,
-        type_effects,
-        buff_collections,
-    )
+    book_bad(book)
 }

@@ -6,7 +6,7 @@ ghost use Rattle.rules.specs.Shape.{objects_good, asks_good, fit_bad};
 ghost use Rattle.shape.specs.Ranges.{range_ascends};
 ghost use Rattle.shape.specs.Shaped.{shaped_of};
 ghost use Rattle.tables.specs.Tables.{fit_alike, counted, fit_fits, fit_lent, fit_tables_bad};
-ghost use Rattle.tables.specs.At.{fit_now, fit_at};
+ghost use Rattle.tables.specs.At.{fit_in};
 ghost use Rattle.lent.specs.Alone.{objects_alone, bases_alone, asks_alone};
 
 use super::records::{ask, base_attribute, object};
@@ -16,6 +16,7 @@ use numbers::is_finite;
 use rules::{CHAR, SHIP};
 use shape::BadTable;
 use shape::fit_tables::{base_attribute_stands, object_good, stands};
+use tables::FitTables;
 
 // Whether table 6 is good.
 fn objects_good(objects: &[ObjectFields], base_attributes: &[u32], ids: &[u32]) -> bool
@@ -98,96 +99,51 @@ fn asks_good(asks: &[AskFields], objects: &[ObjectFields]) -> bool
 }
 
 // Whether columns are alike, counts are allowed, and depth and recording in their ranges.
-pub fn fit_fits(
-    objects: &[ObjectFields],
-    base_attributes: &[u32],
-    base_values: &[f64],
-    ids: &[u32],
-    buffs: &[u32],
-    buff_values: &[f64],
-    asks: &[AskFields],
-    depth: u32,
-    recording: u32,
-) -> bool
-    ensures defined { result ≡ fit_fits (fit_at objects base_attributes base_values ids buffs buff_values asks (depth ∷ recording ∷ [])) }
+pub fn fit_fits(fit: FitTables, depth: u32, recording: u32) -> bool
+    ensures defined { result ≡ fit_fits (fit_in fit.entry (depth ∷ recording ∷ [])) }
 {
-    let alike = (base_attributes.len() == base_values.len()) & (buffs.len() == buff_values.len());
-    let counted = (objects.len() <= 1024)
-        & ((base_attributes.len() <= 16384)
-            & ((ids.len() <= 4096) & ((buffs.len() <= 64) & (asks.len() <= 1024))));
+    let alike = (fit.base_attributes.len() == fit.base_values.len())
+        & (fit.buffs.len() == fit.buff_values.len());
+    let counted = (fit.objects.len() <= 1024)
+        & ((fit.base_attributes.len() <= 16384)
+            & ((fit.ids.len() <= 4096) & ((fit.buffs.len() <= 64) & (fit.asks.len() <= 1024))));
     alike & counted & (1 <= depth) & (depth <= 256) & (recording <= 1)
 }
 
 // The first bad table of a fit whose header fits.
-pub fn fit_bad(
-    objects: &[ObjectFields],
-    base_attributes: &[u32],
-    base_values: &[f64],
-    ids: &[u32],
-    buffs: &[u32],
-    buff_values: &[f64],
-    asks: &[AskFields],
-) -> Result<(), BadTable>
-    requires alike { fit_alike (fit_now objects base_attributes base_values ids buffs buff_values asks []) ≡ true }
-    requires few { length objects.now ≤ 1024 }
-    ensures defined { result ≡ shaped_of (fit_bad (fit_lent (fit_at objects base_attributes base_values ids buffs buff_values asks []))) }
+pub fn fit_bad(fit: FitTables) -> Result<(), BadTable>
+    requires alike { fit_alike (fit_in fit []) ≡ true }
+    requires few { length fit.objects.now ≤ 1024 }
+    ensures defined { result ≡ shaped_of (fit_bad (fit_lent (fit_in fit.entry []))) }
 {
-    if !objects_good(objects, base_attributes, ids) {
+    if !objects_good(fit.objects, fit.base_attributes, fit.ids) {
         return Err(BadTable { table: 6 });
     }
-    if !all_finite(base_values) {
+    if !all_finite(fit.base_values) {
         return Err(BadTable { table: 7 });
     }
-    if !bases_ascend(objects, base_attributes, base_values, ids) {
+    if !bases_ascend(fit.objects, fit.base_attributes, fit.base_values, fit.ids) {
         return Err(BadTable { table: 7 });
     }
-    if !all_finite(buff_values) {
+    if !all_finite(fit.buff_values) {
         return Err(BadTable { table: 9 });
     }
-    if !asks_good(asks, objects) {
+    if !asks_good(fit.asks, fit.objects) {
         return Err(BadTable { table: 10 });
     }
     Ok(())
 }
 
 // The first bad table of a fit plus 20, 20 for its header.
-pub fn fit_shape(
-    objects: &[ObjectFields],
-    base_attributes: &[u32],
-    base_values: &[f64],
-    ids: &[u32],
-    buffs: &[u32],
-    buff_values: &[f64],
-    asks: &[AskFields],
-    header: &FitNumbers,
-) -> Result<(), BadTable>
-    ensures defined { result ≡ shaped_of (fit_tables_bad (fit_at objects base_attributes base_values ids buffs buff_values asks header.now)) }
+pub fn fit_shape(fit: FitTables, header: &FitNumbers) -> Result<(), BadTable>
+    ensures defined { result ≡ shaped_of (fit_tables_bad (fit_in fit.entry header.now)) }
 {
     let depth = header[FIT_DEPTH];
     let recording = header[FIT_RECORDING];
-    if !fit_fits(
-        objects,
-        base_attributes,
-        base_values,
-        ids,
-        buffs,
-        buff_values,
-        asks,
-        depth,
-        recording,
-    ) {
+    if !fit_fits(fit, depth, recording) {
         return Err(BadTable { table: 20 });
     }
-    fit_bad(
-        objects,
-        base_attributes,
-        base_values,
-        ids,
-        buffs,
-        buff_values,
-        asks,
-    )
-    .map_err(|bad| BadTable {
+    fit_bad(fit).map_err(|bad| BadTable {
         table: bad.table + 20,
     })
 }

@@ -1,5 +1,5 @@
 -- Words and records put one after another: one more.
-use Prim.Native.Nat.{ℕ, zero, suc, ◌+◌, ◌-◌, ◌*◌, ◌/◌, ◌%◌, ◌^◌, ◌≤◌, ◌<◌}
+use Prim.Native.Nat.{ℕ, zero, suc, ◌+◌, ◌*◌, ◌/◌, ◌%◌, ◌^◌, ◌≤◌, ◌<◌}
 use native.Mathlib.Nat.{add-zero, zero-add, add_assoc, mul-zero, mul-suc, mul-le-mul_left}
 use native.Mathlib.Numerals.{add-one}
 use native.Mathlib.Omega.{arith}
@@ -7,18 +7,17 @@ use mathlib.Core.Path.{◌≡◌, refl, sym, ap, ◌∙◌, subst}
 use mathlib.Core.List.{List, [], ◌∷◌, ◌++◌, map, append-nil, append_assoc}
 use lib.ListN.{length, take, drop, get_or, length-drop}
 use Rattle.std.specs.Int.{to_le_bytes}
-use lib.Seq.{sets, sets-eq, take_all, length-take-le}
+use lib.Seq.{take_all, length-take-le}
 use mathlib.Core.Bool.{true, not}
 use lib.Dec.{T}
 use lib.Ieee.{Float, nan, inf, fin, binary64, to_bits, is_nan}
-use borrow.Rule.Slice.PartMut.{put_mid, Post-is}
 use mir.Syntax.{w32, w64}
 use Rattle.laws.specs.Floats.{finite, zero_f}
 use Rattle.laws.specs.Lists.{flat, from}
 use Rattle.laws.proofs.Maps.{take_next}
 use Rattle.laws.proofs.From.{flat-from-next, table_of, table-length}
 use Rattle.listing.specs.Put.{Put, put, puts}
-use Rattle.listing.proofs.Puts.{puts-sets, after, renamed, ends, as_long}
+use Rattle.listing.proofs.Puts.{after, renamed, ends, as_long}
 use Rattle.tables.specs.Layout.{bytes_of, word, words, float, rows_of}
 use Rattle.tables.specs.Tables.{number, value, fields, value_bytes, attribute_bytes}
 use Rattle.put_tables.specs.Rows.{Beside}

@@ -7,9 +7,7 @@ use lib.ListN.{length}
 use Rattle.listing.specs.Put.{Put, puts}
 use Rattle.listing.proofs.Puts.{after, renamed}
 use Rattle.tables.specs.Layout.{words, rows_of}
-use Rattle.tables.specs.Tables.{Tables, Tab, fields, number, book_tables, fit_tables, together, book_tabs, fit_tabs, pairs_from, body_of, sheet_of, book_file_of, fit_file_of, book_length, fit_length}
-use Rattle.tables.specs.Fits.{FewBook, FewFit}
-use Rattle.put_tables.specs.Ready.{BookReady, FitReady}
+use Rattle.tables.specs.Tables.{Tables, Tab, fields, number, together, book_tabs, fit_tabs, pairs_from, body_of, sheet_of, book_file_of, fit_file_of, book_length, fit_length}
 use Rattle.tables.proofs.ReadsBack.{fields-all, sheet_size, book_size, fit_size}
 use Rattle.put_tables.proofs.Steps.{words_append}
 
@@ -76,24 +74,3 @@ fit_room t g = omega (arith, g, fit_size t)
 -- a header of two, behind three that are not read
 pub two_all : (h : List ℕ) → length h ≡ 2 → h ≡ number h 0 ∷ number h 1 ∷ []
 two_all h e = sym (fields-all h 2 e)
-
--- counts alone
-pub book_few : (t : Tables) → BookReady t → FewBook (book_tables [] t.attributes [] t.effects t.modifiers t.type_effects t.buff_collections)
-book_few t r =
-    record {
-      attributes = r.few.attributes;
-      effects = r.few.effects;
-      modifiers = r.few.modifiers;
-      type_effects = r.few.type_effects;
-      buff_collections = r.few.buff_collections;
-    }
-
-pub fit_few : (t : Tables) → FitReady t → FewFit (fit_tables [] t.objects t.base_attributes [] t.ids t.buffs [] t.asks)
-fit_few t r =
-    record {
-      objects = r.few.objects;
-      base_attributes = r.few.base_attributes;
-      ids = r.few.ids;
-      buffs = r.few.buffs;
-      asks = r.few.asks;
-    }

@@ -1,34 +1,29 @@
 -- `put_book_file` meets its contract. Assumes nothing.
-use Rattle.std.proofs.Common.{[], arith, sym, ap}
+use Rattle.tables.specs.At.{book_in}
+use Rattle.std.proofs.Common.{arith, sym, ap}
 use Rattle.listing.specs.Put.{put}
 use Rattle.listing.proofs.Puts.{renamed}
 use Rattle.tables.specs.Layout.{words}
-use Rattle.tables.specs.Tables.{Tables, book_tables}
+use Rattle.tables.specs.Tables.{Tables}
 use Rattle.tables.proofs.ReadsBack.{fields-all}
-use Rattle.put_tables.proofs.Whole.{three_put, book_few, book_file_is, book_room}
+use Rattle.put_tables.proofs.Whole.{three_put, book_file_is, book_room}
 use Rattle.put_tables.proofs.put_book_file.Goals as goal
 
-pub book_pairs-pairs-requires : goal.book_pairs-pairs-requires
-book_pairs-pairs-requires c = record {
-  few = book_few (book_tables [] c.args.attributes.now c.args.defaults.now c.args.effects.now c.args.modifiers.now c.args.type_effects.now c.args.buff_collections.now) c.requires.ready;
-  near = omega arith;
-}
-
 pub put_words-behind-requires : goal.put_words-behind-requires
-put_words-behind-requires c = record { room = omega (arith, book_room (book_tables c.args.header.now c.args.attributes.now c.args.defaults.now c.args.effects.now c.args.modifiers.now c.args.type_effects.now c.args.buff_collections.now) c.requires.room) }
+put_words-behind-requires c = record { room = omega (arith, book_room (book_in c.args.book c.args.header.now) c.requires.room) }
 
 pub put_words-body-requires : goal.put_words-body-requires
-put_words-body-requires c = record { room = omega (arith, book_room (book_tables c.args.header.now c.args.attributes.now c.args.defaults.now c.args.effects.now c.args.modifiers.now c.args.type_effects.now c.args.buff_collections.now) c.requires.room) }
+put_words-body-requires c = record { room = omega (arith, book_room (book_in c.args.book c.args.header.now) c.requires.room) }
 
 pub put_book-requires : goal.put_book-requires
 put_book-requires c = record {
   ready = c.requires.ready;
-  room = omega (arith, book_room (book_tables c.args.header.now c.args.attributes.now c.args.defaults.now c.args.effects.now c.args.modifiers.now c.args.type_effects.now c.args.buff_collections.now) c.requires.room);
+  room = omega (arith, book_room (book_in c.args.book c.args.header.now) c.requires.room);
 }
 
 pub returns : goal.returns
 returns c =
-    let t : Tables = book_tables c.args.header.now c.args.attributes.now c.args.defaults.now c.args.effects.now c.args.modifiers.now c.args.type_effects.now c.args.buff_collections.now in
+    let t : Tables = book_in c.args.book c.args.header.now in
     record {
       written =
           renamed (put 0 c.args.bytes.now) (book_file_is t c.args.header.now (sym (fields-all c.args.header.now 3 (omega arith))))

@@ -7,6 +7,6 @@ use Rattle.put_tables.proofs.bodies.put_fit.Goals as goal
 
 pub returns : goal.returns
 returns c = record {
-  written = five_put _ _ _ _ _ _ c.put_rows-seventh.ensures.written c.put_values-eighth.ensures.written (renamed _ (words_rows c.args.ids.now) c.put_words-ninth.ensures.written) c.put_values-tenth.ensures.written c.put_rows.ensures.written;
+  written = five_put _ _ _ _ _ _ c.put_rows-seventh.ensures.written c.put_values-eighth.ensures.written (renamed _ (words_rows c.args.fit.ids.now) c.put_words-ninth.ensures.written) c.put_values-tenth.ensures.written c.put_rows.ensures.written;
   end = omega arith;
 }
