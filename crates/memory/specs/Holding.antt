@@ -25,6 +25,7 @@ use Rattle.sources.specs.Planned.{counts_of, planned_for, planned_by}
 use Rattle.sources.specs.Keeping.{RunOf, Keeping}
 use Rattle.gather.specs.declared.Pile.{Pile}
 use Rattle.gather.specs.Piles.{PileOf}
+use Rattle.memory.specs.declared.ReadColumns.{ReadColumns}
 use Rattle.memory.specs.Memory.{value_at, value_column, AllFinite}
 use Rattle.memory.specs.Steps.{row_at, entry_at}
 
@@ -42,6 +43,10 @@ pub record Tables : Type 0 where
 
 abbrev pub tables : List ℕ → List (List ℕ) → List (List ℕ) → List (List ℕ) → List ℕ → List (List ℕ) → List Float → List (List ℕ) → List Float → Tables
 tables b p s x l r c e v = record { book = b; pairs = p; states = s; stretches = x; limits = l; rows = r; bases = c; entries = e; values = v }
+
+-- the same of the columns that the code is passed
+abbrev pub tables_of : ReadColumns → Tables
+tables_of c = tables c.book.now c.pairs.now c.states.now c.stretches.now c.limits.now c.rows.now c.bases.now c.entries.now c.entry_values.now
 
 -- whether high is good of row i's attribute
 abbrev pub high_at : Tables → ℕ → Bool

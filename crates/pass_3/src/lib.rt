@@ -17,16 +17,16 @@ ghost use Rattle.memory.specs.Holding.{Good};
 ghost use Rattle.memory.specs.Answers.{held_by};
 ghost use Rattle.gather.specs.Piles.{Eights};
 ghost use Rattle.gather.specs.Adds.{pile_of, tried, EightsAt};
-ghost use Rattle.pass_3.specs.Calls.{is_assign, lent, read, ReadyNow, BusyNow, Gives, BusyGives, PartGives, GivesOn, Piling, PileGives};
+ghost use Rattle.pass_3.specs.Calls.{is_assign, ReadyNow, BusyNow, Gives, BusyGives, PartGives, GivesOn, Piling, PileGives};
 
 use columns::{
-    AttributeRow, ENTRY_OPERATOR, EntryRow, Limits, ROW_ATTRIBUTE, ROW_ENTRY_COUNT,
-    ROW_FIRST_ENTRY, ROW_FIRST_SOURCE, ROW_OBJECT, SourceFloats, SourceRow, States, Stretches,
-    TablePairs,
+    ENTRY_OPERATOR, ROW_ATTRIBUTE, ROW_ENTRY_COUNT, ROW_FIRST_ENTRY, ROW_FIRST_SOURCE, ROW_OBJECT,
+    SourceFloats, SourceRow, TablePairs,
 };
 use gather::{Growing, add_entry, empty, grown};
 use info::look_ups::get_dogma_attribute;
 use item::codes::operator_code;
+use memory::ReadColumns;
 use memory::apply::{Got, Part, apply, held_to};
 use numbers::integers::signed;
 use numbers::product;
@@ -41,52 +41,25 @@ pub fn calculated_value(
     values: &mut [f64],
     sources: &mut [SourceRow],
     floats: &mut [SourceFloats],
-    book: &[u8],
-    pairs: &TablePairs,
-    states: &States,
-    stretches: &Stretches,
-    limits: &Limits,
-    rows: &[AttributeRow],
-    bases: &[f64],
-    entries: &[EntryRow],
-    entry_values: &[f64],
+    columns: &ReadColumns,
     run: Recording,
     object: u32,
     attribute: i32,
     left: u32,
     used: u32,
 ) -> Result<Got, Refusal>
-    requires holding { let t = lent book pairs states stretches limits rows bases entries entry_values in
-        ReadyNow t values sources floats run used }
+    requires holding { ReadyNow columns.now values sources floats run used }
     requires an_object { object < 1024 }
-    ensures defined { let t = read book pairs states stretches limits rows bases entries entry_values in
-        Gives t values sources floats run used result (λ w. value_of w left object attribute) }
+    ensures defined { Gives columns.now values sources floats run used result (λ w. value_of w left object attribute) }
 {
-    let Some(row) = find(rows, stretches, object, attribute) else {
-        let record = get_dogma_attribute(book, pairs, attribute);
+    let Some(row) = find(columns.rows, columns.stretches, object, attribute) else {
+        let record = get_dogma_attribute(columns.book, columns.pairs, attribute);
         return Ok(Got {
             value: record.default_value,
             used,
         });
     };
-    calculate_value(
-        values,
-        sources,
-        floats,
-        book,
-        pairs,
-        states,
-        stretches,
-        limits,
-        rows,
-        bases,
-        entries,
-        entry_values,
-        run,
-        row,
-        left,
-        used,
-    )
+    calculate_value(values, sources, floats, columns, run, row, left, used)
 }
 
 // The value of a row: the one in the column where the row is started or done.
@@ -95,54 +68,27 @@ pub fn calculate_value(
     values: &mut [f64],
     sources: &mut [SourceRow],
     floats: &mut [SourceFloats],
-    book: &[u8],
-    pairs: &TablePairs,
-    states: &States,
-    stretches: &Stretches,
-    limits: &Limits,
-    rows: &[AttributeRow],
-    bases: &[f64],
-    entries: &[EntryRow],
-    entry_values: &[f64],
+    columns: &ReadColumns,
     run: Recording,
     row: usize,
     left: u32,
     used: u32,
 ) -> Result<Got, Refusal>
-    requires holding { let t = lent book pairs states stretches limits rows bases entries entry_values in
-        ReadyNow t values sources floats run used }
-    requires within { row < length rows.now }
-    ensures defined { let t = read book pairs states stretches limits rows bases entries entry_values in
-        Gives t values sources floats run used result (λ w. value_of w left (row_at w row).object (row_at w row).id) }
+    requires holding { ReadyNow columns.now values sources floats run used }
+    requires within { row < length columns.now.rows.now }
+    ensures defined { Gives columns.now values sources floats run used result (λ w. value_of w left (row_at w row).object (row_at w row).id) }
 {
     let v = values[row];
     if v == v {
         return Ok(Got { value: v, used });
     }
     if left == 0 {
-        let object = rows[row][ROW_OBJECT];
+        let object = columns.rows[row][ROW_OBJECT];
         return Err(Refusal::Depth(object));
     }
-    let base = bases[row];
+    let base = columns.bases[row];
     values[row] = base;
-    let got = evaluated(
-        values,
-        sources,
-        floats,
-        book,
-        pairs,
-        states,
-        stretches,
-        limits,
-        rows,
-        bases,
-        entries,
-        entry_values,
-        run,
-        row,
-        left - 1,
-        used,
-    )?;
+    let got = evaluated(values, sources, floats, columns, run, row, left - 1, used)?;
     values[row] = got.value;
     Ok(got)
 }
@@ -153,72 +99,37 @@ fn evaluated(
     values: &mut [f64],
     sources: &mut [SourceRow],
     floats: &mut [SourceFloats],
-    book: &[u8],
-    pairs: &TablePairs,
-    states: &States,
-    stretches: &Stretches,
-    limits: &Limits,
-    rows: &[AttributeRow],
-    bases: &[f64],
-    entries: &[EntryRow],
-    entry_values: &[f64],
+    columns: &ReadColumns,
     run: Recording,
     row: usize,
     left: u32,
     used: u32,
 ) -> Result<Got, Refusal>
-    requires begun { let t = lent book pairs states stretches limits rows bases entries entry_values in
-        BusyNow t values sources floats run used row 0 operators }
-    ensures defined { let t = read book pairs states stretches limits rows bases entries entry_values in
-        BusyGives t values sources floats run used row result (λ w. evaluation w (value_of w left) row (row_at w row)) }
+    requires begun { BusyNow columns.now values sources floats run used row 0 operators }
+    ensures defined { BusyGives columns.now values sources floats run used row result (λ w. evaluation w (value_of w left) row (row_at w row)) }
 {
-    let id = signed(rows[row][ROW_ATTRIBUTE]);
-    let count = rows[row][ROW_ENTRY_COUNT];
-    let has_limits = is_limited(limits, id);
+    let id = signed(columns.rows[row][ROW_ATTRIBUTE]);
+    let count = columns.rows[row][ROW_ENTRY_COUNT];
+    let has_limits = is_limited(columns.limits, id);
     if count == 0 {
         if !has_limits {
             return Ok(Got {
-                value: bases[row],
+                value: columns.bases[row],
                 used,
             });
         }
     }
-    let got = operated(
-        values,
-        sources,
-        floats,
-        book,
-        pairs,
-        states,
-        stretches,
-        limits,
-        rows,
-        bases,
-        entries,
-        entry_values,
-        run,
-        row,
-        left,
-        used,
-    )?;
+    let got = operated(values, sources, floats, columns, run, row, left, used)?;
     if !has_limits {
         return Ok(got);
     }
-    let record = get_dogma_attribute(book, pairs, id);
-    let object = rows[row][ROW_OBJECT];
+    let record = get_dogma_attribute(columns.book, columns.pairs, id);
+    let object = columns.rows[row][ROW_OBJECT];
     let low = limited(
         values,
         sources,
         floats,
-        book,
-        pairs,
-        states,
-        stretches,
-        limits,
-        rows,
-        bases,
-        entries,
-        entry_values,
+        columns,
         run,
         object,
         record.min_attribute_id,
@@ -230,15 +141,7 @@ fn evaluated(
         values,
         sources,
         floats,
-        book,
-        pairs,
-        states,
-        stretches,
-        limits,
-        rows,
-        bases,
-        entries,
-        entry_values,
+        columns,
         run,
         object,
         record.max_attribute_id,
@@ -254,15 +157,7 @@ fn limited(
     values: &mut [f64],
     sources: &mut [SourceRow],
     floats: &mut [SourceFloats],
-    book: &[u8],
-    pairs: &TablePairs,
-    states: &States,
-    stretches: &Stretches,
-    limits: &Limits,
-    rows: &[AttributeRow],
-    bases: &[f64],
-    entries: &[EntryRow],
-    entry_values: &[f64],
+    columns: &ReadColumns,
     run: Recording,
     object: u32,
     limit: i32,
@@ -270,34 +165,16 @@ fn limited(
     got: Got,
     left: u32,
 ) -> Result<Got, Refusal>
-    requires holding { let t = lent book pairs states stretches limits rows bases entries entry_values in
-        ReadyNow t values sources floats run got.used }
+    requires holding { ReadyNow columns.now values sources floats run got.used }
     requires within { (object < 1024) × T (finite got.value) }
-    ensures defined { let t = read book pairs states stretches limits rows bases entries entry_values in
-        Gives t values sources floats run got.used result
+    ensures defined { Gives columns.now values sources floats run got.used result
         (λ w m. clamped object (value_of w left) (held_by least) limit (record { value = got.value; mem = m })) }
 {
     if limit == 0 {
         return Ok(got);
     }
     let bound = calculated_value(
-        values,
-        sources,
-        floats,
-        book,
-        pairs,
-        states,
-        stretches,
-        limits,
-        rows,
-        bases,
-        entries,
-        entry_values,
-        run,
-        object,
-        limit,
-        left,
-        got.used,
+        values, sources, floats, columns, run, object, limit, left, got.used,
     )?;
     Ok(Got {
         value: held_to(got.value, bound.value, least),
@@ -311,31 +188,21 @@ fn operated(
     values: &mut [f64],
     sources: &mut [SourceRow],
     floats: &mut [SourceFloats],
-    book: &[u8],
-    pairs: &TablePairs,
-    states: &States,
-    stretches: &Stretches,
-    limits: &Limits,
-    rows: &[AttributeRow],
-    bases: &[f64],
-    entries: &[EntryRow],
-    entry_values: &[f64],
+    columns: &ReadColumns,
     run: Recording,
     row: usize,
     left: u32,
     used: u32,
 ) -> Result<Got, Refusal>
-    requires begun { let t = lent book pairs states stretches limits rows bases entries entry_values in
-        BusyNow t values sources floats run used row 0 operators }
-    ensures defined { let t = read book pairs states stretches limits rows bases entries entry_values in
-        BusyGives t values sources floats run used row result
+    requires begun { BusyNow columns.now values sources floats run used row 0 operators }
+    ensures defined { BusyGives columns.now values sources floats run used row result
         (λ w m. operate w row (row_at w row) (value_of w left) operators (record { value = (row_at w row).base; mem = m })) }
 {
-    let first = rows[row][ROW_FIRST_ENTRY] as usize;
-    let end = first + rows[row][ROW_ENTRY_COUNT] as usize;
-    let marks = operators_in(entries, first, end);
+    let first = columns.rows[row][ROW_FIRST_ENTRY] as usize;
+    let end = first + columns.rows[row][ROW_ENTRY_COUNT] as usize;
+    let marks = operators_in(columns.entries, first, end);
     let mut part = Part {
-        value: bases[row],
+        value: columns.bases[row],
         counts: SourceCounts { own: 0, used },
     };
     for code in 0u32..9 {
@@ -343,23 +210,7 @@ fn operated(
         let mark = marks[code as usize];
         if mark != 0 {
             part = gathered(
-                values,
-                sources,
-                floats,
-                book,
-                pairs,
-                states,
-                stretches,
-                limits,
-                rows,
-                bases,
-                entries,
-                entry_values,
-                run,
-                row,
-                operator,
-                left,
-                part,
+                values, sources, floats, columns, run, row, operator, left, part,
             )?;
         }
     }
@@ -399,30 +250,20 @@ fn gathered(
     values: &mut [f64],
     sources: &mut [SourceRow],
     floats: &mut [SourceFloats],
-    book: &[u8],
-    pairs: &TablePairs,
-    states: &States,
-    stretches: &Stretches,
-    limits: &Limits,
-    rows: &[AttributeRow],
-    bases: &[f64],
-    entries: &[EntryRow],
-    entry_values: &[f64],
+    columns: &ReadColumns,
     run: Recording,
     row: usize,
     operator: EffectOperator,
     left: u32,
     part: Part,
 ) -> Result<Part, Refusal>
-    requires begun { let t = lent book pairs states stretches limits rows bases entries entry_values in
-        (BusyNow t values sources floats run part.counts.used row part.counts.own (operator ∷ [])) × T (finite part.value) }
-    ensures defined { let t = read book pairs states stretches limits rows bases entries entry_values in
-        PartGives t values sources floats run part.counts row operator result
+    requires begun { (BusyNow columns.now values sources floats run part.counts.used row part.counts.own (operator ∷ [])) × T (finite part.value) }
+    ensures defined { PartGives columns.now values sources floats run part.counts row operator result
         (λ w m. operate w row (row_at w row) (value_of w left) (operator ∷ []) (record { value = part.value; mem = m })) }
 {
-    let count = rows[row][ROW_ENTRY_COUNT] as usize;
-    let id = signed(rows[row][ROW_ATTRIBUTE]);
-    let high = is_high(book, pairs, operator, id);
+    let count = columns.rows[row][ROW_ENTRY_COUNT] as usize;
+    let id = signed(columns.rows[row][ROW_ATTRIBUTE]);
+    let high = is_high(columns.book, columns.pairs, operator, id);
     let mut positives = [0.0; 8];
     let mut positive_sources = [0u32; 8];
     let mut negatives = [0.0; 8];
@@ -437,15 +278,7 @@ fn gathered(
             &mut positive_sources,
             &mut negatives,
             &mut negative_sources,
-            book,
-            pairs,
-            states,
-            stretches,
-            limits,
-            rows,
-            bases,
-            entries,
-            entry_values,
+            columns,
             run,
             row,
             k,
@@ -455,8 +288,8 @@ fn gathered(
             p,
         )?;
     }
-    let object = rows[row][ROW_OBJECT];
-    let first = rows[row][ROW_FIRST_SOURCE];
+    let object = columns.rows[row][ROW_OBJECT];
+    let first = columns.rows[row][ROW_FIRST_SOURCE];
     let pile = grown(positives, positive_sources, negatives, negative_sources, p);
     apply(floats, run, first, object, pile)
 }
@@ -471,15 +304,7 @@ fn with_entry(
     positive_sources: &mut [u32; 8],
     negatives: &mut [f64; 8],
     negative_sources: &mut [u32; 8],
-    book: &[u8],
-    pairs: &TablePairs,
-    states: &States,
-    stretches: &Stretches,
-    limits: &Limits,
-    rows: &[AttributeRow],
-    bases: &[f64],
-    entries: &[EntryRow],
-    entry_values: &[f64],
+    columns: &ReadColumns,
     run: Recording,
     row: usize,
     k: usize,
@@ -488,40 +313,30 @@ fn with_entry(
     left: u32,
     p: Growing,
 ) -> Result<Growing, Refusal>
-    requires piling { let t = lent book pairs states stretches limits rows bases entries entry_values in
-        Piling t values sources floats run row k high operator (pile_of positives positive_sources negatives negative_sources p) }
+    requires piling { Piling columns.now values sources floats run row k high operator (pile_of positives positive_sources negatives negative_sources p) }
     requires eights { EightsAt positives positive_sources negatives negative_sources }
-    ensures defined { let t = read book pairs states stretches limits rows bases entries entry_values in
-        let pile = tried positives positive_sources negatives negative_sources p result in
-        PileGives t values sources floats pile run row k high operator
+    ensures defined { let pile = tried positives positive_sources negatives negative_sources p result in
+        PileGives columns.now values sources floats pile run row k high operator
         (λ w m v. gather w row (row_at w row) (value_of w left) operator (entry_at w row k ∷ []) (record { mem = m; values = v })) }
     ensures eights { Eights positives.new positive_sources.new negatives.new negative_sources.new }
 {
-    let at = rows[row][ROW_FIRST_ENTRY] as usize + k;
-    let code = entries[at][ENTRY_OPERATOR];
+    let at = columns.rows[row][ROW_FIRST_ENTRY] as usize + k;
+    let code = columns.entries[at][ENTRY_OPERATOR];
     if code != operator_code(operator) {
         return Ok(p);
     }
-    let e = entry_at(entries, entry_values, at);
-    let runs = is_running(states, e.origin);
+    let e = entry_at(columns.entries, columns.entry_values, at);
+    let runs = is_running(columns.states, e.origin);
     if !(runs | run.recording) {
         return Ok(p);
     }
-    let object = rows[row][ROW_OBJECT];
-    let first = rows[row][ROW_FIRST_SOURCE];
+    let object = columns.rows[row][ROW_OBJECT];
+    let first = columns.rows[row][ROW_FIRST_SOURCE];
     let got = strength(
         values,
         sources,
         floats,
-        book,
-        pairs,
-        states,
-        stretches,
-        limits,
-        rows,
-        bases,
-        entries,
-        entry_values,
+        columns,
         run,
         object,
         e,
@@ -556,26 +371,16 @@ fn strength(
     values: &mut [f64],
     sources: &mut [SourceRow],
     floats: &mut [SourceFloats],
-    book: &[u8],
-    pairs: &TablePairs,
-    states: &States,
-    stretches: &Stretches,
-    limits: &Limits,
-    rows: &[AttributeRow],
-    bases: &[f64],
-    entries: &[EntryRow],
-    entry_values: &[f64],
+    columns: &ReadColumns,
     run: Recording,
     object: u32,
     e: Effect,
     left: u32,
     used: u32,
 ) -> Result<Got, Refusal>
-    requires holding { let t = lent book pairs states stretches limits rows bases entries entry_values in
-        ReadyNow t values sources floats run used }
+    requires holding { ReadyNow columns.now values sources floats run used }
     requires good { Good e }
-    ensures defined { let t = read book pairs states stretches limits rows bases entries entry_values in
-        GivesOn t values sources floats run used object result (λ w i row. strength_of w (value_of w left) i row e e.origin) }
+    ensures defined { GivesOn columns.now values sources floats run used object result (λ w i row. strength_of w (value_of w left) i row e e.origin) }
 {
     match e.origin {
         Origin::Buff { value, .. } => Ok(Got { value, used }),
@@ -588,15 +393,7 @@ fn strength(
                 values,
                 sources,
                 floats,
-                book,
-                pairs,
-                states,
-                stretches,
-                limits,
-                rows,
-                bases,
-                entries,
-                entry_values,
+                columns,
                 run,
                 source,
                 attribute_id,
@@ -607,15 +404,7 @@ fn strength(
                 values,
                 sources,
                 floats,
-                book,
-                pairs,
-                states,
-                stretches,
-                limits,
-                rows,
-                bases,
-                entries,
-                entry_values,
+                columns,
                 run,
                 object,
                 e.resistance,
@@ -632,49 +421,23 @@ fn resisted(
     values: &mut [f64],
     sources: &mut [SourceRow],
     floats: &mut [SourceFloats],
-    book: &[u8],
-    pairs: &TablePairs,
-    states: &States,
-    stretches: &Stretches,
-    limits: &Limits,
-    rows: &[AttributeRow],
-    bases: &[f64],
-    entries: &[EntryRow],
-    entry_values: &[f64],
+    columns: &ReadColumns,
     run: Recording,
     object: u32,
     resistance: Option<i32>,
     got: Got,
     left: u32,
 ) -> Result<Got, Refusal>
-    requires holding { let t = lent book pairs states stretches limits rows bases entries entry_values in
-        ReadyNow t values sources floats run got.used }
+    requires holding { ReadyNow columns.now values sources floats run got.used }
     requires number { T (finite got.value) }
-    ensures defined { let t = read book pairs states stretches limits rows bases entries entry_values in
-        GivesOn t values sources floats run got.used object result
+    ensures defined { GivesOn columns.now values sources floats run got.used object result
         (λ w i row m. defined.resisted w i row (value_of w left) resistance (record { value = got.value; mem = m })) }
 {
     let Some(attribute) = resistance else {
         return Ok(got);
     };
     let resisting = calculated_value(
-        values,
-        sources,
-        floats,
-        book,
-        pairs,
-        states,
-        stretches,
-        limits,
-        rows,
-        bases,
-        entries,
-        entry_values,
-        run,
-        0,
-        attribute,
-        left,
-        got.used,
+        values, sources, floats, columns, run, 0, attribute, left, got.used,
     )?;
     let Some(value) = product(got.value, resisting.value) else {
         return Err(Refusal::Number(object));

@@ -11,6 +11,7 @@ ghost use Rattle.values.specs.Setting.{planned_rows, RowsListed, SetGives};
 
 use blank::unstarted;
 use columns::{AttributeRow, EntryRow, SourceFloats, SourceRow, States, TablePairs};
+use memory::ReadColumns;
 use reading::stretches::{set_limits, set_stretches};
 use rules::Refusal;
 use sources::Recording;
@@ -66,22 +67,18 @@ pub fn set_values(
     unstarted(values, n);
     let stretches = set_stretches(&rows[..n]);
     let limits = set_limits(book, pairs);
-    calculate_values(
-        &mut values[..n],
-        sources,
-        floats,
+    let columns = ReadColumns {
         book,
         pairs,
         states,
-        &stretches,
-        &limits,
-        &rows[..n],
-        &bases[..n],
+        stretches: &stretches,
+        limits: &limits,
+        rows: &rows[..n],
+        bases: &bases[..n],
         entries,
         entry_values,
-        run,
-        fit,
-    )
+    };
+    calculate_values(&mut values[..n], sources, floats, &columns, run, fit)
 }
 
 pub mod blank;

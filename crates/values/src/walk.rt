@@ -5,16 +5,16 @@ ghost use Rattle.rules.specs.Sheet.{fit_of};
 ghost use Rattle.rules.specs.Value.{value_of};
 ghost use Rattle.info.specs.Sound.{SoundFit};
 ghost use Rattle.memory.specs.Steps.{row_at};
-ghost use Rattle.pass_3.specs.Calls.{lent, read, ReadyNow, Gives};
+ghost use Rattle.pass_3.specs.Calls.{ReadyNow, Gives};
 ghost use Rattle.values.specs.Complete.{ask_of};
 ghost use Rattle.values.specs.Starting.{Untouched, StartsGive, WalkableNow, WalkGives};
 
 use columns::{
-    AttributeRow, EntryRow, Limits, ROW_ATTRIBUTE, ROW_ENTRY_COUNT, SourceFloats, SourceRow,
-    States, Stretches, TABLE_ASKS, TablePairs,
+    AttributeRow, Limits, ROW_ATTRIBUTE, ROW_ENTRY_COUNT, SourceFloats, SourceRow, TABLE_ASKS,
 };
 use info::header::{count_of, depth_of};
 use info::records::ask;
+use memory::ReadColumns;
 use memory::apply::Got;
 use numbers::integers::signed;
 use pass_3::{calculate_value, calculated_value};
@@ -28,43 +28,25 @@ fn asks(
     values: &mut [f64],
     sources: &mut [SourceRow],
     floats: &mut [SourceFloats],
-    book: &[u8],
-    pairs: &TablePairs,
-    states: &States,
-    stretches: &Stretches,
-    limits: &Limits,
-    rows: &[AttributeRow],
-    bases: &[f64],
-    entries: &[EntryRow],
-    entry_values: &[f64],
+    columns: &ReadColumns,
     run: Recording,
     fit: &[u8],
 ) -> Result<u32, Refusal>
-    requires holding { let t = lent book pairs states stretches limits rows bases entries entry_values in
-        ReadyNow t values sources floats run 0 }
-    requires sound { SoundFit fit.now pairs.now }
-    ensures defined { let t = read book pairs states stretches limits rows bases entries entry_values in
-        let f = fit_of fit.now pairs.now in
-        StartsGive t values sources floats run result (λ w. valued w f.depth f.asks) }
+    requires holding { ReadyNow columns.now values sources floats run 0 }
+    requires sound { SoundFit fit.now columns.now.pairs.now }
+    ensures defined { let f = fit_of fit.now columns.now.pairs.now in
+        StartsGive columns.now values sources floats run result (λ w. valued w f.depth f.asks) }
 {
-    let n = count_of(pairs, TABLE_ASKS);
-    let depth = depth_of(fit, pairs);
+    let n = count_of(columns.pairs, TABLE_ASKS);
+    let depth = depth_of(fit, columns.pairs);
     let mut used: u32 = 0;
     for i in 0..n {
-        let a = ask(fit, pairs, i);
+        let a = ask(fit, columns.pairs, i);
         let got = calculated_value(
             values,
             sources,
             floats,
-            book,
-            pairs,
-            states,
-            stretches,
-            limits,
-            rows,
-            bases,
-            entries,
-            entry_values,
+            columns,
             run,
             a.object,
             a.attribute_id,
@@ -98,53 +80,26 @@ fn walk_row(
     values: &mut [f64],
     sources: &mut [SourceRow],
     floats: &mut [SourceFloats],
-    book: &[u8],
-    pairs: &TablePairs,
-    states: &States,
-    stretches: &Stretches,
-    limits: &Limits,
-    rows: &[AttributeRow],
-    bases: &[f64],
-    entries: &[EntryRow],
-    entry_values: &[f64],
+    columns: &ReadColumns,
     run: Recording,
     row: usize,
     left: u32,
     used: u32,
 ) -> Result<Got, Refusal>
-    requires holding { let t = lent book pairs states stretches limits rows bases entries entry_values in
-        ReadyNow t values sources floats run used }
-    requires within { row < length rows.now }
-    ensures defined { let t = read book pairs states stretches limits rows bases entries entry_values in
-        Gives t values sources floats run used result (λ w. value_of w left (row_at w row).object (row_at w row).id) }
+    requires holding { ReadyNow columns.now values sources floats run used }
+    requires within { row < length columns.now.rows.now }
+    ensures defined { Gives columns.now values sources floats run used result (λ w. value_of w left (row_at w row).object (row_at w row).id) }
 {
     let v = values[row];
     if v == v {
         return Ok(Got { value: v, used });
     }
-    if untouched(rows, limits, row, left) {
-        let base = bases[row];
+    if untouched(columns.rows, columns.limits, row, left) {
+        let base = columns.bases[row];
         values[row] = base;
         return Ok(Got { value: base, used });
     }
-    calculate_value(
-        values,
-        sources,
-        floats,
-        book,
-        pairs,
-        states,
-        stretches,
-        limits,
-        rows,
-        bases,
-        entries,
-        entry_values,
-        run,
-        row,
-        left,
-        used,
-    )
+    calculate_value(values, sources, floats, columns, run, row, left, used)
 }
 
 // The walk: ship, projected, mode, char, items and charges, skills, ids ascending.
@@ -152,50 +107,23 @@ fn walk(
     values: &mut [f64],
     sources: &mut [SourceRow],
     floats: &mut [SourceFloats],
-    book: &[u8],
-    pairs: &TablePairs,
-    states: &States,
-    stretches: &Stretches,
-    limits: &Limits,
-    rows: &[AttributeRow],
-    bases: &[f64],
-    entries: &[EntryRow],
-    entry_values: &[f64],
+    columns: &ReadColumns,
     run: Recording,
     fit: &[u8],
     before: u32,
 ) -> Result<u32, Refusal>
-    requires holding { let t = lent book pairs states stretches limits rows bases entries entry_values in
-        WalkableNow t values sources floats run before fit }
-    requires sound { SoundFit fit.now pairs.now }
-    ensures defined { let t = read book pairs states stretches limits rows bases entries entry_values in
-        let f = fit_of fit.now pairs.now in
-        WalkGives t values sources floats run before fit result (λ w. valued w f.depth (map ask_of (walk_order f.objects w.rows))) }
+    requires holding { WalkableNow columns.now values sources floats run before fit }
+    requires sound { SoundFit fit.now columns.now.pairs.now }
+    ensures defined { let f = fit_of fit.now columns.now.pairs.now in
+        WalkGives columns.now values sources floats run before fit result (λ w. valued w f.depth (map ask_of (walk_order f.objects w.rows))) }
 {
-    let n = rows.len();
-    let depth = depth_of(fit, pairs);
-    let turns = turns_of(rows, fit, pairs);
+    let n = columns.rows.len();
+    let depth = depth_of(fit, columns.pairs);
+    let turns = turns_of(columns.rows, fit, columns.pairs);
     let mut used = before;
     for k in 0..n {
         let row = walked(turns, k);
-        let got = walk_row(
-            values,
-            sources,
-            floats,
-            book,
-            pairs,
-            states,
-            stretches,
-            limits,
-            rows,
-            bases,
-            entries,
-            entry_values,
-            run,
-            row,
-            depth,
-            used,
-        )?;
+        let got = walk_row(values, sources, floats, columns, run, row, depth, used)?;
         used = got.used;
     }
     Ok(used)
@@ -206,56 +134,15 @@ pub fn calculate_values(
     values: &mut [f64],
     sources: &mut [SourceRow],
     floats: &mut [SourceFloats],
-    book: &[u8],
-    pairs: &TablePairs,
-    states: &States,
-    stretches: &Stretches,
-    limits: &Limits,
-    rows: &[AttributeRow],
-    bases: &[f64],
-    entries: &[EntryRow],
-    entry_values: &[f64],
+    columns: &ReadColumns,
     run: Recording,
     fit: &[u8],
 ) -> Result<u32, Refusal>
-    requires holding { let t = lent book pairs states stretches limits rows bases entries entry_values in
-        WalkableNow t values sources floats run 0 fit }
-    requires sound { SoundFit fit.now pairs.now }
-    ensures defined { let t = read book pairs states stretches limits rows bases entries entry_values in
-        let f = fit_of fit.now pairs.now in
-        WalkGives t values sources floats run 0 fit result (λ w. valued w f.depth (starts_of f w.rows)) }
+    requires holding { WalkableNow columns.now values sources floats run 0 fit }
+    requires sound { SoundFit fit.now columns.now.pairs.now }
+    ensures defined { let f = fit_of fit.now columns.now.pairs.now in
+        WalkGives columns.now values sources floats run 0 fit result (λ w. valued w f.depth (starts_of f w.rows)) }
 {
-    let used = asks(
-        values,
-        sources,
-        floats,
-        book,
-        pairs,
-        states,
-        stretches,
-        limits,
-        rows,
-        bases,
-        entries,
-        entry_values,
-        run,
-        fit,
-    )?;
-    walk(
-        values,
-        sources,
-        floats,
-        book,
-        pairs,
-        states,
-        stretches,
-        limits,
-        rows,
-        bases,
-        entries,
-        entry_values,
-        run,
-        fit,
-        used,
-    )
+    let used = asks(values, sources, floats, columns, run, fit)?;
+    walk(values, sources, floats, columns, run, fit, used)
 }

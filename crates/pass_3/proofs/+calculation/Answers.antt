@@ -61,11 +61,11 @@ pub calculated_value-returns-in_default : goal.calculated_value-returns-in_defau
 calculated_value-returns-in_default t c = record { defined = λ h. finding.absent_meets h c.args.object c.args.attribute c.args.left (rw (to_z-of_z c.ranges.attribute, c.in_default.is) at (c.find.ensures.defined h.world.rows h.told.held h.told.stretched)) _ (ap (λ (r : DogmaAttribute). r.default_value) (rw (to_z-of_z c.ranges.attribute) at c.get_dogma_attribute-record.ensures.defined)) }
 
 pub evaluated-returns-then-not-has_limits : goal.evaluated-returns-then-not-has_limits
-evaluated-returns-then-not-has_limits t c = let id : c.signed-id.result ≡ to_z w32 (get_or (get_or c.args.rows.now c.args.row []) 1 0) = c.signed-id.ensures.defined in
+evaluated-returns-then-not-has_limits t c = let id : c.signed-id.result ≡ to_z w32 (get_or (get_or c.args.columns.now.rows.now c.args.row []) 1 0) = c.signed-id.ensures.defined in
     record { defined = λ h. evaluating.plain-meets h c.args.left c.if-count-eq0.true (λ k l. subst (λ (a : ℤ). ((get_dogma_attribute k a).min_attribute_id ≡ pos 0) × ((get_dogma_attribute k a).max_attribute_id ≡ pos 0)) (to_z-of_z {w = w32} (sfits_of c.signed-id.type_inv) ∙ id) (c.is_limited-has_limits.ensures.unlimited k l c.if-not-has_limits.true)) }
 
 pub evaluated-returns-then-not-has_limits-2 : goal.evaluated-returns-then-not-has_limits-2
-evaluated-returns-then-not-has_limits-2 t c = let id : c.signed-id.result ≡ to_z w32 (get_or (get_or c.args.rows.now c.args.row []) 1 0) = c.signed-id.ensures.defined in
+evaluated-returns-then-not-has_limits-2 t c = let id : c.signed-id.result ≡ to_z w32 (get_or (get_or c.args.columns.now.rows.now c.args.row []) 1 0) = c.signed-id.ensures.defined in
     record { defined = λ h. evaluating.free_meets h c.args.left (λ k l. subst (λ (a : ℤ). ((get_dogma_attribute k a).min_attribute_id ≡ pos 0) × ((get_dogma_attribute k a).max_attribute_id ≡ pos 0)) (to_z-of_z {w = w32} (sfits_of c.signed-id.type_inv) ∙ id) (c.is_limited-has_limits.ensures.unlimited k l c.if-not-has_limits-2.true)) _ _ _ _ (c.in_ok-got.ensures.defined h) }
 
 pub evaluated-returns-in_err-got : goal.evaluated-returns-in_err-got
@@ -78,32 +78,32 @@ evaluated-limited-requires t c = let h = c.requires.begun in let k = c.in_ok-got
 pub evaluated-returns-in_err-low : goal.evaluated-returns-in_err-low
 evaluated-returns-in_err-low t c = let p = err_from_is_err_and c.from_residual-in_err-low.result c.from_residual-in_err-low.ensures.1 in
     let least_fits : mag c.get_dogma_attribute-record.result.min_attribute_id < 2 ^ 31 = search rules in
-    let id : c.signed-id.result ≡ to_z w32 (get_or (get_or c.args.rows.now c.args.row []) 1 0) = c.signed-id.ensures.defined in
-    let its = c.get_dogma_attribute-record.ensures.defined ∙ ap (λ (a : ℤ). get_dogma_attribute (book_of c.args.book.now c.args.pairs.now) a) (to_z-of_z {w = w32} (sfits_of c.signed-id.type_inv) ∙ id) in
+    let id : c.signed-id.result ≡ to_z w32 (get_or (get_or c.args.columns.now.rows.now c.args.row []) 1 0) = c.signed-id.ensures.defined in
+    let its = c.get_dogma_attribute-record.ensures.defined ∙ ap (λ (a : ℤ). get_dogma_attribute (book_of c.args.columns.now.book.now c.args.columns.now.pairs.now) a) (to_z-of_z {w = w32} (sfits_of c.signed-id.type_inv) ∙ id) in
     record {
       defined = λ h. let k = c.in_ok-got.ensures.defined h in
-          rw (p.1, p.2) (evaluating.low-refused h c.args.left c.in_ok-got.got.value c.in_ok-got.got.used c.operated.new.values c.operated.new.sources c.operated.new.floats k (get_or (get_or c.args.rows.now c.args.row []) 0 0) c.get_dogma_attribute-record.result.min_attribute_id refl (ap (λ (r : DogmaAttribute). r.min_attribute_id) its) _ _ refl _ _ _ (rw (to_z-of_z {w = w32} (sfits_of least_fits)) at (c.in_err-low.ensures.defined (evaluating.operated_on h c.args.left c.in_ok-got.got.value c.in_ok-got.got.used c.operated.new.values c.operated.new.sources c.operated.new.floats k))));
+          rw (p.1, p.2) (evaluating.low-refused h c.args.left c.in_ok-got.got.value c.in_ok-got.got.used c.operated.new.values c.operated.new.sources c.operated.new.floats k (get_or (get_or c.args.columns.now.rows.now c.args.row []) 0 0) c.get_dogma_attribute-record.result.min_attribute_id refl (ap (λ (r : DogmaAttribute). r.min_attribute_id) its) _ _ refl _ _ _ (rw (to_z-of_z {w = w32} (sfits_of least_fits)) at (c.in_err-low.ensures.defined (evaluating.operated_on h c.args.left c.in_ok-got.got.value c.in_ok-got.got.used c.operated.new.values c.operated.new.sources c.operated.new.floats k))));
     }
 
 pub evaluated-limited-requires-2 : goal.evaluated-limited-requires-2
 evaluated-limited-requires-2 t c = let least_fits : mag c.get_dogma_attribute-record.result.min_attribute_id < 2 ^ 31 = search rules in
-    let id : c.signed-id.result ≡ to_z w32 (get_or (get_or c.args.rows.now c.args.row []) 1 0) = c.signed-id.ensures.defined in
-    let its = c.get_dogma_attribute-record.ensures.defined ∙ ap (λ (a : ℤ). get_dogma_attribute (book_of c.args.book.now c.args.pairs.now) a) (to_z-of_z {w = w32} (sfits_of c.signed-id.type_inv) ∙ id) in
+    let id : c.signed-id.result ≡ to_z w32 (get_or (get_or c.args.columns.now.rows.now c.args.row []) 1 0) = c.signed-id.ensures.defined in
+    let its = c.get_dogma_attribute-record.ensures.defined ∙ ap (λ (a : ℤ). get_dogma_attribute (book_of c.args.columns.now.book.now c.args.columns.now.pairs.now) a) (to_z-of_z {w = w32} (sfits_of c.signed-id.type_inv) ∙ id) in
     let h = c.requires.begun in let k = c.in_ok-got.ensures.defined h in
     let l = rw (to_z-of_z {w = w32} (sfits_of least_fits)) at (c.in_ok-low.ensures.defined (evaluating.operated_on h c.args.left c.in_ok-got.got.value c.in_ok-got.got.used c.operated.new.values c.operated.new.sources c.operated.new.floats k)) in (
-      omega (arith, evaluating.operated_falls h c.args.left c.in_ok-got.got.value c.in_ok-got.got.used c.operated.new.values c.operated.new.sources c.operated.new.floats k, evaluating.raised-falls h c.args.left c.in_ok-got.got.value c.in_ok-got.got.used c.operated.new.values c.operated.new.sources c.operated.new.floats k (get_or (get_or c.args.rows.now c.args.row []) 0 0) c.get_dogma_attribute-record.result.min_attribute_id refl (ap (λ (r : DogmaAttribute). r.min_attribute_id) its) c.get_dogma_attribute-record.result.max_attribute_id (ap (λ (r : DogmaAttribute). r.max_attribute_id) its) c.in_ok-low.low.value c.in_ok-low.low.used c.limited.new.values c.limited.new.sources c.limited.new.floats l),
-      (evaluating.raised_on h c.args.left c.in_ok-got.got.value c.in_ok-got.got.used c.operated.new.values c.operated.new.sources c.operated.new.floats k (get_or (get_or c.args.rows.now c.args.row []) 0 0) c.get_dogma_attribute-record.result.min_attribute_id refl (ap (λ (r : DogmaAttribute). r.min_attribute_id) its) c.get_dogma_attribute-record.result.max_attribute_id (ap (λ (r : DogmaAttribute). r.max_attribute_id) its) c.in_ok-low.low.value c.in_ok-low.low.used c.limited.new.values c.limited.new.sources c.limited.new.floats l, (evaluating.object_few h, evaluating.raised_good h c.args.left c.in_ok-got.got.value c.in_ok-got.got.used c.operated.new.values c.operated.new.sources c.operated.new.floats k (get_or (get_or c.args.rows.now c.args.row []) 0 0) c.get_dogma_attribute-record.result.min_attribute_id refl (ap (λ (r : DogmaAttribute). r.min_attribute_id) its) c.get_dogma_attribute-record.result.max_attribute_id (ap (λ (r : DogmaAttribute). r.max_attribute_id) its) c.in_ok-low.low.value c.in_ok-low.low.used c.limited.new.values c.limited.new.sources c.limited.new.floats l)),
+      omega (arith, evaluating.operated_falls h c.args.left c.in_ok-got.got.value c.in_ok-got.got.used c.operated.new.values c.operated.new.sources c.operated.new.floats k, evaluating.raised-falls h c.args.left c.in_ok-got.got.value c.in_ok-got.got.used c.operated.new.values c.operated.new.sources c.operated.new.floats k (get_or (get_or c.args.columns.now.rows.now c.args.row []) 0 0) c.get_dogma_attribute-record.result.min_attribute_id refl (ap (λ (r : DogmaAttribute). r.min_attribute_id) its) c.get_dogma_attribute-record.result.max_attribute_id (ap (λ (r : DogmaAttribute). r.max_attribute_id) its) c.in_ok-low.low.value c.in_ok-low.low.used c.limited.new.values c.limited.new.sources c.limited.new.floats l),
+      (evaluating.raised_on h c.args.left c.in_ok-got.got.value c.in_ok-got.got.used c.operated.new.values c.operated.new.sources c.operated.new.floats k (get_or (get_or c.args.columns.now.rows.now c.args.row []) 0 0) c.get_dogma_attribute-record.result.min_attribute_id refl (ap (λ (r : DogmaAttribute). r.min_attribute_id) its) c.get_dogma_attribute-record.result.max_attribute_id (ap (λ (r : DogmaAttribute). r.max_attribute_id) its) c.in_ok-low.low.value c.in_ok-low.low.used c.limited.new.values c.limited.new.sources c.limited.new.floats l, (evaluating.object_few h, evaluating.raised_good h c.args.left c.in_ok-got.got.value c.in_ok-got.got.used c.operated.new.values c.operated.new.sources c.operated.new.floats k (get_or (get_or c.args.columns.now.rows.now c.args.row []) 0 0) c.get_dogma_attribute-record.result.min_attribute_id refl (ap (λ (r : DogmaAttribute). r.min_attribute_id) its) c.get_dogma_attribute-record.result.max_attribute_id (ap (λ (r : DogmaAttribute). r.max_attribute_id) its) c.in_ok-low.low.value c.in_ok-low.low.used c.limited.new.values c.limited.new.sources c.limited.new.floats l)),
     )
 
 pub evaluated-returns : goal.evaluated-returns
 evaluated-returns t c = let most_fits : mag c.get_dogma_attribute-record.result.max_attribute_id < 2 ^ 31 = search rules in
     let least_fits : mag c.get_dogma_attribute-record.result.min_attribute_id < 2 ^ 31 = search rules in
-    let id : c.signed-id.result ≡ to_z w32 (get_or (get_or c.args.rows.now c.args.row []) 1 0) = c.signed-id.ensures.defined in
-    let its = c.get_dogma_attribute-record.ensures.defined ∙ ap (λ (a : ℤ). get_dogma_attribute (book_of c.args.book.now c.args.pairs.now) a) (to_z-of_z {w = w32} (sfits_of c.signed-id.type_inv) ∙ id) in
+    let id : c.signed-id.result ≡ to_z w32 (get_or (get_or c.args.columns.now.rows.now c.args.row []) 1 0) = c.signed-id.ensures.defined in
+    let its = c.get_dogma_attribute-record.ensures.defined ∙ ap (λ (a : ℤ). get_dogma_attribute (book_of c.args.columns.now.book.now c.args.columns.now.pairs.now) a) (to_z-of_z {w = w32} (sfits_of c.signed-id.type_inv) ∙ id) in
     record {
       defined = λ h. let k = c.in_ok-got.ensures.defined h in
           let l = rw (to_z-of_z {w = w32} (sfits_of least_fits)) at (c.in_ok-low.ensures.defined (evaluating.operated_on h c.args.left c.in_ok-got.got.value c.in_ok-got.got.used c.operated.new.values c.operated.new.sources c.operated.new.floats k)) in
-          evaluating.evaluated_meets h c.args.left c.in_ok-got.got.value c.in_ok-got.got.used c.operated.new.values c.operated.new.sources c.operated.new.floats k (get_or (get_or c.args.rows.now c.args.row []) 0 0) c.get_dogma_attribute-record.result.min_attribute_id refl (ap (λ (r : DogmaAttribute). r.min_attribute_id) its) (to_z w32 (of_z w32 c.get_dogma_attribute-record.result.max_attribute_id)) (to_z-of_z {w = w32} (sfits_of most_fits) ∙ ap (λ (r : DogmaAttribute). r.max_attribute_id) its) c.in_ok-low.low.value c.in_ok-low.low.used c.limited.new.values c.limited.new.sources c.limited.new.floats l _ _ _ _ (c.limited-2.ensures.defined (evaluating.raised_on h c.args.left c.in_ok-got.got.value c.in_ok-got.got.used c.operated.new.values c.operated.new.sources c.operated.new.floats k (get_or (get_or c.args.rows.now c.args.row []) 0 0) c.get_dogma_attribute-record.result.min_attribute_id refl (ap (λ (r : DogmaAttribute). r.min_attribute_id) its) (to_z w32 (of_z w32 c.get_dogma_attribute-record.result.max_attribute_id)) (to_z-of_z {w = w32} (sfits_of most_fits) ∙ ap (λ (r : DogmaAttribute). r.max_attribute_id) its) c.in_ok-low.low.value c.in_ok-low.low.used c.limited.new.values c.limited.new.sources c.limited.new.floats l));
+          evaluating.evaluated_meets h c.args.left c.in_ok-got.got.value c.in_ok-got.got.used c.operated.new.values c.operated.new.sources c.operated.new.floats k (get_or (get_or c.args.columns.now.rows.now c.args.row []) 0 0) c.get_dogma_attribute-record.result.min_attribute_id refl (ap (λ (r : DogmaAttribute). r.min_attribute_id) its) (to_z w32 (of_z w32 c.get_dogma_attribute-record.result.max_attribute_id)) (to_z-of_z {w = w32} (sfits_of most_fits) ∙ ap (λ (r : DogmaAttribute). r.max_attribute_id) its) c.in_ok-low.low.value c.in_ok-low.low.used c.limited.new.values c.limited.new.sources c.limited.new.floats l _ _ _ _ (c.limited-2.ensures.defined (evaluating.raised_on h c.args.left c.in_ok-got.got.value c.in_ok-got.got.used c.operated.new.values c.operated.new.sources c.operated.new.floats k (get_or (get_or c.args.columns.now.rows.now c.args.row []) 0 0) c.get_dogma_attribute-record.result.min_attribute_id refl (ap (λ (r : DogmaAttribute). r.min_attribute_id) its) (to_z w32 (of_z w32 c.get_dogma_attribute-record.result.max_attribute_id)) (to_z-of_z {w = w32} (sfits_of most_fits) ∙ ap (λ (r : DogmaAttribute). r.max_attribute_id) its) c.in_ok-low.low.value c.in_ok-low.low.used c.limited.new.values c.limited.new.sources c.limited.new.floats l));
     }
 
 pub gathered-loop-k-init : goal.gathered-loop-k-init
@@ -122,10 +122,10 @@ gathered-returns-in_err-p t c = let p = err_from_is_err_and c.from_residual.resu
 }
 
 pub gathered-returns : goal.gathered-returns
-gathered-returns t c = let id : c.signed-id.result ≡ to_z w32 (get_or (get_or c.args.rows.now c.args.row []) 1 0) = c.signed-id.ensures.defined in
+gathered-returns t c = let id : c.signed-id.result ≡ to_z w32 (get_or (get_or c.args.columns.now.rows.now c.args.row []) 1 0) = c.signed-id.ensures.defined in
     record {
       defined = λ h. let G = c.loop-k.invariant.1 h in let all : length (row_at h.ready.world c.args.row).entries ≤ c.loop-k.k = omega (arith, c.loop-k-test.false, (h.ready.told.row c.args.row h.within).count) in
-          gathering.gathering_applied h G all (λ x g. c.is_high-high.ensures.asked x g ∙ ap (λ (b : Bool). applied b c.args.operator x g) (ap (λ (a : ℤ). high_is_good (get_dogma_attribute (book_of c.args.book.now c.args.pairs.now) a)) (to_z-of_z {w = w32} (sfits_of c.signed-id.type_inv) ∙ id) ∙ gathering.high_is h.ready c.args.row h.within)) _ _ _ (c.apply.ensures.defined h.ready.world _ h.ready.sources₀ h.ready.floats₀ c.args.row _ c.is_high-high.result c.args.operator c.args.part.value G.sofar _ h.ready.told.recorded (gathering.begins h G all refl) (sym (h.ready.told.held.object c.args.row h.within)) (rw c.grown-pile.ensures.defined G.piled) (gathering.all-fresh h G all) (gathering.none_recorded h G all) (gathering.all_plain h G all));
+          gathering.gathering_applied h G all (λ x g. c.is_high-high.ensures.asked x g ∙ ap (λ (b : Bool). applied b c.args.operator x g) (ap (λ (a : ℤ). high_is_good (get_dogma_attribute (book_of c.args.columns.now.book.now c.args.columns.now.pairs.now) a)) (to_z-of_z {w = w32} (sfits_of c.signed-id.type_inv) ∙ id) ∙ gathering.high_is h.ready c.args.row h.within)) _ _ _ (c.apply.ensures.defined h.ready.world _ h.ready.sources₀ h.ready.floats₀ c.args.row _ c.is_high-high.result c.args.operator c.args.part.value G.sofar _ h.ready.told.recorded (gathering.begins h G all refl) (sym (h.ready.told.held.object c.args.row h.within)) (rw c.grown-pile.ensures.defined G.piled) (gathering.all-fresh h G all) (gathering.none_recorded h G all) (gathering.all_plain h G all));
     }
 
 pub limited-returns-then-limit-eq0 : goal.limited-returns-then-limit-eq0
