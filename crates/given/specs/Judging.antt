@@ -16,13 +16,12 @@ use Rattle.rules.specs.Fresh.{unrecorded, forgetful}
 use Rattle.rules.specs.Ids.{OptionalId}
 use Rattle.promises.specs.NoMemory.{NoLoop}
 use Rattle.sources.specs.declared.Recording.{Recording}
-use Rattle.memory.specs.Holding.{Tables, tables, Tells}
+use Rattle.memory.specs.Holding.{Tables, Tells}
 use Rattle.memory.specs.Memory.{value_column, AllFinite}
 use Rattle.memory.specs.Steps.{row_at}
 use Rattle.memory.specs.declared.apply.Got.{Got}
 use Rattle.std.specs.Prelude as code
 use Rattle.rules.specs.Dispatch.{Key}
-use Rattle.given.specs.declared.ReadColumns.{ReadColumns}
 use Rattle.settled.specs.Given.{listed_reader}
 use Rattle.settled.specs.Lines.{line_of, finite_only}
 
@@ -39,10 +38,6 @@ abbrev pub shown_in : List ℕ → Float
 shown_in r = shown_bits (get_or r 2 0) (get_or r 3 0)
 
 -- ---- the columns
-
--- what the code is lent
-abbrev pub tables_of : ReadColumns → Tables
-tables_of c = tables c.book.now c.pairs.now c.states.now c.stretches.now c.limits.now c.rows.now c.bases.now c.entries.now c.entry_values.now
 
 -- nothing is recorded, and list 5 has no room
 abbrev pub off : Recording

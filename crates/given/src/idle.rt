@@ -6,12 +6,13 @@ ghost use Rattle.rules.specs.Outcome.{blank};
 ghost use Rattle.memory.specs.Holding.{Good};
 ghost use Rattle.memory.specs.Steps.{row_at};
 ghost use Rattle.settled.specs.Given.{listed_reader, idle, idles};
-ghost use Rattle.given.specs.Judging.{tables_of, Judged, float_in, held_up, is_ok, looks};
+ghost use Rattle.memory.specs.Holding.{tables_of};
+ghost use Rattle.given.specs.Judging.{Judged, float_in, held_up, is_ok, looks};
 
-use super::ReadColumns;
 use columns::{ROW_ENTRY_COUNT, ROW_FIRST_ENTRY};
 use info::little_endian::index;
 use info::look_ups::get_dogma_attribute;
+use memory::ReadColumns;
 use numbers::product;
 use reading::entries::{entry_at, is_running};
 use reading::stretches::find;

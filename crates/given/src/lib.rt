@@ -9,34 +9,19 @@ ghost use Rattle.memory.specs.Steps.{row_at};
 ghost use Rattle.values.specs.Starting.{Untouched};
 ghost use Rattle.settled.specs.Given.{given};
 ghost use Rattle.settled.specs.Lines.{line_of, same_float, is_given, first_wrong, first_bad};
-ghost use Rattle.given.specs.Judging.{tables_of, Judged, Awaits, LaidUnless, calculated_from, GotIs, Restored, KeptIf, KeptUnless};
+ghost use Rattle.memory.specs.Holding.{tables_of};
+ghost use Rattle.given.specs.Judging.{Judged, Awaits, LaidUnless, calculated_from, GotIs, Restored, KeptIf, KeptUnless};
 
-use columns::{
-    AttributeRow, EntryRow, Limits, ROW_ATTRIBUTE, ROW_ENTRY_COUNT, SOURCE_FLOATS, SOURCE_WIDTH,
-    States, Stretches, TablePairs,
-};
+use columns::{AttributeRow, Limits, ROW_ATTRIBUTE, ROW_ENTRY_COUNT, SOURCE_FLOATS, SOURCE_WIDTH};
 use idle::idles_have_strength;
 use lines::{LineRow, first_other, set_listed};
+use memory::ReadColumns;
 use memory::apply::Got;
 use numbers::integers::signed;
 use pass_3::calculate_value;
 use reading::stretches::is_limited;
 use rules::Refusal;
 use sources::Recording;
-
-// What values are calculated from: the book, the states, and lists 2 and 3, with where each object's rows are and which attributes may have a limit.
-#[derive(Clone, Copy)]
-pub struct ReadColumns<'a> {
-    pub book: &'a [u8],
-    pub pairs: &'a TablePairs,
-    pub states: &'a States,
-    pub stretches: &'a Stretches,
-    pub limits: &'a Limits,
-    pub rows: &'a [AttributeRow],
-    pub bases: &'a [f64],
-    pub entries: &'a [EntryRow],
-    pub entry_values: &'a [f64],
-}
 
 // Whether a row's value is its base: it has no entries, and its attribute has no limit.
 fn is_untouched(rows: &[AttributeRow], limits: &Limits, row: usize) -> bool
@@ -68,24 +53,7 @@ fn given_at(values: &mut [f64], columns: &ReadColumns, row: usize) -> Result<Got
         room: 0,
         recording: false,
     };
-    let got = calculate_value(
-        values,
-        &mut sources,
-        &mut floats,
-        columns.book,
-        columns.pairs,
-        columns.states,
-        columns.stretches,
-        columns.limits,
-        columns.rows,
-        columns.bases,
-        columns.entries,
-        columns.entry_values,
-        run,
-        row,
-        1,
-        0,
-    );
+    let got = calculate_value(values, &mut sources, &mut floats, columns, run, row, 1, 0);
     values[row] = listed;
     got
 }

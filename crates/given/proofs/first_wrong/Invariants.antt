@@ -3,7 +3,8 @@ use native.Mathlib.Omega.{arith}
 use Prim.Native.Nat.{◌-◌, ◌≤◌}
 use mathlib.Core.Path.{◌≡◌, refl, ◌∙◌}
 use lib.ListN.{length}
-use Rattle.given.specs.Judging.{tables_of, Judged}
+use Rattle.memory.specs.Holding.{tables_of}
+use Rattle.given.specs.Judging.{Judged}
 use Rattle.given.proofs.Rights.{kept_true, with_column, FirstLeft, right_on, wrong_at, none_wrong}
 
 abbrev pub invariant-loop-i : goal.invariant-loop-i

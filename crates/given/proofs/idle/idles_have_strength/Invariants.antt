@@ -4,7 +4,8 @@ use Prim.Native.Nat.{◌-◌, ◌≤◌}
 use mathlib.Core.Path.{refl}
 use Rattle.memory.specs.Steps.{row_at}
 use Rattle.memory.proofs.Fitting.{fits_below}
-use Rattle.given.specs.Judging.{tables_of, Judged}
+use Rattle.memory.specs.Holding.{tables_of}
+use Rattle.given.specs.Judging.{Judged}
 use Rattle.given.proofs.Idling.{Left, all_done, counted, its_entry, its_good, entry_strong, entry_weak}
 
 abbrev pub invariant-loop-k : goal.invariant-loop-k
