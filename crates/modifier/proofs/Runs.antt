@@ -15,9 +15,7 @@ use Rattle.rules.specs.declared.Pass2Effect.{Pass2Effect}
 use Rattle.rules.specs.declared.Refusal.{Refusal}
 use Rattle.rules.specs.declared.Refusal.TheVariants.{Room}
 use Rattle.modifier.specs.declared.moves.CollectedRooms.{CollectedRooms}
-use Rattle.modifier.specs.declared.moves.Counted.{Counted}
-use Rattle.modifier.specs.declared.moves.Counted.TheVariants.{At, Refused}
-use Rattle.modifier.specs.Ran.{Stand, at, stop, stand_of, value_of, moved, ran}
+use Rattle.modifier.specs.Ran.{Stand, at, stop, value_of, moved, ran}
 
 module _ (q : CollectedRooms) where
   pub ran_append : (xs ys : List Move) (s : Stand) → ran q (xs ++ ys) s ≡ ran q ys (ran q xs s)
@@ -55,13 +53,6 @@ module _ (q : CollectedRooms) {A : Type 0} (F : A → List Move) (M : List A) (i
 -- what is left after a refusal changes nothing
 pub halted : (q : CollectedRooms) (xs : List Move) (whole t : Stand) (x : Refusal) → whole ≡ ran q xs t → t ≡ stop x → stop x ≡ whole
 halted q xs whole t x w e = sym (w ∙ ap (ran q xs) e ∙ ran-stop q xs x)
-
--- an answer, as a pattern found it
-pub answered : {r : Counted} {n p : ℕ} → r ≡ At n p → (c : List (List ℕ)) (v : List Float) (l : List (List ℕ)) → stand_of r c v l ≡ at n p c v l
-answered e c v l = ap (λ (r : Counted). stand_of r c v l) e
-
-pub was_refused : {r : Counted} {x : Refusal} → r ≡ Refused x → (c : List (List ℕ)) (v : List Float) (l : List (List ℕ)) → stand_of r c v l ≡ stop x
-was_refused e c v l = ap (λ (r : Counted). stand_of r c v l) e
 
 -- ---- a row pushed
 

@@ -1,5 +1,5 @@
 -- What a modifier gives, by what it is collected for.
-use Rattle.std.specs.Prelude.{ℕ, ◌≡◌, List, [], ◌∷◌, None}
+use Rattle.std.specs.Prelude.{ℕ, ◌≡◌, List, [], ◌∷◌, Option, Some, None, Result, Ok, Err}
 use Rattle.rules.specs.Sheet.{Book, Fit}
 use Rattle.rules.specs.Collect.{Move, taken, refuse, modifier_moves, projected_modifier_moves, buff_modifier_moves, named, unless_zero}
 use Rattle.rules.specs.declared.Modifier.{Modifier}
@@ -11,16 +11,16 @@ use Rattle.rules.specs.declared.EffectCategory.{EffectCategory}
 use Rattle.rules.specs.declared.Origin.TheVariants.{Effect}
 use Rattle.rules.specs.declared.Pass2Effect.{Pass2Effect}
 use Rattle.rules.specs.Ids.{OptionalId}
+use Rattle.rules.specs.declared.Refusal.{Refusal}
 use Rattle.modifier.specs.Tests.{OwnerOf}
-use Rattle.modifier.specs.declared.causes.Moved.{Moved}
-use Rattle.modifier.specs.declared.causes.Moved.TheVariants as move
 use Rattle.modifier.specs.declared.causes.Cause.{Cause}
 use Rattle.modifier.specs.declared.causes.Cause.TheVariants as cause
 
-abbrev pub moves_of : Moved → List Move
-moves_of (move.Taken t) = taken t ∷ []
-moves_of move.Over = []
-moves_of (move.Bad x) = refuse x ∷ []
+-- what is taken, nothing where the modifier is passed over, or a refusal
+abbrev pub moves_of : Result (Option Pass2Effect) Refusal → List Move
+moves_of (Ok (Some t)) = taken t ∷ []
+moves_of (Ok None) = []
+moves_of (Err x) = refuse x ∷ []
 
 -- the collected effect of an object's modifier, by what its tests gave
 abbrev pub effect_of : Item → DogmaEffect → DogmaModifier → EffectCategory → OptionalId → Modifier → EffectOperator → ℕ → Pass2Effect

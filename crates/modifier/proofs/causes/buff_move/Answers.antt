@@ -1,21 +1,19 @@
 -- `causes::buff_move` meets its contract. Assumes nothing.
 use Rattle.modifier.proofs.causes.buff_move.Goals as goal
-use mathlib.Core.Path.{sym, ap, ◌∙◌}
-use borrow.Author.Rules.{sfits_of}
-use mir.Syntax.{w32}
-use mir.ValLaws.{to_z-of_z}
 use Rattle.rules.specs.Collect.{buff_modifier_moves}
-use Rattle.modifier.specs.Tests.{func_of}
-use Rattle.modifier.proofs.Tests.{then_is}
+use mathlib.Core.Path.{refl}
+use Rattle.std.proofs.Common.{arith}
+use Rattle.std.proofs.lemmas.Grind.{common_steps}
+use Rattle.modifier.proofs.Tests.{given_on}
 
-pub returns-in-Go : goal.returns-in-Go
+pub returns-in_err-modifier : goal.returns-in_err-modifier
 unfolding buff_modifier_moves
-returns-in-Go c = record { defined = rw (to_z-of_z w32 c.args.b.id (sfits_of c.struct_told-1.given.0.1), to_z-of_z w32 c.args.m.modified_attribute_id (sfits_of c.struct_told-in-Go-1.given.1.1.1.1.1.0.1)) (sym (then_is (sym c.get_modifier_func-tested.ensures.defined ∙ ap func_of c.in-Go.is) _)) }
+returns-in_err-modifier c = record { defined = rw (given_on _ c.from_residual.ensures.1, ← c.in_err-modifier.ensures.defined) refl }
 
-pub returns-in-Over : goal.returns-in-Over
+pub returns-in_default : goal.returns-in_default
 unfolding buff_modifier_moves
-returns-in-Over c = record { defined = sym (then_is (sym c.get_modifier_func-tested.ensures.defined ∙ ap func_of c.in-Over.is) _) }
+returns-in_default c = grind (arith, common_steps)
 
-pub returns-in-Bad : goal.returns-in-Bad
+pub returns : goal.returns
 unfolding buff_modifier_moves
-returns-in-Bad c = record { defined = sym (then_is (sym c.get_modifier_func-tested.ensures.defined ∙ ap func_of c.in-Bad.is) _) }
+returns c = grind (arith, common_steps)

@@ -1,29 +1,52 @@
 -- `causes::own_move` meets its contract. Assumes nothing.
 use Rattle.modifier.proofs.causes.own_move.Goals as goal
-use mathlib.Core.Path.{sym, ap, ◌∙◌}
-use borrow.Author.Rules.{sfits_of}
+use mathlib.Core.Path.{refl}
+use Prim.Native.Nat.{◌<◌, ◌^◌}
+use lib.Signed.{mag}
 use mir.Syntax.{w32}
 use mir.ValLaws.{to_z-of_z}
-use Rattle.modifier.specs.Tests.{func_of, operation_of}
-use Rattle.modifier.proofs.MovesLaws.{own_func, own_operation, own_target_lem}
+use Rattle.std.proofs.Common.{arith, rules}
+use Rattle.std.proofs.lemmas.Grind.{common_steps}
+use Rattle.rules.specs.Collect.{modifier_moves, go, over}
+use Rattle.modifier.proofs.Tests.{given_on}
+use Rattle.modifier.proofs.MovesLaws.{own_target_lem}
 
-pub returns-in-Go-aim : goal.returns-in-Go-aim
-returns-in-Go-aim c = record { defined = λ k f h. rw (c.effect_of-t.ensures.defined, c.source_category-source.ensures.defined, to_z-of_z w32 c.args.m.modified_attribute_id (sfits_of c.struct_told-1.given.1.1.1.1.1.0.1)) (sym (own_target_lem c.args.w.item c.args.e c.args.m k f c.args.category c.get_own_target-aim.result (sym c.get_modifier_func-func.ensures.defined ∙ ap func_of c.in-Go.is) (sym c.get_effect_operator-operation.ensures.defined ∙ ap operation_of c.in-Go-operation.is) (λ g. c.get_own_target-aim.ensures.defined f g h) c.in-Go-aim.is)) }
+pub returns-in_err-modifier : goal.returns-in_err-modifier
+unfolding modifier_moves
+returns-in_err-modifier c = record { defined = λ k f h. rw (given_on _ c.from_residual.ensures.1, ← c.in_err-modifier.ensures.defined) refl }
 
-pub returns-in-Over-aim : goal.returns-in-Over-aim
-returns-in-Over-aim c = record { defined = λ k f h. sym (own_target_lem c.args.w.item c.args.e c.args.m k f c.args.category c.get_own_target-aim.result (sym c.get_modifier_func-func.ensures.defined ∙ ap func_of c.in-Go.is) (sym c.get_effect_operator-operation.ensures.defined ∙ ap operation_of c.in-Go-operation.is) (λ g. c.get_own_target-aim.ensures.defined f g h) c.in-Over-aim.is) }
+pub returns-in_default : goal.returns-in_default
+unfolding modifier_moves
+returns-in_default c = grind (arith, common_steps)
 
-pub returns-in-Bad-aim : goal.returns-in-Bad-aim
-returns-in-Bad-aim c = record { defined = λ k f h. sym (own_target_lem c.args.w.item c.args.e c.args.m k f c.args.category c.get_own_target-aim.result (sym c.get_modifier_func-func.ensures.defined ∙ ap func_of c.in-Go.is) (sym c.get_effect_operator-operation.ensures.defined ∙ ap operation_of c.in-Go-operation.is) (λ g. c.get_own_target-aim.ensures.defined f g h) c.in-Bad-aim.is) }
+pub returns-in_err-operator : goal.returns-in_err-operator
+unfolding modifier_moves
+returns-in_err-operator c =
+    let func = rw c.in-Some.is at c.in_ok-modifier.ensures.defined in
+    record { defined = λ k f h. rw (given_on _ c.from_residual-in_err-operator.ensures.1, ← func, ← c.in_err-operator.ensures.defined) refl }
 
-pub returns-in-Over-operation : goal.returns-in-Over-operation
-returns-in-Over-operation c = record { defined = λ k f h. sym (own_operation c.args.w.item c.args.e c.args.m k f c.args.category (sym c.get_modifier_func-func.ensures.defined ∙ ap func_of c.in-Go.is) (sym c.get_effect_operator-operation.ensures.defined ∙ ap operation_of c.in-Over-operation.is)) }
+pub returns-in_default-2 : goal.returns-in_default-2
+unfolding modifier_moves
+returns-in_default-2 c = grind (arith, common_steps)
 
-pub returns-in-Bad-operation : goal.returns-in-Bad-operation
-returns-in-Bad-operation c = record { defined = λ k f h. sym (own_operation c.args.w.item c.args.e c.args.m k f c.args.category (sym c.get_modifier_func-func.ensures.defined ∙ ap func_of c.in-Go.is) (sym c.get_effect_operator-operation.ensures.defined ∙ ap operation_of c.in-Bad-operation.is)) }
+pub returns-in_err-target : goal.returns-in_err-target
+unfolding modifier_moves
+returns-in_err-target c =
+    let func = rw c.in-Some.is at c.in_ok-modifier.ensures.defined in
+    let op = rw c.in-Some-2.is at c.in_ok-operator.ensures.defined in
+    record { defined = λ k f h. rw (given_on _ c.from_residual-in_err-target.ensures.1, ← func, ← op) (c.in_err-target.ensures.defined f _ h) }
 
-pub returns-in-Over : goal.returns-in-Over
-returns-in-Over c = record { defined = λ k f h. sym (own_func c.args.w.item c.args.e c.args.m k f c.args.category (sym c.get_modifier_func-func.ensures.defined ∙ ap func_of c.in-Over.is)) }
+pub returns-in_default-3 : goal.returns-in_default-3
+returns-in_default-3 c =
+    let func = rw c.in-Some.is at c.in_ok-modifier.ensures.defined in
+    let op = rw c.in-Some-2.is at c.in_ok-operator.ensures.defined in
+    record { defined = λ k f h. own_target_lem c.args.w.item c.args.e c.args.m k f c.args.category over func op (λ g. rw c.in_default-3.is at (c.in_ok-target.ensures.defined f g h)) }
 
-pub returns-in-Bad : goal.returns-in-Bad
-returns-in-Bad c = record { defined = λ k f h. sym (own_func c.args.w.item c.args.e c.args.m k f c.args.category (sym c.get_modifier_func-func.ensures.defined ∙ ap func_of c.in-Bad.is)) }
+pub returns : goal.returns
+returns c =
+    let func = rw c.in-Some.is at c.in_ok-modifier.ensures.defined in
+    let op = rw c.in-Some-2.is at c.in_ok-operator.ensures.defined in
+    let fits : mag c.args.m.modified_attribute_id < 2 ^ 31 = search rules in
+    record { defined = λ k f h.
+      rw (c.effect_of-t.ensures.defined, c.source_category-source.ensures.defined, to_z-of_z w32 c.args.m.modified_attribute_id (record { sfits = fits }))
+      (own_target_lem c.args.w.item c.args.e c.args.m k f c.args.category (go c.in-Some-3.target) func op (λ g. rw c.in-Some-3.is at (c.in_ok-target.ensures.defined f g h))) }

@@ -1,26 +1,47 @@
 -- `causes::projected_move` meets its contract. Assumes nothing.
 use Rattle.modifier.proofs.causes.projected_move.Goals as goal
-use mathlib.Core.Path.{sym, ap, ◌∙◌}
-use Rattle.modifier.specs.Tests.{func_of, operation_of, target_of}
-use Rattle.modifier.proofs.MovesLaws.{projected_target_lem, projected_func, projected_operation, projected_taken}
+use mathlib.Core.Path.{refl}
+use Rattle.rules.specs.Collect.{projected_modifier_moves}
+use Rattle.modifier.proofs.Tests.{given_on}
+use Rattle.modifier.proofs.MovesLaws.{projected_taken}
 
-pub returns-in-Go-operation : goal.returns-in-Go-operation
-returns-in-Go-operation c = record { defined = λ f h r. rw c.effect_of-t.ensures.defined (sym (projected_taken c.args.w.item c.args.e c.args.m f c.args.category (sym (c.get_projected_object-aim.ensures.defined f h) ∙ ap target_of c.in-Go.is) (sym c.get_modifier_func-func.ensures.defined ∙ ap func_of c.in-Go-func.is) (sym c.get_effect_operator-operation.ensures.defined ∙ ap operation_of c.in-Go-operation.is) r)) }
+pub returns-in_err-target : goal.returns-in_err-target
+unfolding projected_modifier_moves
+returns-in_err-target c = record { defined = λ f h r. rw (given_on _ c.from_residual.ensures.1, ← c.in_err-target.ensures.defined f h) refl }
 
-pub returns-in-Over-operation : goal.returns-in-Over-operation
-returns-in-Over-operation c = record { defined = λ f h r. sym (projected_operation c.args.w.item c.args.e c.args.m f c.args.category (sym (c.get_projected_object-aim.ensures.defined f h) ∙ ap target_of c.in-Go.is) (sym c.get_modifier_func-func.ensures.defined ∙ ap func_of c.in-Go-func.is) (sym c.get_effect_operator-operation.ensures.defined ∙ ap operation_of c.in-Over-operation.is)) }
+pub returns-in_default : goal.returns-in_default
+unfolding projected_modifier_moves
+returns-in_default c = record { defined = λ f h r. rw (← (rw c.in_default.is at (c.in_ok-target.ensures.defined f h))) refl }
 
-pub returns-in-Bad-operation : goal.returns-in-Bad-operation
-returns-in-Bad-operation c = record { defined = λ f h r. sym (projected_operation c.args.w.item c.args.e c.args.m f c.args.category (sym (c.get_projected_object-aim.ensures.defined f h) ∙ ap target_of c.in-Go.is) (sym c.get_modifier_func-func.ensures.defined ∙ ap func_of c.in-Go-func.is) (sym c.get_effect_operator-operation.ensures.defined ∙ ap operation_of c.in-Bad-operation.is)) }
+pub returns-in_err-modifier : goal.returns-in_err-modifier
+unfolding projected_modifier_moves
+returns-in_err-modifier c = record { defined = λ f h r.
+  let target = rw c.in-Some.is at (c.in_ok-target.ensures.defined f h) in
+  rw (given_on _ c.from_residual-in_err-modifier.ensures.1, ← target, ← c.in_err-modifier.ensures.defined) refl }
 
-pub returns-in-Over-func : goal.returns-in-Over-func
-returns-in-Over-func c = record { defined = λ f h r. sym (projected_func c.args.w.item c.args.e c.args.m f c.args.category (sym (c.get_projected_object-aim.ensures.defined f h) ∙ ap target_of c.in-Go.is) (sym c.get_modifier_func-func.ensures.defined ∙ ap func_of c.in-Over-func.is)) }
+pub returns-in_default-2 : goal.returns-in_default-2
+unfolding projected_modifier_moves
+returns-in_default-2 c = record { defined = λ f h r.
+  let target = rw c.in-Some.is at (c.in_ok-target.ensures.defined f h) in
+  rw (← target, ← (rw c.in_default-2.is at c.in_ok-modifier.ensures.defined)) refl }
 
-pub returns-in-Bad-func : goal.returns-in-Bad-func
-returns-in-Bad-func c = record { defined = λ f h r. sym (projected_func c.args.w.item c.args.e c.args.m f c.args.category (sym (c.get_projected_object-aim.ensures.defined f h) ∙ ap target_of c.in-Go.is) (sym c.get_modifier_func-func.ensures.defined ∙ ap func_of c.in-Bad-func.is)) }
+pub returns-in_err-operator : goal.returns-in_err-operator
+unfolding projected_modifier_moves
+returns-in_err-operator c = record { defined = λ f h r.
+  let target = rw c.in-Some.is at (c.in_ok-target.ensures.defined f h) in
+  let func = rw c.in-Some-2.is at c.in_ok-modifier.ensures.defined in
+  rw (given_on _ c.from_residual-in_err-operator.ensures.1, ← target, ← func, ← c.in_err-operator.ensures.defined) refl }
 
-pub returns-in-Over : goal.returns-in-Over
-returns-in-Over c = record { defined = λ f h r. sym (projected_target_lem c.args.w.item c.args.e c.args.m f c.args.category (sym (c.get_projected_object-aim.ensures.defined f h) ∙ ap target_of c.in-Over.is)) }
+pub returns-in_default-3 : goal.returns-in_default-3
+unfolding projected_modifier_moves
+returns-in_default-3 c = record { defined = λ f h r.
+  let target = rw c.in-Some.is at (c.in_ok-target.ensures.defined f h) in
+  let func = rw c.in-Some-2.is at c.in_ok-modifier.ensures.defined in
+  rw (← target, ← func, ← (rw c.in_default-3.is at c.in_ok-operator.ensures.defined)) refl }
 
-pub returns-in-Bad : goal.returns-in-Bad
-returns-in-Bad c = record { defined = λ f h r. sym (projected_target_lem c.args.w.item c.args.e c.args.m f c.args.category (sym (c.get_projected_object-aim.ensures.defined f h) ∙ ap target_of c.in-Bad.is)) }
+pub returns : goal.returns
+returns c = record { defined = λ f h r.
+  let target = rw c.in-Some.is at (c.in_ok-target.ensures.defined f h) in
+  let func = rw c.in-Some-2.is at c.in_ok-modifier.ensures.defined in
+  let op = rw c.in-Some-3.is at c.in_ok-operator.ensures.defined in
+  rw c.effect_of-t.ensures.defined (projected_taken c.args.w.item c.args.e c.args.m f c.args.category target func op r) }

@@ -1,16 +1,10 @@
 -- `codes::get_own_target` meets its contract. Assumes nothing.
 use Rattle.modifier.proofs.codes.get_own_target.Goals as goal
-use Rattle.modifier.proofs.codes.get_own_target.Reads as reads
-use Rattle.modifier.proofs.codes.get_own_target.Lts as lts
-use Rattle.modifier.proofs.codes.get_target_object.Reads as get-target-object-reads
-use mathlib.Core.Path.{refl, sym, ap, ◌∙◌}
-use Rattle.modifier.proofs.Tests.{then_is}
+use mathlib.Core.Path.{◌∙◌}
+use Rattle.modifier.proofs.Tests.{then_is, skipped, aimed}
 
-pub returns-then-o-domain : goal.returns-then-o-domain
-returns-then-o-domain c = record { defined = λ f g h. rw (← h.charged, c.if-o-domain.true) refl }
-
-pub returns-then-o-w : goal.returns-then-o-w
-returns-then-o-w c = record { defined = λ f g h. rw (← h.charged, c.if-o-domain.false, ← h.structure, c.if-o-w.true) refl }
+pub returns-then-is_skill-w : goal.returns-then-is_skill-w
+returns-then-is_skill-w c = record { defined = λ f g h. skipped f c.args.w.item c.args.m g (rw (c.is_skill.ensures.defined, h.structure) at c.if-is_skill-w.true) }
 
 pub returns : goal.returns
-returns c = record { defined = λ f g h. rw (← h.charged, c.if-o-domain.false, ← h.structure, c.if-o-w.false) (then_is (c.get_target_object.ensures.defined f h) g) }
+returns c = record { defined = λ f g h. then_is (c.get_target_object.ensures.defined f h) g ∙ aimed f c.args.w.item c.args.m g (rw (c.is_skill.ensures.defined, h.structure) at c.if-is_skill-w.false) }

@@ -20,7 +20,7 @@ unfolding test_domain
 returns-in-2 c = record { defined = λ f h. rw c.in-2.is (ap go h.character) }
 
 pub returns-in-3 : goal.returns-in-3
-returns-in-3 c = record { defined = λ f h. c.other_of.ensures.defined f h c.in-3.is }
+returns-in-3 c = record { defined = λ f h. rw c.in-3.is (c.other_of.ensures.defined f h) }
 
 pub returns-in-4 : goal.returns-in-4
 unfolding test_domain

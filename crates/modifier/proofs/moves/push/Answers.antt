@@ -6,8 +6,8 @@ use Rattle.modifier.proofs.moves.collected_numbers.Reads as collected-numbers-re
 use Rattle.modifier.proofs.moves.origin_value.Reads as origin-value-reads
 use Rattle.modifier.proofs.Runs.{no_room, pushed}
 
-pub returns-then-room-used : goal.returns-then-room-used
-returns-then-room-used c = record { defined = λ l. no_room _ _ _ _ _ l _ c.if-room-used.true }
+pub returns-then-rooms-n : goal.returns-then-rooms-n
+returns-then-rooms-n c = record { defined = λ l. no_room _ _ _ _ _ l _ c.if-rooms-n.true }
 
 pub returns : goal.returns
-returns c = record { defined = λ l. pushed _ _ _ _ _ l _ c.if-room-used.false c.collected_numbers-row.ensures.defined c.origin_value-value.ensures.defined }
+returns c = record { defined = λ l. pushed _ _ _ _ _ l _ c.if-rooms-n.false c.collected_numbers-row.ensures.defined c.origin_value-value.ensures.defined }
