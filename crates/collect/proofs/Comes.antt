@@ -25,8 +25,8 @@ use Rattle.rules.specs.declared.Item.{Item}
 use Rattle.rules.specs.declared.Pass2Effect.{Pass2Effect}
 use Rattle.rules.specs.declared.ProjectedBuff.{ProjectedBuff}
 use Rattle.rules.specs.declared.TypeDogmaEffect.{TypeDogmaEffect}
-use Rattle.modifier.specs.declared.causes.Cause.{Cause}
-use Rattle.modifier.specs.declared.causes.Cause.TheVariants as cause
+use Rattle.modifier.specs.Causes.{Cause}
+use Rattle.modifier.specs.Causes as cause
 use Rattle.modifier.specs.declared.codes.Owner.{Owner}
 use Rattle.modifier.specs.Causes.{cause_moves}
 use Rattle.collect.specs.Takes.{Each, Of, Member, Caused, Collects}
@@ -95,7 +95,7 @@ module _ (k : Book) (f : Fit) where
   module _ (o : Item) (n : Member f.objects o) where
     module _ (e : DogmaEffect) (i : Member k.effects e) where
       own : (c : EffectCategory) → Here (flat (modifier_moves k f o e c) (span e.first_modifier e.modifiers k.modifiers))
-      own c = each_span (Collects k f) (modifier_moves k f o e c) e.first_modifier e.modifiers k.modifiers (λ m l. of_cause (cause.Own (owner_of o) e c) (n, i) m l)
+      own c = each_span (Collects k f) (modifier_moves k f o e c) e.first_modifier e.modifiers k.modifiers (λ m l. of_cause (cause.own (owner_of o) e c) (n, i) m l)
 
       of_given : (t : TypeDogmaEffect) (c : EffectCategory) (m : ℕ) → Here (given k f o t e c m)
       of_given t c zero = tt
@@ -125,7 +125,7 @@ module _ (k : Book) (f : Fit) where
     category_all e none h i g = subst Here (projected_bad k f o e h g) tt
     category_all e (some c) h i g =
         subst Here (projected_modifiers k f o e c h g)
-        (each_span (Collects k f) (projected_modifier_moves f o e c) e.first_modifier e.modifiers k.modifiers (λ m l. of_cause (cause.Projected (owner_of o) e c None) (n, i) m l))
+        (each_span (Collects k f) (projected_modifier_moves f o e c) e.first_modifier e.modifiers k.modifiers (λ m l. of_cause (cause.projected (owner_of o) e c None) (n, i) m l))
 
     projected_by_lem : (x : Option DogmaEffect) → get_dogma_effect k o.projected_effect ≡ x → Here (projected_moves k f o)
     unfolding get_dogma_effect
@@ -135,7 +135,7 @@ module _ (k : Book) (f : Fit) where
   module _ (b : ProjectedBuff) (n : Member f.buffs b) where
     after-all : (r : DbuffCollection) (t : Test EffectOperator) → Here (buff_after k b r t)
     after-all r (go op) =
-        each_span (Collects k f) (buff_modifier_moves b op) r.first_modifier r.modifiers k.modifiers (λ m l. of_cause (cause.Buff b op) n m l)
+        each_span (Collects k f) (buff_modifier_moves b op) r.first_modifier r.modifiers k.modifiers (λ m l. of_cause (cause.buff b op) n m l)
     after-all r over = tt
     after-all r (bad x) = tt
 

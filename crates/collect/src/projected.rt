@@ -16,9 +16,9 @@ use super::collecting::collect_modifiers;
 use columns::{CollectedRow, EffectPlaces, TablePairs};
 use info::look_ups::{get_base, get_dogma_effect};
 use item::codes::category_at;
-use modifier::causes::Cause;
+use modifier::causes::projected_move;
 use modifier::codes::Owner;
-use modifier::moves::{CollectedRooms, Counted};
+use modifier::moves::{CollectedCounts, CollectedRooms};
 use numbers::integers::cut;
 use rules::{ATTRIBUTE_REMOTE_RESISTANCE_ID, DogmaEffect, Item, Refusal};
 
@@ -64,37 +64,30 @@ pub fn collect_projected_effect(
     book: &[u8],
     pairs: &TablePairs,
     rooms: CollectedRooms,
-    used: usize,
-    used_plain: usize,
+    used: CollectedCounts,
     w: Owner,
     e: DogmaEffect,
     resistance: Option<i32>,
-) -> Counted
+) -> Result<CollectedCounts, Refusal>
     requires lent { Lent rooms collected.old collected_values.old }
     requires held_book { HeldBook book.now pairs.now }
     requires inside { e.first_modifier + e.modifiers ≤ count_of pairs.now 3 }
     ensures defined { (f : Fit) → OwnerOf f w → resistance ≡ resistance_of f w.item e → get_dogma_effect (book_at book pairs) w.item.projected_effect ≡ some e
-        → RunsCollected rooms result used used_plain (projected_moves (book_at book pairs) f w.item) collected collected_values }
+        → RunsCollected rooms result used (projected_moves (book_at book pairs) f w.item) collected collected_values }
 {
-    let found = category_at(e.category);
-    match found {
-        Some(category) => {
-            let cause = Cause::Projected(w, e, category, resistance);
-            collect_modifiers(
-                collected,
-                collected_values,
-                book,
-                pairs,
-                rooms,
-                used,
-                used_plain,
-                cause,
-                e.first_modifier,
-                e.modifiers,
-            )
-        }
-        None => Counted::Refused(Refusal::Category(e.number)),
-    }
+    let category = category_at(e.category).ok_or(Refusal::Category(e.number))?;
+    let gives = |m| projected_move(w, e, category, resistance, m);
+    collect_modifiers(
+        collected,
+        collected_values,
+        book,
+        pairs,
+        rooms,
+        used,
+        e.first_modifier,
+        e.modifiers,
+        gives,
+    )
 }
 
 // A projected object's one effect; a missing one is passed over.
@@ -106,35 +99,30 @@ pub fn collect_projected(
     pairs: &TablePairs,
     places: &EffectPlaces,
     rooms: CollectedRooms,
-    used: usize,
-    used_plain: usize,
+    used: CollectedCounts,
     w: Owner,
-) -> Counted
+) -> Result<CollectedCounts, Refusal>
     requires lent { Lent rooms collected.old collected_values.old }
     requires sound_book { SoundBook book.now pairs.now }
     requires sound_fit { SoundFit fit.now pairs.now }
     requires of_fit { OfFit (fit_of fit.now pairs.now) w.item }
     requires owner { OwnerOf (fit_of fit.now pairs.now) w }
-    ensures defined { RunsCollected rooms result used used_plain (projected_moves (book_at book pairs) (fit_at fit pairs) w.item) collected collected_values }
+    ensures defined { RunsCollected rooms result used (projected_moves (book_at book pairs) (fit_at fit pairs) w.item) collected collected_values }
 {
     let o = w.item;
-    let found = get_dogma_effect(book, pairs, places, o.projected_effect);
-    match found {
-        Some(e) => {
-            let resistance = get_resistance(fit, pairs, o, e);
-            collect_projected_effect(
-                collected,
-                collected_values,
-                book,
-                pairs,
-                rooms,
-                used,
-                used_plain,
-                w,
-                e,
-                resistance,
-            )
-        }
-        None => Counted::At(used, used_plain),
-    }
+    let Some(e) = get_dogma_effect(book, pairs, places, o.projected_effect) else {
+        return Ok(used);
+    };
+    let resistance = get_resistance(fit, pairs, o, e);
+    collect_projected_effect(
+        collected,
+        collected_values,
+        book,
+        pairs,
+        rooms,
+        used,
+        w,
+        e,
+        resistance,
+    )
 }

@@ -4,7 +4,10 @@ ghost use Rattle.rules.specs.Sheet.{Book, Fit};
 ghost use Rattle.rules.specs.Item.{is_rig, is_subsystem, is_drone, is_fighter, is_on_char, is_owner_modifiable, is_module_category, is_module, is_in_ship, is_calculated, passed, structure_fit};
 ghost use Rattle.item.specs.Categories.{CategoriesOf};
 
-use rules::{BOOSTER, CATEGORY_DRONE, CATEGORY_FIGHTER, CATEGORY_IMPLANT, DRONE_BAY, FIGHTER_BAY, FIGHTER_TUBE, HIGH, IMPLANT, Item, RIG, SERVICE, SUBSYSTEM};
+use rules::{
+    BOOSTER, CATEGORY_DRONE, CATEGORY_FIGHTER, CATEGORY_IMPLANT, DRONE_BAY, FIGHTER_BAY,
+    FIGHTER_TUBE, HIGH, IMPLANT, Item, RIG, SERVICE, SUBSYSTEM,
+};
 
 // CATEGORY_MODULE, CATEGORY_SUBSYSTEM and CATEGORY_STRUCTURE_MODULE, which the header gives.
 #[derive(Clone, Copy)]

@@ -6,7 +6,7 @@ ghost use Rattle.rules.specs.Sheet.{Book, Fit};
 ghost use Rattle.rules.specs.Item.{is_rig};
 ghost use Rattle.rules.specs.Collect.{modifier_moves, projected_modifier_moves, buff_modifier_moves};
 ghost use Rattle.modifier.specs.Tests.{OwnerOf};
-ghost use Rattle.modifier.specs.Causes.{CauseOf, moves_of, cause_moves, effect_of, resistance_of};
+ghost use Rattle.modifier.specs.Causes.{moves_of, effect_of, resistance_of};
 
 use super::codes::{
     Owner, get_effect_operator, get_modifier_func, get_own_target, get_projected_object,
@@ -16,14 +16,6 @@ use rules::{
     ATTRIBUTE_UPGRADE_LOAD_ID, DogmaEffect, DogmaModifier, EffectCategory, EffectOperator, Item,
     Modifier, Origin, Pass2Effect, ProjectedBuff, Refusal,
 };
-
-// What modifiers are collected for: an object's own effect, its projected effect, a buff.
-#[derive(Clone, Copy)]
-pub enum Cause {
-    Own(Owner, DogmaEffect, EffectCategory),
-    Projected(Owner, DogmaEffect, EffectCategory, Option<i32>),
-    Buff(ProjectedBuff, EffectOperator),
-}
 
 // On attribute 1152 a rig keeps Passive.
 fn source_category(o: Item, category: EffectCategory, attribute: i32) -> EffectCategory
@@ -89,7 +81,7 @@ pub fn own_move(
 }
 
 // A projected modifier: domain, func, operation.
-fn projected_move(
+pub fn projected_move(
     w: Owner,
     e: DogmaEffect,
     category: EffectCategory,
@@ -114,7 +106,7 @@ fn projected_move(
 }
 
 // A modifier of a buff: func.
-fn buff_move(
+pub fn buff_move(
     b: ProjectedBuff,
     operator: EffectOperator,
     m: DogmaModifier,
@@ -136,17 +128,4 @@ fn buff_move(
         target_attribute_id: m.modified_attribute_id,
         resistance: None,
     }))
-}
-
-// What a modifier gives, by what it is collected for.
-pub fn move_of(cause: Cause, m: DogmaModifier) -> Result<Option<Pass2Effect>, Refusal>
-    ensures defined { (k : Book) (f : Fit) → CauseOf f cause → moves_of result ≡ cause_moves k f cause m }
-{
-    match cause {
-        Cause::Own(w, e, category) => own_move(w, e, category, m),
-        Cause::Projected(w, e, category, resistance) => {
-            projected_move(w, e, category, resistance, m)
-        }
-        Cause::Buff(b, operator) => buff_move(b, operator, m),
-    }
 }

@@ -21,4 +21,4 @@ use Rattle.states.specs.Raised.{both}
 use Rattle.states.proofs.Standing.{stood, in_room, rows_more, rows_all}
 
 abbrev pub invariant-loop-i : goal.invariant-loop-i
-invariant-loop-i l = (l.i ≤ l.n) × Col both (map (states_of (book_of l.book l.pairs) (fit_of l.fit l.pairs)) (take l.i (fit_of l.fit l.pairs).objects)) l.initial.states l.states
+invariant-loop-i l = (l.i ≤ l.i-end) × Col both (map (states_of (book_of l.book l.pairs) (fit_of l.fit l.pairs)) (take l.i (fit_of l.fit l.pairs).objects)) l.initial.states l.states

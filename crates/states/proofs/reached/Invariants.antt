@@ -5,7 +5,6 @@ use Rattle.info.proofs.look_ups.get_dogma_effects.Reads as get-dogma-effects-rea
 use Rattle.item.proofs.kinds.mutated.Reads as mutated-reads
 use Rattle.states.proofs.base_effects.Reads as base-effects-reads
 use Rattle.states.proofs.effect_at.Reads as effect-at-reads
-use Rattle.states.proofs.higher.Reads as higher-reads
 use Rattle.states.proofs.is_doubled.Reads as is-doubled-reads
 use Rattle.states.proofs.is_settled.Reads as is-settled-reads
 use Rattle.states.proofs.reach_by.Reads as reach-by-reads

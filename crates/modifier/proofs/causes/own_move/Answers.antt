@@ -47,6 +47,8 @@ returns c =
     let func = rw c.in-Some.is at c.in_ok-modifier.ensures.defined in
     let op = rw c.in-Some-2.is at c.in_ok-operator.ensures.defined in
     let fits : mag c.args.m.modified_attribute_id < 2 ^ 31 = search rules in
-    record { defined = λ k f h.
-      rw (c.effect_of-t.ensures.defined, c.source_category-source.ensures.defined, to_z-of_z w32 c.args.m.modified_attribute_id (record { sfits = fits }))
-      (own_target_lem c.args.w.item c.args.e c.args.m k f c.args.category (go c.in-Some-3.target) func op (λ g. rw c.in-Some-3.is at (c.in_ok-target.ensures.defined f g h))) }
+    record {
+      defined = λ k f h.
+          rw (c.effect_of-t.ensures.defined, c.source_category-source.ensures.defined, to_z-of_z w32 c.args.m.modified_attribute_id (record { sfits = fits }))
+          (own_target_lem c.args.w.item c.args.e c.args.m k f c.args.category (go c.in-Some-3.target) func op (λ g. rw c.in-Some-3.is at (c.in_ok-target.ensures.defined f g h)));
+    }
