@@ -14,7 +14,7 @@ use super::uses::is_used;
 use columns::{CollectedRow, EffectPlaces, PlainRow, TablePairs};
 use info::look_ups::{get_dogma_effect, get_dogma_effects};
 use item::codes::category_at;
-use item::kinds::mutated;
+use item::kinds::mutation_base;
 use item::states::category_on;
 use modifier::causes::own_move;
 use modifier::codes::Owner;
@@ -128,7 +128,7 @@ pub fn collect_effects(
 {
     let o = w.item;
     let own = get_dogma_effects(book, pairs, places, o.type_id);
-    let base = base_effects(book, pairs, places, mutated(o), o.mutation_base);
+    let base = base_effects(book, pairs, places, mutation_base(o));
     let total = own.count + base.count;
     for i in 0..total {
         let t = effect_at(book, pairs, own, base, i);

@@ -38,11 +38,10 @@ fn named_resistance(fit: &[u8], pairs: &TablePairs, o: Item) -> i32
     requires based { Based (fit_of fit.now pairs.now) o }
     ensures defined { result ≡ named (fit_at fit pairs) o }
 {
-    let found = get_base(fit, pairs, o, ATTRIBUTE_REMOTE_RESISTANCE_ID);
-    let Some(b) = found else {
-        return 0;
-    };
-    cut(b.value)
+    match get_base(fit, pairs, o, ATTRIBUTE_REMOTE_RESISTANCE_ID) {
+        Some(b) => cut(b.value),
+        None => 0,
+    }
 }
 
 // Attribute 2138 names it, or else the effect does.

@@ -25,13 +25,7 @@ fn has_id(fit: &[u8], pairs: &TablePairs, first: u32, count: u32, id: i32) -> bo
 {
     let start = index(first);
     let end = start + index(count);
-    for i in start..end {
-        let x = id_at(fit, pairs, i);
-        if id == x {
-            return true;
-        }
-    }
-    false
+    (start..end).any(|i| id_at(fit, pairs, i) == id)
 }
 
 // A fighter's effect that is not Passive is an ability, and the fit picks which run.
@@ -62,10 +56,8 @@ fn is_taken(fit: &[u8], pairs: &TablePairs, o: Item, e: DogmaEffect) -> bool
     requires of_fit { OfFit (fit_of fit.now pairs.now) o }
     ensures defined { result ≡ is_taken (fit_at fit pairs) o e }
 {
-    if e.usage_chance_attribute_id == 0 {
-        return true;
-    }
-    has_id(fit, pairs, o.first_side_effect, o.side_effects, e.id)
+    e.usage_chance_attribute_id == 0
+        || has_id(fit, pairs, o.first_side_effect, o.side_effects, e.id)
 }
 
 // Whether an object's effect is in use at all.
