@@ -58,13 +58,10 @@ fn collect_object(
     requires of_fit { OfFit (fit_of fit.now pairs.now) o }
     ensures defined { Runs rooms result used (object_moves (book_at book pairs) (fit_at fit pairs) phase o) collected collected_values plain }
 {
-    let inside = in_phase(phase, o);
-    if !inside {
+    if !in_phase(phase, o) {
         return Ok(used);
     }
-    let categories = hull.categories;
-    let over = is_passed_over(fit, pairs, categories, hull.structure, o);
-    if over {
+    if is_passed_over(fit, pairs, hull.categories, hull.structure, o) {
         return Ok(used);
     }
     let w = owner_of(fit, pairs, hull, o);
@@ -218,9 +215,6 @@ fn collect_rest(
     ensures defined { Runs rooms result used (rest_of (book_at book pairs) (fit_at fit pairs)) collected collected_values plain }
 {
     let used = collect_buffs(collected, collected_values, book, fit, pairs, rooms, used)?;
-    let early = Phase::Fitted;
-    let late = Phase::Skills;
-    let objects = count_of(pairs, TABLE_OBJECTS);
     collect_phases(
         collected,
         collected_values,
@@ -232,11 +226,11 @@ fn collect_rest(
         rooms,
         used,
         hull,
-        early,
-        late,
+        Phase::Fitted,
+        Phase::Skills,
         skills,
         skills,
-        objects,
+        count_of(pairs, TABLE_OBJECTS),
     )
 }
 
@@ -264,10 +258,11 @@ pub fn collect(
         plain: room_plain,
     };
     let hull = hull_of(book, fit, pairs);
-    let spans = spans_of(fit, pairs);
-    let skills = spans.end;
-    let early = Phase::Front;
-    let late = Phase::Projected;
+    let skills = spans_of(fit, pairs).end;
+    let none = CollectedCounts {
+        collected: 0,
+        plain: 0,
+    };
     let used = collect_phases(
         collected,
         collected_values,
@@ -277,13 +272,10 @@ pub fn collect(
         pairs,
         places,
         rooms,
-        CollectedCounts {
-            collected: 0,
-            plain: 0,
-        },
+        none,
         hull,
-        early,
-        late,
+        Phase::Front,
+        Phase::Projected,
         skills,
         0,
         skills,

@@ -9,6 +9,7 @@ use mathlib.Core.Option.{none, some}
 use borrow.Author.Tests.{eq-eqb, eqb-true, ne_eqb, lt-leb}
 use lib.Dec.{eqb, leb}
 use Rattle.std.specs.Prelude.{Option, Some, None, Result, Ok, Err}
+use Rattle.std.specs.Option.{ok_or}
 use Rattle.std.specs.Result.{IsErrAnd}
 use Rattle.std.proofs.lemmas.Result.{err_from_is_err_and}
 use Rattle.rules.specs.declared.Refusal.{Refusal}
@@ -68,6 +69,15 @@ other_projected f m r =
 -- where an error is given on as it is
 pub given_on : {A : Type 0} (r : Result A Refusal) {x : Refusal} → IsErrAnd r (λ y. y ≡ x) → r ≡ Err x
 given_on r h = let p = err_from_is_err_and r h in rw p.2 at p.1
+
+-- where an option's absence is an error
+pub there_or : {A : Type 0} (o : Option A) (r : Refusal) {a : A} → Ok a ≡ ok_or o r → o ≡ Some a
+there_or None r e = cc
+there_or (Some x) r e = cc
+
+pub missing_or : {A : Type 0} (o : Option A) {r x : Refusal} → Err x ≡ ok_or o r → (o ≡ None) × (x ≡ r)
+missing_or None e = (refl, cc)
+missing_or (Some x) e = cc
 
 -- an operation that stands for an operator; the one that is skipped; another
 module _ (operation number : ℕ) where

@@ -15,6 +15,8 @@ pub returns-in_default : goal.returns-in_default
 returns-in_default c = record { defined = λ g l. sym (ran_none _ _) ∙ ran_same _ _ (buff_some (book_of c.args.book.now c.args.pairs.now) c.args.b c.args.found g (sym (rw c.in_default.is at c.in_ok-operator.ensures.defined))) }
 
 pub returns : goal.returns
-returns c = record { defined = λ g l.
-  c.collect_modifiers.ensures.defined (buff_modifier_moves c.args.b c.in-Some.operator) (λ m r p. search rules) l
-  ∙ ran_same _ _ (buff_some (book_of c.args.book.now c.args.pairs.now) c.args.b c.args.found g (sym (rw c.in-Some.is at c.in_ok-operator.ensures.defined))) }
+returns c = record {
+  defined = λ g l.
+      c.collect_modifiers.ensures.defined (buff_modifier_moves c.args.b c.in-Some.operator) (λ m r p. search rules) l
+      ∙ ran_same _ _ (buff_some (book_of c.args.book.now c.args.pairs.now) c.args.b c.args.found g (sym (rw c.in-Some.is at c.in_ok-operator.ensures.defined)));
+}
