@@ -2,23 +2,21 @@
 use Rattle.laws.specs.Options.{option_of}
 use Rattle.std.specs.Prelude.{None, Some}
 use Rattle.std.specs.Prelude as code
-use Prim.Native.Nat.{ℕ, zero, suc, ◌≤◌}
+use Prim.Native.Nat.{ℕ, zero, suc}
 use native.Mathlib.Omega.{arith}
 use mathlib.Core.Path.{◌≡◌, refl, sym, ap, subst, ◌∙◌}
 use mathlib.Core.Bool.{Bool, true, false, cond}
 use mathlib.Core.List.{List, [], ◌∷◌, ◌++◌, map}
 use mathlib.Core.Option.{Option, none, some}
 use lib.Dec.{T}
-use lib.Ieee.{Float, nan, binary64, of_bits}
-use lib.ListN.{length, get_or, drop, length-map}
+use lib.Ieee.{Float, binary64, of_bits}
+use lib.ListN.{length, length-map}
 use Rattle.laws.specs.Columns.{Col}
 use Rattle.laws.specs.Floats.{finite}
 use Rattle.laws.proofs.Maps.{map-map}
 use Rattle.laws.proofs.Scans.{drop_end}
 use Rattle.rules.specs.Dispatch.{Key, same_key}
-use Rattle.rules.specs.Value.{World}
 use Rattle.promises.specs.NoMemory.{key_of}
-use Rattle.reading.specs.Held.{RowsHeld}
 use Rattle.memory.specs.Holding.{Tables}
 use Rattle.memory.specs.Memory.{value_column, AllFinite}
 use Rattle.settled.specs.Lines.{Line, line_of, value_in, values_of, finite_only, first_other, first_wrong, first_bad}

@@ -8,7 +8,7 @@ use mathlib.Core.List.{List, [], ◌∷◌}
 use mathlib.Core.Option
 use mathlib.Core.Option.{Option, none, some}
 use lib.Dec.{T}
-use lib.Ieee.{Float, nan, inf, fin, eq, mul, binary64}
+use lib.Ieee.{Float, nan, inf, fin, eq, mul}
 use lib.Ieee.Bits.{is_true}
 use lib.IntN.{ℤ}
 use lib.ListN.{length, get_or, drop}
@@ -34,7 +34,6 @@ use Rattle.rules.specs.Number.{Step}
 use Rattle.info.proofs.Defaults.{defaults_finite}
 use Rattle.reading.specs.Held.{index_of, is_running, Sourced, EntryHeld}
 use Rattle.memory.specs.Holding.{Tables, Good}
-use Rattle.memory.specs.Memory.{value_column}
 use Rattle.memory.specs.Steps.{row_at, no_entry}
 use Rattle.memory.proofs.Nanned.{shown_at}
 use Rattle.memory.proofs.Nanned.{shown_length as shown-long}

@@ -4,18 +4,15 @@ use Prim.Native.Nat.{ℕ, zero, suc, ◌<◌, zero-le}
 use native.Mathlib.Decide.{ℕ_discrete}
 use native.Mathlib.Omega.{arith}
 use mathlib.Core.Path.{◌≡◌, refl, sym, ap, subst, ◌∙◌}
-use mathlib.Core.Bool.{true, false}
+use mathlib.Core.Bool.{false}
 use mathlib.Core.List.{List, [], ◌∷◌, map}
 use mathlib.Core.Option.{Option, none, some}
-use lib.Dec.{T}
 use lib.Ieee.{Float, nan, eq, binary64, of_bits}
 use lib.ListN.{length, get_or, set, length-set}
 use lib.Seq.{get_or-set_same, get_or-set_other}
-use Rattle.laws.specs.Floats.{finite}
 use Rattle.rules.specs.declared.Refusal.{Refusal}
 use Rattle.rules.specs.Answer.{Res, ok, refused}
-use Rattle.rules.specs.Outcome.{blank}
-use Rattle.rules.specs.Value.{World, Mem, Read, value_of}
+use Rattle.rules.specs.Value.{Mem, Read, value_of}
 use Rattle.rules.specs.Fresh.{unrecorded}
 use Rattle.sources.proofs.Planning.{some_none}
 use Rattle.memory.specs.Memory.{value_column, AllFinite}
@@ -24,7 +21,6 @@ use Rattle.memory.specs.Holding.{Tables, Tells, Holds, Ready}
 use Rattle.memory.specs.Answers.{Returns}
 use Rattle.memory.specs.declared.apply.Got.{Got}
 use Rattle.memory.proofs.Holdings.{met, missed}
-use Rattle.memory.proofs.Nanned.{valued}
 use Rattle.memory.proofs.Nanned.{shown_length as shown-long}
 use Rattle.memory.proofs.Readings.{its_row, starting}
 use Rattle.values.specs.Starting.{Untouched}

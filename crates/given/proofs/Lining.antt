@@ -1,23 +1,23 @@
 -- Lines beside rows, key by key, and lines' values as numbers or NaN.
-use Prim.Native.Nat.{ℕ, zero, suc, ◌+◌, ◌*◌, ◌≤◌, ◌<◌}
+use Prim.Native.Nat.{ℕ, suc, ◌+◌, ◌*◌, ◌≤◌, ◌<◌}
 use native.Mathlib.Numerals.{add-one}
 use native.Mathlib.Omega.{arith}
-use mathlib.Core.Path.{◌≡◌, refl, sym, ap, ap₂, subst, ◌∙◌}
+use mathlib.Core.Path.{◌≡◌, refl, sym, ap, ap₂, ◌∙◌}
 use mathlib.Core.Bool.{Bool, true, false, not, ◌&&◌, cond}
-use mathlib.Core.List.{List, [], ◌∷◌, ◌++◌, map}
+use mathlib.Core.List.{List, [], ◌∷◌, map}
 use mathlib.Core.Option
 use mathlib.Core.Option.{Option, none, some}
 use borrow.Author.Tests.{eqb-true, eq-eqb}
 use lib.Dec.{eqb}
 use lib.Ieee.{Float, nan, binary64, of_bits}
 use lib.IntN.{ℤ}
-use lib.ListN.{length, get_or, drop, take, length-map}
+use lib.ListN.{length, get_or, drop, length-map}
 use mir.Facts.{to_z-of_z}
 use mir.Syntax.{w32}
 use mir.Val.{to_z, of_z, SFits}
 use Rattle.laws.specs.Floats.{finite}
 use Rattle.laws.specs.Lists.{eq_z}
-use Rattle.laws.proofs.Bools.{both_ways, not-not, same_test}
+use Rattle.laws.proofs.Bools.{not-not, same_test}
 use Rattle.laws.proofs.Maps.{map_at}
 use Rattle.laws.proofs.Order.{eq_z_true, eq_z_same}
 use Rattle.laws.proofs.Scans.{drop-step, drop_end}

@@ -2,14 +2,13 @@
 use Rattle.std.specs.Prelude.{Ok, Err}
 use Prim.Native.Nat.{ℕ, suc, ◌+◌, ◌≤◌, ◌<◌}
 use native.Mathlib.Numerals.{add-one}
-use native.Mathlib.Omega.{arith}
 use mathlib.Core.Path.{◌≡◌, refl, sym, ap, subst, ◌∙◌}
 use mathlib.Core.Bool.{Bool, true, false, not, ◌&&◌}
-use mathlib.Core.List.{List, [], ◌∷◌}
+use mathlib.Core.List.{List, ◌∷◌}
 use mathlib.Core.Option.{Option, none, some}
 use borrow.Author.Tests.{eqb-true, eq-eqb}
 use lib.Dec.{T, eqb}
-use lib.Ieee.{Float, nan, inf, fin, ne, eq, is_nan, binary64, of_bits, to_bits, fits}
+use lib.Ieee.{Float, nan, inf, fin, eq, is_nan, binary64, of_bits, to_bits, fits}
 use lib.Ieee.Bits.{of_bits-to_bits}
 use lib.ListN.{length, get_or, drop}
 use Rattle.laws.specs.Floats.{finite}
@@ -19,14 +18,13 @@ use Rattle.laws.proofs.Scans.{drop-step, drop_end}
 use Rattle.rules.specs.Answer.{Res, ok, refused, ◌>>=◌}
 use Rattle.rules.specs.Dispatch.{Row}
 use Rattle.rules.specs.Outcome.{blank}
-use Rattle.rules.specs.Value.{World, Read, calculate}
+use Rattle.rules.specs.Value.{World, Read}
 use Rattle.rules.specs.Fresh.{unrecorded}
 use Rattle.rules.specs.declared.Refusal.{Refusal}
 use Rattle.reading.specs.Held.{no_row}
 use Rattle.memory.specs.Holding.{Tables}
 use Rattle.memory.specs.Memory.{value_column}
 use Rattle.memory.specs.Steps.{row_at}
-use Rattle.memory.specs.declared.apply.Got.{Got}
 use Rattle.memory.proofs.Nanned.{valued, unvalued}
 use Rattle.settled.specs.Given.{idles, where_recorded, given}
 use Rattle.settled.specs.Lines.{same_float, is_given, first_wrong}

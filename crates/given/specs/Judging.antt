@@ -5,7 +5,7 @@ use Rattle.std.proofs.Math.Option.{Option}
 use Rattle.std.specs.Option.{is_some}
 use Rattle.std.specs.Float.{nan, binary64}
 use Rattle.std.specs.Float.Ieee.{eq, of_bits}
-use Rattle.columns.specs.Lending.{Column, LentColumn}
+use Rattle.columns.specs.Lending.{LentColumn}
 use Rattle.rules.specs.declared.Refusal.{Refusal}
 use Rattle.rules.specs.Answer.{Res, ok, refused}
 use Rattle.laws.specs.Floats.{finite}

@@ -1,7 +1,6 @@
 -- `given::first_bad` meets its contract. Assumes nothing.
 use Rattle.given.proofs.first_bad.Goals as goal
 use native.Mathlib.Omega.{arith}
-use mathlib.Core.Path.{sym}
 use Rattle.given.proofs.Bad.{key_bad, lines-inside, judged, value_bad, all_laid}
 
 pub returns-in-Some : goal.returns-in-Some

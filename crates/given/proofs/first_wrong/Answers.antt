@@ -2,12 +2,8 @@
 use mathlib.Core.Bool.{not}
 use Rattle.given.proofs.first_wrong.Goals as goal
 use native.Mathlib.Omega.{arith}
-use Prim.Native.Nat.{◌-◌, ◌≤◌}
-use mathlib.Core.Path.{◌≡◌, refl, ◌∙◌, ap}
-use lib.ListN.{length}
-use Rattle.memory.specs.Holding.{tables}
-use Rattle.given.specs.Judging.{Judged}
-use Rattle.given.proofs.Rights.{kept_true, with_column, FirstLeft, right_on, wrong_at, none_wrong}
+use mathlib.Core.Path.{refl, ◌∙◌, ap}
+use Rattle.given.proofs.Rights.{kept_true, with_column, right_on, wrong_at, none_wrong}
 
 pub loop-i-init : goal.loop-i-init
 loop-i-init c = ((omega arith, refl), λ h e. refl)

@@ -1,9 +1,7 @@
 -- `given::given_at` meets its contract. Assumes nothing.
 use Rattle.given.proofs.given_at.Goals as goal
-use native.Mathlib.Omega.{arith}
 use mathlib.Core.Path.{refl}
-use lib.ListN.{length-set}
-use Rattle.given.proofs.Judgement.{nan_bits, column_inside, ready, is-given, is_kept, base_given}
+use Rattle.given.proofs.Judgement.{nan_bits, ready, is-given, is_kept, base_given}
 
 pub returns-then-is_untouched : goal.returns-then-is_untouched
 returns-then-is_untouched c = record {

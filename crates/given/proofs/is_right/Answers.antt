@@ -2,9 +2,7 @@
 use mathlib.Core.Path.{sym, ap, ◌∙◌}
 use mathlib.Core.Bool.{not}
 use Rattle.given.proofs.is_right.Goals as goal
-use native.Mathlib.Omega.{arith}
 use Rattle.given.specs.Judging.{calculated_from}
-use Rattle.given.proofs.Judgement.{column_inside}
 use Rattle.given.proofs.Rights.{got_number, kept_any, with_column, listed_number, not_listed, nothing-given, other_bits, unrecorded_right, recorded_right}
 
 pub returns-then-is_nan : goal.returns-then-is_nan

@@ -1,18 +1,13 @@
 -- `given::is_untouched` meets its contract. Assumes nothing.
 use Rattle.given.proofs.is_untouched.Goals as goal
 use native.Mathlib.Omega.{arith}
-use mathlib.Core.Path.{◌≡◌, sym, ap, subst, ◌∙◌}
-use mathlib.Core.Bool.{not, false≢true}
-use mathlib.Core.List.{[]}
+use mathlib.Core.Path.{◌≡◌, subst, ◌∙◌}
 use lib.IntN.{ℤ, pos}
-use lib.ListN.{get_or}
 use mir.Facts.{to_z-of_z}
 use mir.Syntax.{w32}
-use mir.Val.{to_z}
 use borrow.Author.Rules.{sfits_of}
 use borrow.Author.Tests.{not-true}
 use Rattle.rules.specs.Info.{get_dogma_attribute}
-use Rattle.values.specs.Starting.{Untouched}
 
 pub returns-then-rows-row-eq0 : goal.returns-then-rows-row-eq0
 returns-then-rows-row-eq0 c =

@@ -2,13 +2,9 @@
 use mathlib.Core.Bool.{not}
 use Rattle.given.proofs.idle.idles_have_strength.Goals as goal
 use native.Mathlib.Omega.{arith}
-use Prim.Native.Nat.{◌-◌, ◌≤◌}
 use mathlib.Core.Path.{refl, ap}
-use Rattle.memory.specs.Holding.{tables}
 use Rattle.memory.specs.Steps.{row_at}
-use Rattle.memory.proofs.Fitting.{fits_below}
-use Rattle.given.specs.Judging.{Judged}
-use Rattle.given.proofs.Idling.{Left, all_done, counted, its_entry, its_good, entry_strong, entry_weak}
+use Rattle.given.proofs.Idling.{all_done, counted, its_entry, its_good, entry_strong, entry_weak}
 
 pub loop-k-init : goal.loop-k-init
 loop-k-init c = (omega arith, λ h. refl)

@@ -1,14 +1,9 @@
 -- `lines::first_other` meets its contract. Assumes nothing.
 use Rattle.given.proofs.lines.first_other.Goals as goal
 use native.Mathlib.Omega.{arith}
-use Prim.Native.Nat.{◌-◌, ◌≤◌}
 use mathlib.Core.Path.{refl, ap}
 use mathlib.Core.Bool.{not}
-use mathlib.Core.List.{List}
-use lib.ListN.{length}
-use Rattle.rules.specs.Dispatch.{Row}
-use Rattle.reading.specs.Held.{RowsHeld}
-use Rattle.given.proofs.Lining.{OtherLeft, line-missing, keys_on, keys_differ, line-more, keys_done}
+use Rattle.given.proofs.Lining.{line-missing, keys_on, keys_differ, line-more, keys_done}
 
 pub loop-i-init : goal.loop-i-init
 loop-i-init c = (omega arith, λ rs H. refl)
