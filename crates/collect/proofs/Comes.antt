@@ -14,7 +14,7 @@ use Rattle.rules.specs.Bytes.{record_at}
 use Rattle.rules.specs.Sheet.{Book, Fit, table, book_of, fit_of, effect_from, modifier_from, buff_from}
 use Rattle.rules.proofs.Tables.{table_at, table-length}
 use Rattle.rules.specs.Info.{get_dogma_effect, get_dbuff_collection}
-use Rattle.rules.specs.Item.{is_item, is_charge, is_skill, is_projected, has_charge, item_of, char_of, structure_fit, passed, category_on, effects_of}
+use Rattle.rules.specs.Item.{is_item, is_charge, is_skill, is_projected, item_of, char_of, structure_fit, passed, category_on, effects_of}
 use Rattle.rules.specs.Collect.{Move, Test, go, over, bad, in_use, test_operation, modifier_moves, projected_modifier_moves, buff_modifier_moves, found_moves, effect_moves, own_moves, projected_moves, buff_moves, fitted_moves, moves}
 use Rattle.rules.specs.declared.DbuffCollection.{DbuffCollection}
 use Rattle.rules.specs.declared.DogmaEffect.{DogmaEffect}

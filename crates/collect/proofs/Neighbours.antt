@@ -8,7 +8,7 @@ use mathlib.Core.Bool.{Bool, true, false, cond}
 use mathlib.Core.List.{List}
 use lib.ListN.{length, get_or, get_or-eq_default}
 use Rattle.rules.specs.Sheet.{Fit, fit_of}
-use Rattle.rules.specs.Item.{object, no_item, is_item, is_charge, item_of}
+use Rattle.rules.specs.Item.{object, no_item, is_item, is_charge}
 use Rattle.rules.specs.declared.Item.{Item}
 use Rattle.info.specs.Sound.{Nth}
 use Rattle.states.proofs.Standing as standing

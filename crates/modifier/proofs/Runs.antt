@@ -1,4 +1,5 @@
 -- Laws of moves that are run: one part after another, a loop's turn, and what a stopped run stays.
+use Rattle.std.specs.Prelude.{Result, Ok, Err}
 use Prim.Native.Nat.{ℕ, ◌+◌, ◌-◌, ◌≤◌, ◌<◌}
 use mathlib.Core.Path.{◌≡◌, refl, sym, ap, ◌∙◌}
 use mathlib.Core.List.{List, [], ◌∷◌, ◌++◌}
@@ -14,8 +15,9 @@ use Rattle.rules.specs.Columns.{collected_numbers}
 use Rattle.rules.specs.declared.Pass2Effect.{Pass2Effect}
 use Rattle.rules.specs.declared.Refusal.{Refusal}
 use Rattle.rules.specs.declared.Refusal.TheVariants.{Room}
+use Rattle.modifier.specs.declared.moves.CollectedCounts.{CollectedCounts}
 use Rattle.modifier.specs.declared.moves.CollectedRooms.{CollectedRooms}
-use Rattle.modifier.specs.Ran.{Stand, at, stop, value_of, moved, ran}
+use Rattle.modifier.specs.Ran.{Stand, at, stop, stand_of, value_of, moved, ran}
 
 module _ (q : CollectedRooms) where
   pub ran_append : (xs ys : List Move) (s : Stand) → ran q (xs ++ ys) s ≡ ran q ys (ran q xs s)
@@ -53,6 +55,13 @@ module _ (q : CollectedRooms) {A : Type 0} (F : A → List Move) (M : List A) (i
 -- what is left after a refusal changes nothing
 pub halted : (q : CollectedRooms) (xs : List Move) (whole t : Stand) (x : Refusal) → whole ≡ ran q xs t → t ≡ stop x → stop x ≡ whole
 halted q xs whole t x w e = sym (w ∙ ap (ran q xs) e ∙ ran-stop q xs x)
+
+-- an answer that is known
+pub answered : {r : Result CollectedCounts Refusal} {n : CollectedCounts} → r ≡ Ok n → (c : List (List ℕ)) (v : List Float) (l : List (List ℕ)) → stand_of r c v l ≡ at n.collected n.plain c v l
+answered e c v l = ap (λ (r : Result CollectedCounts Refusal). stand_of r c v l) e
+
+pub was_refused : {r : Result CollectedCounts Refusal} {x : Refusal} → r ≡ Err x → (c : List (List ℕ)) (v : List Float) (l : List (List ℕ)) → stand_of r c v l ≡ stop x
+was_refused e c v l = ap (λ (r : Result CollectedCounts Refusal). stand_of r c v l) e
 
 -- ---- a row pushed
 

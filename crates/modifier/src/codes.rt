@@ -19,6 +19,7 @@ pub struct Owner {
 }
 
 // The modifier that a func code stands for.
+#[tactic(auto, unfolding(rules::specs::Collect::test_func))]
 pub fn get_modifier_func(m: DogmaModifier) -> Result<Option<Modifier>, Refusal>
     ensures defined { test_of result ≡ test_func m }
 {
@@ -34,6 +35,7 @@ pub fn get_modifier_func(m: DogmaModifier) -> Result<Option<Modifier>, Refusal>
 }
 
 // The operator that an operation stands for; the number is that of the record: in table 3, or in table 5 for a buff.
+#[tactic(auto, unfolding(rules::specs::Collect::test_operation))]
 pub fn get_effect_operator(operation: u32, number: u32) -> Result<Option<EffectOperator>, Refusal>
     ensures defined { test_of result ≡ test_operation operation number }
 {
@@ -55,17 +57,16 @@ fn other_of(w: Owner, m: DogmaModifier) -> Result<Option<u32>, Refusal>
 }
 
 // The object that an own modifier's domain means.
+#[tactic(auto, unfolding(rules::specs::Collect::test_domain))]
 pub fn get_target_object(w: Owner, m: DogmaModifier) -> Result<Option<u32>, Refusal>
     ensures defined { (f : Fit) → OwnerOf f w → test_of result ≡ test_own_domain f w.item m }
 {
     match m.domain {
         0 => Ok(Some(w.item.number)),
-        1 => Ok(Some(0)),
+        1 | 4 => Ok(Some(0)),
         2 => Ok(Some(w.character)),
         3 => other_of(w, m),
-        4 => Ok(Some(0)),
-        5 => Ok(None),
-        6 => Ok(None),
+        5 | 6 => Ok(None),
         _ => Err(Refusal::Domain(m.number)),
     }
 }
@@ -81,17 +82,14 @@ pub fn get_own_target(w: Owner, m: DogmaModifier) -> Result<Option<u32>, Refusal
 }
 
 // The object that a projected modifier's domain means.
+#[tactic(auto, unfolding(rules::specs::Collect::test_projected_domain))]
 pub fn get_projected_object(w: Owner, m: DogmaModifier) -> Result<Option<u32>, Refusal>
     ensures defined { (f : Fit) → OwnerOf f w → test_of result ≡ test_projected_domain f m }
 {
     match m.domain {
-        0 => Ok(None),
-        1 => Ok(Some(0)),
+        0 | 3 => Ok(None),
+        1 | 4..=6 => Ok(Some(0)),
         2 => Ok(Some(w.character)),
-        3 => Ok(None),
-        4 => Ok(Some(0)),
-        5 => Ok(Some(0)),
-        6 => Ok(Some(0)),
         _ => Err(Refusal::Domain(m.number)),
     }
 }

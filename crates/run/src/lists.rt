@@ -10,7 +10,6 @@ use columns::{
 };
 use dispatch::room::base_total;
 use dispatch::{DispatchedCounts, dispatch};
-use modifier::moves::Counted;
 use rules::Refusal;
 
 // The rooms of lists 1 to 4.
@@ -95,7 +94,7 @@ pub fn set_lists(
         rooms.plain,
     );
     match got {
-        Counted::At(n, p) => {
+        Ok(counts) => {
             let given = dispatch(
                 rows,
                 bases,
@@ -107,12 +106,12 @@ pub fn set_lists(
                 fit,
                 pairs,
                 attribute_places,
-                n,
+                counts.collected,
                 rooms.rows,
                 rooms.entries,
             );
-            with_counts(given, n, p)
+            with_counts(given, counts.collected, counts.plain)
         }
-        Counted::Refused(x) => Listed::Refused(x),
+        Err(x) => Listed::Refused(x),
     }
 }

@@ -15,8 +15,7 @@ use Rattle.laws.proofs.Maps.{same_default, map_append, map_at, map-map}
 use Rattle.laws.proofs.Spans.{span_left, span_end, span_all, span_at, span_length}
 use Rattle.rules.specs.States.{highest, raised_by, raised_to}
 use Rattle.rules.specs.Ids.{OptionalId}
-use Rattle.rules.specs.Bytes.{count_of}
-use Rattle.rules.specs.Sheet.{Book, book_of}
+use Rattle.rules.specs.Sheet.{Book}
 use Rattle.rules.specs.Info.{get_dogma_effect, get_dogma_effects}
 use Rattle.rules.specs.Item.{mutated, effects_of}
 use Rattle.rules.specs.declared.Item.{Item}
@@ -28,7 +27,6 @@ use mir.Syntax.{w32}
 use mir.Val.{SFits, to_z, of_z}
 use mir.ValLaws.{to_z-of_z}
 use Rattle.rules.specs.Codes.{category_at}
-use Rattle.info.proofs.Elements.{type_effects_length}
 use Rattle.states.specs.Raised.{among, reach_on, base_effects_of, Turn, turn, turns_of, reached_of}
 
 -- a test of the elements at n places from a on

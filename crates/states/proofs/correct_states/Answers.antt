@@ -1,23 +1,12 @@
 -- `states::correct_states` meets its contract. The rows of the first i objects are laid over zeros. The measure is how many objects are left. Assumes nothing.
 use Rattle.states.proofs.correct_states.Goals as goal
-use Rattle.states.proofs.correct_states.Reads as reads
-use Rattle.states.proofs.correct_states.Lts as lts
-use Rattle.info.proofs.header.count_of.Reads as count-of-reads
-use Rattle.info.proofs.records.object.Reads as object-reads
-use Rattle.item.proofs.categories.categories_of.Reads as categories-of-reads
-use Rattle.states.proofs.is_structure_fit.Reads as is-structure-fit-reads
-use Rattle.states.proofs.mark_effects.Reads as mark-effects-reads
-use Rattle.states.proofs.mark_types.Reads as mark-types-reads
-use Rattle.states.proofs.states_of.Reads as states-of-reads
-use Prim.Native.Nat.{ℕ, ◌≤◌, ◌-◌}
+use Prim.Native.Nat.{ℕ}
 use native.Mathlib.Omega.{arith}
-use mathlib.Core.Path.{refl, sym, ◌∙◌}
-use mathlib.Core.List.{[], ◌∷◌, map}
-use lib.ListN.{take, length-replicate}
-use Rattle.laws.specs.Columns.{Col}
+use mathlib.Core.Path.{refl}
+use mathlib.Core.List.{[], ◌∷◌}
+use lib.ListN.{length-replicate}
 use Rattle.laws.proofs.Laid.{col_none}
-use Rattle.rules.specs.Sheet.{book_of, fit_of}
-use Rattle.rules.specs.States.{states_of}
+use Rattle.rules.specs.Sheet.{book_of}
 use Rattle.states.specs.Raised.{both}
 use Rattle.states.proofs.Standing.{stood, in_room, rows_more, rows_all}
 

@@ -18,7 +18,9 @@ pub returns : goal.returns
 returns c =
     let ts = (book_of c.args.book.now c.args.pairs.now).type_effects in
     let same = λ (e : TypeDogmaEffect). eq_z e.effect_id c.args.t.effect_id in
-    record { defined =
-      any_from_yields_List (λ (i : ℕ). same (get_or ts i c.args.t)) _ _ c.any.result c.any.ensures.ran
-      (YieldsList-from_range c.args.first (c.args.first + c.args.count) c.args.count refl (omega arith)) (λ x b q k. search (rules, eq_z-bits))
-      ∙ any-span same ts c.args.t c.args.first c.args.count (omega (arith, c.requires.inside, type_effects_length c.args.book.now c.args.pairs.now)) }
+    record {
+      defined =
+          any_from_yields_List (λ (i : ℕ). same (get_or ts i c.args.t)) _ _ c.any.result c.any.ensures.ran
+          (YieldsList-from_range c.args.first (c.args.first + c.args.count) c.args.count refl (omega arith)) (λ x b q k. search (rules, eq_z-bits))
+          ∙ any-span same ts c.args.t c.args.first c.args.count (omega (arith, c.requires.inside, type_effects_length c.args.book.now c.args.pairs.now));
+    }

@@ -1,28 +1,16 @@
 -- `states::reached` meets its contract. What is left of the effects decides. Assumes nothing.
 use Rattle.states.proofs.reached.Goals as goal
 use Rattle.states.proofs.reached.Goals.{then-not-is_doubled, else-not-is_doubled}
-use Rattle.states.proofs.reached.Reads as reads
-use Rattle.states.proofs.reached.Lts as lts
-use Rattle.info.proofs.look_ups.get_dogma_effects.Reads as get-dogma-effects-reads
-use Rattle.item.proofs.kinds.mutated.Reads as mutated-reads
-use Rattle.states.proofs.base_effects.Reads as base-effects-reads
-use Rattle.states.proofs.effect_at.Reads as effect-at-reads
-use Rattle.states.proofs.is_doubled.Reads as is-doubled-reads
-use Rattle.states.proofs.is_settled.Reads as is-settled-reads
-use Rattle.states.proofs.reach_by.Reads as reach-by-reads
-use Prim.Native.Nat.{◌-◌, max}
+use Prim.Native.Nat.{max}
 use native.Mathlib.Omega.{arith}
-use mathlib.Core.Path.{◌≡◌, sym, ap, ◌∙◌}
-use mathlib.Core.Bool.{Bool, not, cond}
-use mathlib.Core.List.{[], map}
-use Rattle.rules.specs.Info.{get_dogma_effects}
+use mathlib.Core.Path.{sym, ap, ◌∙◌}
+use mathlib.Core.Bool.{not}
 use borrow.Author.Rules.{sfits_of}
-use Rattle.laws.specs.Lists.{keep, span}
+use Rattle.laws.specs.Lists.{span}
 use Rattle.rules.specs.Sheet.{book_of}
-use Rattle.rules.specs.States.{highest}
 use Rattle.info.proofs.Elements.{type_effects_length}
-use Rattle.states.specs.Raised.{reach_on, turns_of, reached_of}
-use Rattle.states.proofs.Raising.{is_meant, run_of, base_of_lem, reached_start, turns_length, turn_is, raise_by, raise_over, raise_end}
+use Rattle.states.specs.Raised.{turns_of}
+use Rattle.states.proofs.Raising.{run_of, base_of_lem, reached_start, turns_length, turn_is, raise_by, raise_over, raise_end}
 
 pub returns-then-is_settled : goal.returns-then-is_settled
 returns-then-is_settled c = record { defined = sym (c.is_settled.ensures.settled (book_of c.args.book.now c.args.pairs.now) c.requires.marked c.if-is_settled.true) }

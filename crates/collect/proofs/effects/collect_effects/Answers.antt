@@ -5,7 +5,6 @@ use native.Mathlib.Omega.{arith}
 use mathlib.Core.Path.{refl, sym, ap, ◌∙◌}
 use mathlib.Core.Bool.{Bool, not, cond}
 use mathlib.Core.List.{[]}
-use mir.Val.{SFits}
 use Prim.Native.Nat.{◌<◌, ◌^◌}
 use lib.Signed.{mag}
 use Rattle.std.proofs.Common.{rules}

@@ -1,11 +1,6 @@
 -- `states::raises_to` meets its contract. Assumes nothing.
 use Rattle.laws.specs.Options.{option_of}
 use Rattle.item.proofs.states.raises_to.Goals as goal
-use Rattle.item.proofs.states.raises_to.Reads as reads
-use Rattle.item.proofs.states.raises_to.Lts as lts
-use Rattle.item.proofs.codes.category_at.Reads as category-at-reads
-use Rattle.item.proofs.states.category_on.Reads as category-on-reads
-use Rattle.item.proofs.states.reaches.Reads as reaches-reads
 use Rattle.std.specs.Prelude.{Option, Some}
 use Prim.Native.Nat.{ℕ}
 use mathlib.Core.Path.{◌≡◌, sym, ap, ◌∙◌}

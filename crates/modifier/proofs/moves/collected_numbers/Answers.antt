@@ -1,12 +1,5 @@
 -- `moves::collected_numbers` meets its contract. Assumes nothing.
 use Rattle.modifier.proofs.moves.collected_numbers.Goals as goal
-use Rattle.modifier.proofs.moves.collected_numbers.Reads as reads
-use Rattle.modifier.proofs.moves.collected_numbers.Lts as lts
-use Rattle.modifier.proofs.moves.modifier_numbers.Reads as modifier-numbers-reads
-use Rattle.numbers.proofs.integers.optional_numbers.Reads as optional-numbers-reads
-use Rattle.modifier.proofs.moves.origin_numbers.Reads as origin-numbers-reads
-use Rattle.item.proofs.codes.operator_code.Reads as operator-code-reads
-use Rattle.numbers.proofs.integers.bits.Reads as bits-reads
 use Rattle.modifier.proofs.Numbers.{row}
 use Rattle.numbers.proofs.Signs.{stored}
 use mathlib.Core.Path.{◌∙◌}

@@ -1,8 +1,5 @@
 -- `moves::modifier_numbers` meets its contract. Assumes nothing.
 use Rattle.modifier.proofs.moves.modifier_numbers.Goals as goal
-use Rattle.modifier.proofs.moves.modifier_numbers.Reads as reads
-use Rattle.modifier.proofs.moves.modifier_numbers.Lts as lts
-use Rattle.numbers.proofs.integers.bits.Reads as bits-reads
 use Prim.Native.Nat.{◌<◌, ◌^◌}
 use lib.Signed.{mag}
 use Rattle.std.proofs.Common.{rules}

@@ -1,9 +1,5 @@
 -- `moves::origin_numbers` meets its contract. Assumes nothing.
 use Rattle.modifier.proofs.moves.origin_numbers.Goals as goal
-use Rattle.modifier.proofs.moves.origin_numbers.Reads as reads
-use Rattle.modifier.proofs.moves.origin_numbers.Lts as lts
-use Rattle.item.proofs.codes.category_code.Reads as category-code-reads
-use Rattle.numbers.proofs.integers.bits.Reads as bits-reads
 use Prim.Native.Nat.{◌<◌, ◌^◌}
 use lib.Signed.{mag}
 use Rattle.std.proofs.Common.{rules}

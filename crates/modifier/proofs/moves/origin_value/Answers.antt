@@ -1,7 +1,5 @@
 -- `moves::origin_value` meets its contract. Assumes nothing.
 use Rattle.modifier.proofs.moves.origin_value.Goals as goal
-use Rattle.modifier.proofs.moves.origin_value.Reads as reads
-use Rattle.modifier.proofs.moves.origin_value.Lts as lts
 use lib.Ieee
 use mathlib.Core.Path.{refl}
 

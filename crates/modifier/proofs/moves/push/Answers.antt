@@ -1,9 +1,5 @@
 -- `moves::push` meets its contract. Assumes nothing.
 use Rattle.modifier.proofs.moves.push.Goals as goal
-use Rattle.modifier.proofs.moves.push.Reads as reads
-use Rattle.modifier.proofs.moves.push.Lts as lts
-use Rattle.modifier.proofs.moves.collected_numbers.Reads as collected-numbers-reads
-use Rattle.modifier.proofs.moves.origin_value.Reads as origin-value-reads
 use Rattle.modifier.proofs.Runs.{no_room, pushed}
 
 pub returns-then-rooms-n : goal.returns-then-rooms-n

@@ -1,8 +1,5 @@
 -- `moves::push_plain` meets its contract. Assumes nothing.
 use Rattle.modifier.proofs.moves.push_plain.Goals as goal
-use Rattle.modifier.proofs.moves.push_plain.Reads as reads
-use Rattle.modifier.proofs.moves.push_plain.Lts as lts
-use Rattle.numbers.proofs.integers.bits.Reads as bits-reads
 use Rattle.modifier.proofs.Runs.{no_plain_room, pushed_plain}
 use Rattle.numbers.proofs.Signs.{stored}
 use mathlib.Core.Path.{◌∙◌}
