@@ -43,9 +43,9 @@ pub fn full_at(rows: &[AttributeRow], past: HitKey, n: usize, room: usize) -> u3
     ensures the_list { let there = some? (is_row (get_or past 0 0) (get_or past 1 0)) (take n rows.now) in
         result ≡ cond (eqb n room && not there) 2 3 }
 {
-    if n != room {
-        return 3;
+    if n == room && !has_row(rows, n, past[KEY_OBJECT], past[KEY_ATTRIBUTE]) {
+        2
+    } else {
+        3
     }
-    let there = has_row(rows, n, past[KEY_OBJECT], past[KEY_ATTRIBUTE]);
-    if there { 3 } else { 2 }
 }

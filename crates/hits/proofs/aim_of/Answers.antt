@@ -18,13 +18,6 @@ returns-then-func-eq-LOCATION_GROUP_MODIFIER c = record { first = λ k t e w. ro
 pub returns-then-func-eq-LOCATION_MODIFIER : goal.returns-then-func-eq-LOCATION_MODIFIER
 returns-then-func-eq-LOCATION_MODIFIER c = record { first = λ k t e w. row-all t _ e k _ _ c.requires.standing (inside (objects_length _ _) c.requires.pointing.target) _ w c.if-func-eq-LOCATION_MODIFIER.true (c.located-then-func-eq-LOCATION_MODIFIER.ensures.defined k _ c.requires.standing (inside (objects_length _ _) c.requires.pointing.target)) }
 
-pub skill_of-skill-requires : goal.skill_of-skill-requires
-skill_of-skill-requires c = record {
-  inside = c.requires.inside;
-  held_fit = c.requires.sound_fit.held;
-  pointing = c.requires.pointing;
-}
-
 pub returns-then-func-eq-OWNER_REQUIRED_SKILL_MODIFIER : goal.returns-then-func-eq-OWNER_REQUIRED_SKILL_MODIFIER
 returns-then-func-eq-OWNER_REQUIRED_SKILL_MODIFIER c = record { first = λ k t e w. row_owner t _ e k _ _ c.requires.standing (inside (objects_length _ _) c.requires.pointing.target) _ w _ (inside (objects_length _ _) c.requires.pointing.source) (λ s. c.skill_of-skill.ensures.defined t s e) c.if-func-eq-OWNER_REQUIRED_SKILL_MODIFIER.true (c.owned.ensures.defined k _ c.requires.standing) }
 

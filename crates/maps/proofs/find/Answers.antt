@@ -7,9 +7,6 @@ use lib.ListN.{get_or}
 use Rattle.maps.proofs.Making.{last_few}
 use Rattle.maps.proofs.Index.{positive, head_small, seeking_first, seek_inside, seek_few, seek_less, seek_found, seek_next, seek_none}
 
-pub bounds-heads-slot : goal.bounds-heads-slot
-bounds-heads-slot c = omega (arith, c.requires.maps.mapped.heads)
-
 pub overflow_cast-m : goal.overflow_cast-m
 overflow_cast-m c = record { fits = omega (arith, last_few c.requires.maps.mapped c.args.key) }
 

@@ -14,12 +14,6 @@ use Rattle.info.proofs.Bases.{based}
 use Rattle.hits.specs.Reach.{slot_of}
 use Rattle.hits.proofs.Filled.{filled_none, filled_here, filled_on, bases_within, filled_all}
 
-pub object-o-requires : goal.object-o-requires
-object-o-requires c = record {
-  held_fit = c.requires.sound_fit.held;
-  inside = c.requires.an_object;
-}
-
 pub loop-k-init : goal.loop-k-init
 loop-k-init c = filled_none _ _ _
 

@@ -9,9 +9,6 @@ use Rattle.hits.proofs.Marking.{all_none, all_more, all-marked}
 pub loop-row-init : goal.loop-row-init
 loop-row-init c = all_none refl
 
-pub mark-requires : goal.mark-requires
-mark-requires c = record { even = c.loop-row.invariant.long }
-
 pub loop-row-preserved : goal.loop-row-preserved
 loop-row-preserved c = let long = length-take-le c.args.objects c.args.skills.now c.requires.inside in
     let same = get_or-take c.args.objects c.args.skills.now c.loop-row.row-index [] (omega arith) in

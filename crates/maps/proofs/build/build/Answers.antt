@@ -8,17 +8,8 @@ use Rattle.maps.specs.Keys.{width_of}
 use Rattle.std.specs.Prelude.{Some, None}
 use Rattle.maps.proofs.Building.{making_start, making_counting, making_more, keys_few, built_few, built_full, built_all}
 
-pub width_of-width-requires : goal.width_of-width-requires
-width_of-width-requires c = record { inside = omega (arith, c.count_of-objects.ensures.defined, c.requires.sound_fit.held.objects.few) }
-
-pub overflow_mul-all : goal.overflow_mul-all
-overflow_mul-all c = record { fits = omega (arith, c.width_of-width.ensures.defined, c.count_of-objects.ensures.defined, c.requires.sound_fit.held.objects.few) }
-
 pub returns-then-long-all : goal.returns-then-long-all
 returns-then-long-all c = record { built = built_few (book_of c.args.book.now c.args.pairs.now) (fit_of c.args.fit.now c.args.pairs.now) c.width_of-width.result _ (c.width_of-width.ensures.defined ∙ ap width_of (c.count_of-objects.ensures.defined ∙ sym (objects_length c.args.fit.now c.args.pairs.now))) refl c.if-long-all.true }
-
-pub clear_map-requires : goal.clear_map-requires
-clear_map-requires c = record { inside = omega (arith, c.if-long-all.false) }
 
 pub loop-i-init : goal.loop-i-init
 loop-i-init c = (omega arith, (refl, (refl, making_start (book_of c.args.book.now c.args.pairs.now) (fit_of c.args.fit.now c.args.pairs.now) c.requires.fresh (omega (arith, c.width_of-width.ensures.defined, c.count_of-objects.ensures.defined, c.requires.sound_fit.held.objects.few)) (omega (arith, c.if-long-all.false)) c.clear_map.ensures.cleared)))
@@ -37,12 +28,6 @@ returns-in_err-n c = rw c.from_residual.ensures (record { built = built_full (bo
 
 pub loop-i-preserved : goal.loop-i-preserved
 loop-i-preserved c = (omega (arith, c.loop-i-test.true), (omega (arith, c.mark_object.auto, c.loop-i.invariant.1.0), (omega (arith, c.mark_object.auto, c.loop-i.invariant.1.1.0), making_more (book_of c.args.book.now c.args.pairs.now) (fit_of c.args.fit.now c.args.pairs.now) c.width_of-width.result c.loop-i.i _ _ (Some _) c.in_ok-n.was (c.mark_object.ensures.marked _ _ _ c.loop-i.invariant.1.1.1.1 c.loop-i.invariant.1.1.1.0))))
-
-pub head_of-requires : goal.head_of-requires
-head_of-requires c = record { small = (c.loop-i.invariant.1.1.1.1.narrow, omega (arith, c.loop-i.invariant.1.1.1.0, c.loop-i.invariant.1.1.1.1.few)) }
-
-pub shape_of-heads : goal.shape_of-heads
-shape_of-heads c = c.loop-i.invariant.1.1.0
 
 pub returns : goal.returns
 returns c = record { built = built_all (book_of c.args.book.now c.args.pairs.now) (fit_of c.args.fit.now c.args.pairs.now) c.width_of-width.result _ (c.width_of-width.ensures.defined ∙ ap width_of (c.count_of-objects.ensures.defined ∙ sym (objects_length c.args.fit.now c.args.pairs.now))) c.loop-i.i c.loop-i.n (omega (arith, c.loop-i.invariant.0, c.loop-i-test.false, c.count_of-objects.ensures.defined, objects_length c.args.fit.now c.args.pairs.now)) (omega (arith, c.loop-i.invariant.1.0, c.clear_map.ensures.cleared.long)) c.loop-i.invariant.1.1.1 c.head_of.ensures.defined }

@@ -6,9 +6,6 @@ use lib.ListN.{length}
 use Rattle.maps.proofs.Index.{head_small, head_next, head_later}
 use Rattle.maps.proofs.Building.{mark_found, mark_new, mark_full}
 
-pub find-requires : goal.find-requires
-find-requires c = record { maps = c.requires.counted.held }
-
 pub head_of-at-requires : goal.head_of-at-requires
 head_of-at-requires c = record { small = (c.requires.counted.held.mapped.narrow, omega (arith, (c.in-Some.ensures.found _ _ _ c.requires.counted.held.mapped).0, c.requires.counted.held.mapped.few)) }
 
@@ -20,9 +17,6 @@ set_bit-requires c = record { inside = (omega (arith, c.requires.small.2, c.requ
 
 pub returns-in-Some : goal.returns-in-Some
 returns-in-Some c = record { marked = λ l h ks M q. mark_found M c.args.key c.args.i c.requires.small.2 (c.in-Some.ensures.found l h ks M) q c.head_of-at.ensures.defined c.set_bit.ensures.defined }
-
-pub head_of-at-requires-2 : goal.head_of-at-requires-2
-head_of-at-requires-2 c = record { small = (c.requires.counted.held.mapped.narrow, omega (arith, c.requires.small.1)) }
 
 pub overflow_add-at-2 : goal.overflow_add-at-2
 overflow_add-at-2 c = record { fits = omega (arith, c.requires.counted.held.mapped.narrow, c.head_of-at-2.ensures.defined, head_small c.args.width c.args.maps c.requires.counted.held.mapped.narrow (omega (arith, c.requires.small.1))) }

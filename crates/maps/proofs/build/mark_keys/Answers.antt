@@ -23,11 +23,5 @@ loop-key-preserved c = elim c.if-key-ne-NO_SKILL.branch [
   | else-key-ne-NO_SKILL w ↦ rw (w.n-is, w.words-is, w.heads-is) ((omega (arith, c.loop-key-test.true), (c.loop-key.invariant.1.0, (c.loop-key.invariant.1.1.0, λ l h ks M q. keyed_passed c.args.width l h ks c.args.keys c.args.i c.loop-key.key-index c.loop-key.n c.loop-key-test.true c.requires.keys_small.0 w.if-key-ne-NO_SKILL.false c.loop-key.words c.loop-key.heads (c.loop-key.invariant.1.1.1 l h ks M q)))))
 ]
 
-pub shape_of-words : goal.shape_of-words
-shape_of-words c = c.loop-key.invariant.1.0
-
-pub shape_of-heads : goal.shape_of-heads
-shape_of-heads c = c.loop-key.invariant.1.1.0
-
 pub returns : goal.returns
 returns c = record { marked = λ l h ks M q. keyed_end c.args.width l h ks c.args.keys c.args.i c.loop-key.key-index c.loop-key.n c.loop-key.words c.loop-key.heads c.requires.keys_small.0 c.loop-key.invariant.0 c.loop-key-test.false (c.loop-key.invariant.1.1.1 l h ks M q) }

@@ -9,30 +9,6 @@ use Rattle.rows.proofs.Together.{turns_none, turn_ordered, turn_entries, turn_va
 pub loop-i-init : goal.loop-i-init
 loop-i-init c = turns_none (book_of c.args.book.now c.args.pairs.now) (fit_of c.args.fit.now c.args.pairs.now) c.args.collected.now c.args.collected_values.now (count_of c.args.pairs.now 6) c.args.rows.now c.args.bases.now c.args.entries.now c.args.values.now c.args.ends.now c.args.room
 
-pub offset_bounds-rows-n : goal.offset_bounds-rows-n
-offset_bounds-rows-n c = omega (arith, c.loop-i.invariant.inside, c.loop-i.invariant.rows_long, c.loop-i.invariant.bases_long, c.loop-i.invariant.entries_long, c.loop-i.invariant.values_long, c.requires.inside.0, c.requires.inside.1, c.well_formed.0, c.well_formed.1.0, c.well_formed.1.1.0, c.well_formed.1.1.1.0)
-
-pub slice_bounds-object_lists-count : goal.slice_bounds-object_lists-count
-slice_bounds-object_lists-count c = omega (arith, c.loop-i.invariant.inside, c.loop-i.invariant.rows_long, c.loop-i.invariant.bases_long, c.loop-i.invariant.entries_long, c.loop-i.invariant.values_long, c.requires.inside.0, c.requires.inside.1)
-
-pub slice_bounds-object_lists-start : goal.slice_bounds-object_lists-start
-slice_bounds-object_lists-start c = omega (arith, c.loop-i.invariant.inside, c.loop-i.invariant.rows_long, c.loop-i.invariant.bases_long, c.loop-i.invariant.entries_long, c.loop-i.invariant.values_long, c.requires.inside.0, c.requires.inside.1)
-
-pub slice_bounds-object_lists-end : goal.slice_bounds-object_lists-end
-slice_bounds-object_lists-end c = omega (arith, c.loop-i.invariant.inside, c.loop-i.invariant.rows_long, c.loop-i.invariant.bases_long, c.loop-i.invariant.entries_long, c.loop-i.invariant.values_long, c.requires.inside.0, c.requires.inside.1)
-
-pub offset_bounds-bases-n : goal.offset_bounds-bases-n
-offset_bounds-bases-n c = omega (arith, c.loop-i.invariant.inside, c.loop-i.invariant.rows_long, c.loop-i.invariant.bases_long, c.loop-i.invariant.entries_long, c.loop-i.invariant.values_long, c.requires.inside.0, c.requires.inside.1, c.well_formed.0, c.well_formed.1.0, c.well_formed.1.1.0, c.well_formed.1.1.1.0)
-
-pub slice_bounds-object_lists-count-in-loop-i : goal.slice_bounds-object_lists-count-in-loop-i
-slice_bounds-object_lists-count-in-loop-i c = omega (arith, c.loop-i.invariant.inside, c.loop-i.invariant.rows_long, c.loop-i.invariant.bases_long, c.loop-i.invariant.entries_long, c.loop-i.invariant.values_long, c.requires.inside.0, c.requires.inside.1)
-
-pub slice_bounds-object_lists-start-in-loop-i : goal.slice_bounds-object_lists-start-in-loop-i
-slice_bounds-object_lists-start-in-loop-i c = omega (arith, c.loop-i.invariant.inside, c.loop-i.invariant.rows_long, c.loop-i.invariant.bases_long, c.loop-i.invariant.entries_long, c.loop-i.invariant.values_long, c.requires.inside.0, c.requires.inside.1)
-
-pub slice_bounds-object_lists-end-in-loop-i : goal.slice_bounds-object_lists-end-in-loop-i
-slice_bounds-object_lists-end-in-loop-i c = omega (arith, c.loop-i.invariant.inside, c.loop-i.invariant.rows_long, c.loop-i.invariant.bases_long, c.loop-i.invariant.entries_long, c.loop-i.invariant.values_long, c.requires.inside.0, c.requires.inside.1)
-
 pub offset_bounds-entries-from : goal.offset_bounds-entries-from
 offset_bounds-entries-from c = omega (arith, c.loop-i.invariant.inside, c.loop-i.invariant.rows_long, c.loop-i.invariant.bases_long, c.loop-i.invariant.entries_long, c.loop-i.invariant.values_long, c.requires.inside.0, c.requires.inside.1, turn_ordered (book_of c.args.book.now c.args.pairs.now) (fit_of c.args.fit.now c.args.pairs.now) c.args.collected.now c.args.collected_values.now (count_of c.args.pairs.now 6) c.args.rows.now c.args.bases.now c.args.entries.now c.args.values.now c.args.ends.now c.args.room c.requires.listed c.requires.parted c.loop-i.invariant (omega (arith, c.count_of-objects.ensures.defined, c.loop-i-test.true)) c.index-end.result c.index-end.ensures.defined.0, turn_entries (book_of c.args.book.now c.args.pairs.now) (fit_of c.args.fit.now c.args.pairs.now) c.args.collected.now c.args.collected_values.now (count_of c.args.pairs.now 6) c.args.rows.now c.args.bases.now c.args.entries.now c.args.values.now c.args.ends.now c.args.room c.requires.listed c.requires.parted c.loop-i.invariant (omega (arith, c.count_of-objects.ensures.defined, c.loop-i-test.true)) c.index-end.result c.index-end.ensures.defined.0, turn_values (book_of c.args.book.now c.args.pairs.now) (fit_of c.args.fit.now c.args.pairs.now) c.args.collected.now c.args.collected_values.now (count_of c.args.pairs.now 6) c.args.rows.now c.args.bases.now c.args.entries.now c.args.values.now c.args.ends.now c.args.room c.requires.listed c.requires.parted c.loop-i.invariant (omega (arith, c.count_of-objects.ensures.defined, c.loop-i-test.true)) c.index-end.result c.index-end.ensures.defined.0, c.well_formed.0, c.well_formed.1.0, c.well_formed.1.1.0, c.well_formed.1.1.1.0)
 
@@ -75,9 +51,6 @@ returns-in_err-n c = rw c.from_residual.ensures (record { laid = turn-full (book
 
 pub overflow_add-n : goal.overflow_add-n
 overflow_add-n c = omega (arith, (turn-next (book_of c.args.book.now c.args.pairs.now) (fit_of c.args.fit.now c.args.pairs.now) c.args.collected.now c.args.collected_values.now (count_of c.args.pairs.now 6) c.args.rows.now c.args.bases.now c.args.entries.now c.args.values.now c.args.ends.now c.args.room c.requires.listed c.requires.parted c.loop-i.invariant (omega (arith, c.count_of-objects.ensures.defined, c.loop-i-test.true)) c.index-end.result c.index-end.ensures.defined.0 c.requires.inside.0 c.requires.inside.1 c.object_lists.result c.object_lists.new.rows c.object_lists.new.bases c.object_lists.new.segment c.object_lists.new.values c.object_lists.ensures.laid c.in_ok-n.was c.object_lists.auto.segment c.object_lists.auto.values refl refl refl refl).inside, c.ranges.room)
-
-pub loop-i-smaller : goal.loop-i-smaller
-loop-i-smaller c = omega (arith, c.count_of-objects.ensures.defined, c.loop-i-test.true)
 
 pub loop-i-preserved : goal.loop-i-preserved
 loop-i-preserved c = turn-next (book_of c.args.book.now c.args.pairs.now) (fit_of c.args.fit.now c.args.pairs.now) c.args.collected.now c.args.collected_values.now (count_of c.args.pairs.now 6) c.args.rows.now c.args.bases.now c.args.entries.now c.args.values.now c.args.ends.now c.args.room c.requires.listed c.requires.parted c.loop-i.invariant (omega (arith, c.count_of-objects.ensures.defined, c.loop-i-test.true)) c.index-end.result c.index-end.ensures.defined.0 c.requires.inside.0 c.requires.inside.1 c.object_lists.result c.object_lists.new.rows c.object_lists.new.bases c.object_lists.new.segment c.object_lists.new.values c.object_lists.ensures.laid c.in_ok-n.was c.object_lists.auto.segment c.object_lists.auto.values refl refl refl refl

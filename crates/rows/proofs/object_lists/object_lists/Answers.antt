@@ -1,6 +1,5 @@
 -- `object_lists::object_lists` meets its contract.
 use Rattle.rows.proofs.object_lists.object_lists.Goals as goal
-use native.Mathlib.Omega.{arith}
 use mathlib.Core.Path.{refl, ◌∙◌}
 use mathlib.Core.List.{map}
 use Rattle.rows.specs.Tallies.{hit_id, tallied}
@@ -8,15 +7,6 @@ use Rattle.rules.specs.Sheet.{book_of, fit_of}
 use Rattle.rules.specs.Item.{object}
 use Rattle.rows.proofs.RowOf.{bases_ascend}
 use Rattle.rows.proofs.Owned.{owned-length, owned-full, owned-laid, owned-tallied, answered_rows, answered_inside, answered_part, answered_full}
-
-pub object_rows-requires : goal.object_rows-requires
-object_rows-requires c = record {
-  sound_book = c.requires.sound_book;
-  sound_fit = c.requires.sound_fit;
-  an_object = c.requires.an_object;
-  even = c.requires.even.0;
-  numbered = (c.requires.numbered.0, omega (arith, c.requires.numbered.1));
-}
 
 pub returns-in_err-k : goal.returns-in_err-k
 returns-in_err-k c = rw c.from_residual.ensures (record { laid = λ es E. owned-full (book_of c.args.book.now c.args.pairs.now) (fit_of c.args.fit.now c.args.pairs.now) (object (fit_of c.args.fit.now c.args.pairs.now) c.args.i) c.args.i c.args.segment.now c.args.collected.now c.requires.numbered.0 es E (bases_ascend c.args.fit.now c.args.pairs.now c.requires.sound_fit c.args.i c.requires.an_object) (answered_full c.object_rows.result c.args.i (tallied (book_of c.args.book.now c.args.pairs.now) (fit_of c.args.fit.now c.args.pairs.now) (object (fit_of c.args.fit.now c.args.pairs.now) c.args.i) (map (hit_id c.args.collected.now) c.args.segment.now)) c.args.rows.now c.object_rows.new.rows c.args.bases.now c.object_rows.new.bases c.object_rows.ensures.defined c.in_err-k.was) })
@@ -26,9 +16,6 @@ slice_bounds-object_entries-end c = answered_inside c.object_rows.result c.args.
 
 pub slice_bounds-object_entries-end-2 : goal.slice_bounds-object_entries-end-2
 slice_bounds-object_entries-end-2 c = answered_part c.object_rows.result c.args.i (tallied (book_of c.args.book.now c.args.pairs.now) (fit_of c.args.fit.now c.args.pairs.now) (object (fit_of c.args.fit.now c.args.pairs.now) c.args.i) (map (hit_id c.args.collected.now) c.args.segment.now)) c.args.rows.now c.object_rows.new.rows c.args.bases.now c.object_rows.new.bases c.object_rows.ensures.defined c.in_ok-k.was
-
-pub overflow_cast-i : goal.overflow_cast-i
-overflow_cast-i c = record { fits = omega (arith, c.requires.an_object, c.requires.sound_fit.held.objects.few) }
 
 pub object_entries-requires : goal.object_entries-requires
 object_entries-requires c = record {
