@@ -14,6 +14,9 @@ use shape::BadTable;
 use shape::book_tables::{attribute_good, buff_collection_good, effect_good, type_effect_good};
 use tables::BookTables;
 
+// The loops of these four tables stay apart: one function over them takes the record, its test and its key as closures, and has to say in
+// its contract what each of the three gives, which is longer than the loops.
+
 // Whether table 1 is good.
 fn attributes_good(attributes: &[AttributeFields], defaults: &[f64]) -> bool
     requires beside { length attributes.now ≡ length defaults.now }

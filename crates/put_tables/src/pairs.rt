@@ -7,6 +7,8 @@ ghost use Rattle.tables.specs.Fits.{FewBook, FewFit};
 use columns::FivePairs;
 use tables::{BookTables, FitTables};
 
+// The two stay apart: one function over both takes five widths and five counts, and writes the same ten places.
+
 // The pairs of tables 1 to 5.
 pub fn book_pairs(at: usize, book: BookTables) -> FivePairs
     requires few { FewBook (book_in book []) }
