@@ -23,7 +23,7 @@ use Rattle.memory.specs.declared.apply.Got.{Got}
 use Rattle.memory.proofs.Holdings.{met, missed}
 use Rattle.memory.proofs.Nanned.{shown_length as shown-long}
 use Rattle.memory.proofs.Readings.{its_row, starting}
-use Rattle.values.specs.Starting.{Untouched}
+use Rattle.reading.specs.Bare.{Bare}
 use Rattle.values.proofs.Settling.{settled_meets}
 use Rattle.values.proofs.PreparedBlankLaws.{own_none, held-at-first}
 use Rattle.given.specs.Judging.{off, Judged, calculated_from, GotIs, RestoredAs}
@@ -131,9 +131,9 @@ module _ {t : Tables} {v : List Float} (h : Judged t v) (i : ℕ) (inside : i < 
           ∙ put_back h.world h.values h.free i inside_values (its_row h.told.held i within) q.read.mem.values b.rest ∙ sym h.column
 
   -- nothing is asked of a row that nothing touches: its value is its base
-  pub base_given : Untouched t.rows t.limits i 1 → GotIs (calculated_from h.world h.values i) (Ok (record { value = get_or t.bases i nan; used = 0 }))
+  pub base_given : Bare t.rows t.limits i → GotIs (calculated_from h.world h.values i) (Ok (record { value = get_or t.bases i nan; used = 0 }))
   unfolding eq
   base_given u =
       let none_there : eq (get_or (set v i nan) i nan) (get_or (set v i nan) i nan) ≡ false = ap (λ (x : Float). eq x x) (get_or-set_same v i nan nan column_inside) in
       is-given nan [] [] refl (set (set v i nan) i (get_or t.bases i nan)) [] [] (Ok (record { value = get_or t.bases i nan; used = 0 }))
-      (settled_meets (ready nan [] [] refl) i inside none_there 1 u)
+      (settled_meets (ready nan [] [] refl) i inside none_there 1 (record { empty = u.empty; free = u.free; deep = λ z. absurd (omega (arith, z)) }))

@@ -6,30 +6,20 @@ ghost use Rattle.laws.specs.Options.{option_of};
 ghost use Rattle.std.proofs.Math.Option.{none};
 ghost use Rattle.laws.specs.Floats.{finite};
 ghost use Rattle.memory.specs.Steps.{row_at};
-ghost use Rattle.values.specs.Starting.{Untouched};
 ghost use Rattle.settled.specs.Given.{given};
 ghost use Rattle.settled.specs.Lines.{line_of, same_float, is_given, first_wrong, first_bad};
 ghost use Rattle.memory.specs.Holding.{tables_of};
 ghost use Rattle.given.specs.Judging.{Judged, Awaits, LaidUnless, calculated_from, GotIs, Restored, KeptIf, KeptUnless};
 
-use columns::{AttributeRow, Limits, ROW_ATTRIBUTE, ROW_ENTRY_COUNT, SOURCE_FLOATS, SOURCE_WIDTH};
+use columns::{SOURCE_FLOATS, SOURCE_WIDTH};
 use idle::idles_have_strength;
 use lines::{LineRow, first_other, set_listed};
 use memory::ReadColumns;
 use memory::apply::Got;
-use numbers::integers::signed;
 use pass_3::calculate_value;
-use reading::stretches::is_limited;
+use reading::stretches::is_bare;
 use rules::Refusal;
 use sources::Recording;
-
-// Whether a row's value is its base: it has no entries, and its attribute has no limit.
-fn is_untouched(rows: &[AttributeRow], limits: &Limits, row: usize) -> bool
-    requires within { row < length rows.now }
-    ensures untouched { result ≡ true → Untouched rows.now limits.now row 1 }
-{
-    rows[row][ROW_ENTRY_COUNT] == 0 && !is_limited(limits, signed(rows[row][ROW_ATTRIBUTE]))
-}
 
 // A row's value from the other listed values: its base where nothing touches it; else its own listed value is taken out of the column
 // meanwhile, so only its own calculation starts.
@@ -39,7 +29,7 @@ fn given_at(values: &mut [f64], columns: &ReadColumns, row: usize) -> Result<Got
     ensures defined { (h : Judged (tables_of columns.now) values.old) → GotIs (calculated_from h.world h.values row) result }
     ensures kept { Restored result values }
 {
-    if is_untouched(columns.rows, columns.limits, row) {
+    if is_bare(columns.rows, columns.limits, row) {
         return Ok(Got {
             value: columns.bases[row],
             used: 0,

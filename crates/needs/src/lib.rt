@@ -19,7 +19,7 @@ use columns::{
 use info::little_endian::index;
 use info::look_ups::get_dogma_attribute;
 use numbers::integers::signed;
-use reading::stretches::{find, is_limited};
+use reading::stretches::{find, is_bare, is_limited};
 
 // What needs are read off: the book, lists 2 and 3, where each object's rows are, and which attributes may have a limit.
 #[derive(Clone, Copy)]
@@ -103,8 +103,7 @@ impl NeedColumns<'_> {
         ensures nothing { (h : KnowsNeeds (tables_of self.now)) → result ≡ true
             → (s : ℕ) → none ≡ need_at h.world row s }
     {
-        self.rows[row][ROW_ENTRY_COUNT] == 0
-            && !is_limited(self.limits, signed(self.rows[row][ROW_ATTRIBUTE]))
+        is_bare(self.rows, self.limits, row)
     }
 
     // How many slots a row has.

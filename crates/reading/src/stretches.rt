@@ -1,16 +1,17 @@
 // A row found in its object's stretch of list 2, whether an attribute may have a limit, and the two tables that tell.
-ghost use Rattle.std.specs.Prelude.{◌≡◌, false, List, ◌≤◌, ◌<◌, ◌^◌, length};
+ghost use Rattle.std.specs.Prelude.{◌≡◌, true, false, List, ◌≤◌, ◌<◌, ◌^◌, length};
 ghost use Rattle.laws.specs.Options.{option_of};
 ghost use Rattle.rules.specs.Dispatch.{Row};
 ghost use Rattle.rules.specs.Sheet.{Book, book_of};
 ghost use Rattle.info.specs.Sound.{HeldBook};
 ghost use Rattle.rules.specs.Value.{find_row};
 ghost use Rattle.reading.specs.Held.{RowsHeld, index_of};
+ghost use Rattle.reading.specs.Bare.{Bare};
 ghost use Rattle.reading.specs.Stretched.{Stretched, Past, Limits, Unlimited};
 
 use columns::{
-    AttributeRow, LIMIT_MARKS, Limits, OBJECTS, ROW_ATTRIBUTE, ROW_OBJECT, STRETCH_END,
-    STRETCH_FIRST, Stretches, TABLE_ATTRIBUTES, TablePairs,
+    AttributeRow, LIMIT_MARKS, Limits, OBJECTS, ROW_ATTRIBUTE, ROW_ENTRY_COUNT, ROW_OBJECT,
+    STRETCH_END, STRETCH_FIRST, Stretches, TABLE_ATTRIBUTES, TablePairs,
 };
 use info::header::count_of;
 use info::little_endian::index;
@@ -85,6 +86,15 @@ pub fn is_limited(limits: &Limits, id: i32) -> bool
 {
     let mark = limits[index(bits(id) % 1024)];
     mark != 0
+}
+
+// Whether a row's value is sure to be its base: it has no entries, and its attribute has no limit.
+pub fn is_bare(rows: &[AttributeRow], limits: &Limits, row: usize) -> bool
+    requires within { row < length rows.now }
+    ensures bare { result ≡ true → Bare rows.now limits.now row }
+{
+    let count = rows[row][ROW_ENTRY_COUNT];
+    count == 0 && !is_limited(limits, signed(rows[row][ROW_ATTRIBUTE]))
 }
 
 // Marks of the attributes that may have a limit, by their ids modulo 1,024.

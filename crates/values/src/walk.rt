@@ -9,16 +9,13 @@ ghost use Rattle.pass_3.specs.Calls.{ReadyNow, Gives};
 ghost use Rattle.values.specs.Complete.{ask_of};
 ghost use Rattle.values.specs.Starting.{Untouched, StartsGive, WalkableNow, WalkGives};
 
-use columns::{
-    AttributeRow, Limits, ROW_ATTRIBUTE, ROW_ENTRY_COUNT, SourceFloats, SourceRow, TABLE_ASKS,
-};
+use columns::{AttributeRow, Limits, SourceFloats, SourceRow, TABLE_ASKS};
 use info::header::{count_of, depth_of};
 use info::records::ask;
 use memory::ReadColumns;
 use memory::apply::Got;
-use numbers::integers::signed;
 use pass_3::{calculate_value, calculated_value};
-use reading::stretches::is_limited;
+use reading::stretches::is_bare;
 use reading::turns::{turns_of, walked};
 use rules::Refusal;
 use sources::Recording;
@@ -63,16 +60,7 @@ fn untouched(rows: &[AttributeRow], limits: &Limits, row: usize, left: u32) -> b
     requires within { row < length rows.now }
     ensures untouched { result ≡ true → Untouched rows.now limits.now row left }
 {
-    let count = rows[row][ROW_ENTRY_COUNT];
-    if count != 0 {
-        return false;
-    }
-    if left == 0 {
-        return false;
-    }
-    let id = signed(rows[row][ROW_ATTRIBUTE]);
-    let limited = is_limited(limits, id);
-    !limited
+    left != 0 && is_bare(rows, limits, row)
 }
 
 // The value of a row on the walk: one that is there and one that is the base take no calculation.

@@ -3,9 +3,9 @@ use Rattle.given.proofs.given_at.Goals as goal
 use mathlib.Core.Path.{refl}
 use Rattle.given.proofs.Judgement.{nan_bits, ready, is-given, is_kept, base_given}
 
-pub returns-then-is_untouched : goal.returns-then-is_untouched
-returns-then-is_untouched c = record {
-  defined = λ h. base_given h c.args.row c.requires.within (c.is_untouched.ensures.untouched c.if-is_untouched.true);
+pub returns-then-is_bare : goal.returns-then-is_bare
+returns-then-is_bare c = record {
+  defined = λ h. base_given h c.args.row c.requires.within (c.is_bare.ensures.bare c.if-is_bare.true);
   kept = refl;
 }
 

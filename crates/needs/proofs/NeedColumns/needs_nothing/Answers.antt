@@ -1,9 +1,8 @@
 -- `needs::NeedColumns::needs_nothing` meets its contract.
 use Rattle.needs.proofs.NeedColumns.needs_nothing.Goals as goal
 use native.Mathlib.Omega.{arith}
-use mathlib.Core.Path.{sym, ◌∙◌}
-use borrow.Author.Tests.{not-true}
-use Rattle.needs.proofs.Showing.{passed, row_count, no_limits, slot_limit}
+use mathlib.Core.Path.{refl, sym, ◌∙◌}
+use Rattle.needs.proofs.Showing.{row_count, no_limits, slot_limit}
 
-pub returns-then-self-row-eq0 : goal.returns-then-self-row-eq0
-returns-then-self-row-eq0 c = record { nothing = λ h e s. no_limits h.told c.args.row c.requires.within (passed c.signed.type_inv c.signed.ensures.defined) (c.is_limited.ensures.unlimited h.world.book h.told.limited (not-true c.is_limited.result e)) s ∙ sym (slot_limit h.world c.args.row s s (omega (arith, row_count h.told c.args.row c.requires.within, c.if-self-row-eq0.true))) }
+pub returns : goal.returns
+returns c = record { nothing = λ h e s. let bare = c.is_bare.ensures.bare e in no_limits h.told c.args.row c.requires.within refl (bare.free h.world.book h.told.limited) s ∙ sym (slot_limit h.world c.args.row s s (omega (arith, row_count h.told c.args.row c.requires.within, bare.empty))) }
