@@ -19,9 +19,6 @@ use Rattle.modifier.specs.Tests.{other_in}
 use Rattle.collect.specs.OfFit.{OfFit}
 
 module _ (f : Fit) {n : ℕ} where
-  pub next_there : {i : ℕ} {t : Bool} (x : Item) → Nth f.objects i x → i ≡ suc n → t ≡ is_charge x → t ≡ is_charge (object f (suc n))
-  next_there x h e g = g ∙ ap is_charge (h no_item ∙ ap (λ (j : ℕ). get_or f.objects j no_item) e)
-
   pub next_none : length f.objects ≤ suc n → false ≡ is_charge (object f (suc n))
   next_none h = sym (ap is_charge (get_or-eq_default f.objects no_item h))
 

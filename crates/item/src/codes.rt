@@ -5,7 +5,7 @@ ghost use Rattle.rules.specs.Codes.{category_at, category_code, operator_at, ope
 
 use rules::{EffectCategory, EffectOperator};
 
-// The category that a code of the sheet stands for; it may stand for none.
+// The category that a code of the sheet stands for; it may stand for none. The definition has it by this name, and a TryFrom would stand in `rules`.
 pub fn category_at(code: u32) -> Option<EffectCategory>
     ensures defined { option_of result ≡ category_at code }
 {
@@ -26,19 +26,10 @@ pub fn category_at(code: u32) -> Option<EffectCategory>
 pub fn category_code(category: EffectCategory) -> u32
     ensures defined { result ≡ category_code category }
 {
-    match category {
-        EffectCategory::Passive => 0,
-        EffectCategory::Online => 1,
-        EffectCategory::Active => 2,
-        EffectCategory::Overload => 3,
-        EffectCategory::Target => 4,
-        EffectCategory::Area => 5,
-        EffectCategory::Dungeon => 6,
-        EffectCategory::System => 7,
-    }
+    category as u32
 }
 
-// The operator that a code of the sheet stands for; it may stand for none.
+// The operator that a code of the sheet stands for; it may stand for none. As above.
 pub fn operator_at(code: u32) -> Option<EffectOperator>
     ensures defined { option_of result ≡ operator_at code }
 {
@@ -60,15 +51,5 @@ pub fn operator_at(code: u32) -> Option<EffectOperator>
 pub fn operator_code(operator: EffectOperator) -> u32
     ensures defined { result ≡ operator_code operator }
 {
-    match operator {
-        EffectOperator::PreAssign => 0,
-        EffectOperator::PreMul => 1,
-        EffectOperator::PreDiv => 2,
-        EffectOperator::ModAdd => 3,
-        EffectOperator::ModSub => 4,
-        EffectOperator::PostMul => 5,
-        EffectOperator::PostDiv => 6,
-        EffectOperator::PostPercent => 7,
-        EffectOperator::PostAssign => 8,
-    }
+    operator as u32
 }

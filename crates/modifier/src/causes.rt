@@ -57,6 +57,7 @@ fn effect_of(
 }
 
 // An own modifier: func, operation, item without charge, ship domain skipped, target domain. None is passed over.
+#[tactic(auto, using(crate::proofs::Tests::given_on), unfolding(rules::specs::Collect::modifier_moves))]
 pub fn own_move(
     w: Owner,
     e: DogmaEffect,
@@ -81,6 +82,7 @@ pub fn own_move(
 }
 
 // A projected modifier: domain, func, operation.
+#[tactic(auto, using(crate::proofs::Tests::given_on), unfolding(rules::specs::Collect::projected_modifier_moves))]
 pub fn projected_move(
     w: Owner,
     e: DogmaEffect,
@@ -106,6 +108,7 @@ pub fn projected_move(
 }
 
 // A modifier of a buff: func.
+#[tactic(auto, using(crate::proofs::Tests::given_on), unfolding(rules::specs::Collect::buff_modifier_moves))]
 pub fn buff_move(
     b: ProjectedBuff,
     operator: EffectOperator,

@@ -114,6 +114,7 @@ fn collected_numbers(e: Pass2Effect) -> CollectedRow
 }
 
 // A collected effect goes to the end of list 1.
+#[tactic(auto, unfolding(crate::specs::Ran::ran, crate::specs::Ran::moved))]
 pub fn push(
     collected: &mut [CollectedRow],
     collected_values: &mut [f64],
@@ -139,6 +140,7 @@ pub fn push(
 }
 
 // A plain effect goes to the end of list 4.
+#[tactic(auto, unfolding(crate::specs::Ran::ran, crate::specs::Ran::moved))]
 pub fn push_plain(
     plain: &mut [PlainRow],
     rooms: CollectedRooms,
