@@ -21,10 +21,9 @@ use Rattle.values.proofs.Starts.{valued_grows}
 use Rattle.std.specs.Prelude.{Result, Ok, Err}
 use Rattle.values.specs.Setting.{SetAs, Set}
 use Rattle.run.specs.Filled.{Columns, Filled, RanAs, ran_by}
-use Rattle.run.specs.declared.Ran.TheVariants as ran
 
 -- a refusal, wherever it is met
-pub refused_as : {s : Res Done} {x : Refusal} (st : List (List ℕ)) (c₀ c : Columns) → s ≡ refused x → RanAs s (ran.Refused x) st c₀ c
+pub refused_as : {s : Res Done} {x : Refusal} (st : List (List ℕ)) (c₀ c : Columns) → s ≡ refused x → RanAs s (Err x) st c₀ c
 refused_as st c₀ c e = rw e refl
 
 module _ (k : Book) (f : Fit) (q : Rooms) where

@@ -4,7 +4,8 @@ ghost use Rattle.rules.specs.Sheet.{book_of, fit_of};
 ghost use Rattle.shape.specs.Shaped.{SoundBy};
 ghost use Rattle.run.specs.Filled.{lent_columns, lent_of, RanAs, decided};
 
-use super::{Ran, fill};
+use super::fill;
+use clear::KeptCounts;
 use columns::{
     AttributeRow, CollectedRow, EntryRow, PlainRow, SourceFloats, SourceRow, States, TablePairs,
 };
@@ -28,32 +29,28 @@ pub fn filled(
     fit: &[u8],
     pairs: &TablePairs,
     verdict: Result<(), BadTable>,
-) -> Ran
+) -> Result<KeptCounts, Refusal>
     requires sound { SoundBy verdict book.now fit.now pairs.now }
     ensures defined { let lists = lent_columns collected collected_values rows bases values entries entry_values plain sources source_values in
         let k = book_of book.now pairs.now in
         let f = fit_of fit.now pairs.now in
         RanAs (decided verdict k f (outcome.rooms_of (lent_of lists.entry))) result states.new lists.entry lists.exit }
 {
-    match verdict {
-        Err(bad) => Ran::Refused(Refusal::from(bad)),
-        Ok(()) => {
-            fill(
-                states,
-                collected,
-                collected_values,
-                rows,
-                bases,
-                values,
-                entries,
-                entry_values,
-                plain,
-                sources,
-                source_values,
-                book,
-                fit,
-                pairs,
-            )
-        }
-    }
+    verdict?;
+    fill(
+        states,
+        collected,
+        collected_values,
+        rows,
+        bases,
+        values,
+        entries,
+        entry_values,
+        plain,
+        sources,
+        source_values,
+        book,
+        fit,
+        pairs,
+    )
 }
