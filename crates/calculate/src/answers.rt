@@ -28,15 +28,15 @@ fn refusal_place(r: Refusal) -> u32
     ensures defined { result ≡ place (Refused r) }
 {
     match r {
-        Refusal::Shape(p) => p,
-        Refusal::Func(p) => p,
-        Refusal::Domain(p) => p,
-        Refusal::Category(p) => p,
-        Refusal::Operation(p) => p,
-        Refusal::Other(p) => p,
-        Refusal::Room(p) => p,
-        Refusal::Number(p) => p,
-        Refusal::Depth(p) => p,
+        Refusal::Shape(p)
+        | Refusal::Func(p)
+        | Refusal::Domain(p)
+        | Refusal::Category(p)
+        | Refusal::Operation(p)
+        | Refusal::Other(p)
+        | Refusal::Room(p)
+        | Refusal::Number(p)
+        | Refusal::Depth(p) => p,
     }
 }
 

@@ -17,7 +17,6 @@ use columns::{
 };
 use info::header::pairs_of;
 use rules::Refusal;
-use run::Ran;
 use run::outcome::filled;
 use shape::{BadTable, shape};
 
@@ -35,12 +34,12 @@ pub struct Outcome {
 }
 
 // The counts to keep: none after a refusal.
-fn counts_of(ran: Ran) -> KeptCounts
+fn counts_of(ran: Result<KeptCounts, Refusal>) -> KeptCounts
     ensures defined { result ≡ counts_given ran }
 {
     match ran {
-        Ran::Done(n) => n,
-        Ran::Refused(_) => KeptCounts {
+        Ok(n) => n,
+        Err(_) => KeptCounts {
             objects: 0,
             collected: 0,
             rows: 0,
@@ -52,12 +51,12 @@ fn counts_of(ran: Ran) -> KeptCounts
 }
 
 // The answer without its counts.
-fn answer_of(ran: Ran) -> Result<(), Refusal>
+fn answer_of(ran: Result<KeptCounts, Refusal>) -> Result<(), Refusal>
     ensures defined { answer_from result ≡ answer_given ran }
 {
     match ran {
-        Ran::Done(_) => Ok(()),
-        Ran::Refused(y) => Err(y),
+        Ok(_) => Ok(()),
+        Err(y) => Err(y),
     }
 }
 
@@ -66,18 +65,7 @@ fn pairs_lent(sheet: &[u8]) -> TablePairs
     ensures defined { 100 ≤ length sheet.now → result ≡ pairs_of sheet.now }
 {
     if sheet.len() < 100 {
-        return [
-            [0, 0],
-            [0, 0],
-            [0, 0],
-            [0, 0],
-            [0, 0],
-            [0, 0],
-            [0, 0],
-            [0, 0],
-            [0, 0],
-            [0, 0],
-        ];
+        return [[0; 2]; 10];
     }
     pairs_of(sheet)
 }
