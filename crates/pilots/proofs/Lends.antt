@@ -12,7 +12,7 @@ use Rattle.pool.specs.Pooled.{Pooled, pooled_of, part_end}
 use Rattle.pool.specs.declared.BadPool.{BadPool}
 use Rattle.pool.proofs.Answers.{was_refused, was_lent}
 use Rattle.pool.proofs.Parts.{part_inside, part_ordered}
-use Rattle.pilots.specs.Given.{parts_at, lending_of}
+use Rattle.pilots.specs.Given.{parts_at, lending_of, Inside, LentParts}
 use Rattle.pilots.specs.declared.lending.Parts.{Parts}
 
 -- ---- what the test of the pool says
@@ -33,19 +33,6 @@ module _ (ss : List (List (List ℕ))) (p : ℕ) (l : Lent) {rooms : List ℕ} (
   lends_parts g a = rw (lending_of, no_place g) (ap Ok a)
 
 -- ---- what follows from it
-
--- every part lies in its column
-pub record Inside (at : Parts) (l : Lent) : Type 0 where
-  pub collected : (at.collected ≤ at.collected_end) × (at.collected_end ≤ l.collected)
-  pub collected_values : (at.collected ≤ at.collected_end) × (at.collected_end ≤ l.collected_values)
-  pub rows : (at.rows ≤ at.rows_end) × (at.rows_end ≤ l.rows)
-  pub bases : (at.rows ≤ at.rows_end) × (at.rows_end ≤ l.bases)
-  pub values : (at.rows ≤ at.rows_end) × (at.rows_end ≤ l.values)
-  pub entries : (at.entries ≤ at.entries_end) × (at.entries_end ≤ l.entries)
-  pub entry_values : (at.entries ≤ at.entries_end) × (at.entries_end ≤ l.entry_values)
-  pub plain : (at.plain ≤ at.plain_end) × (at.plain_end ≤ l.plain)
-  pub sources : (at.sources ≤ at.sources_end) × (at.sources_end ≤ l.sources)
-  pub source_floats : (at.sources ≤ at.sources_end) × (at.sources_end ≤ l.source_floats)
 
 pub fits : (ss : List (List (List ℕ))) (p : ℕ) (l : Lent) → pool_bad (pool_rooms l) ss p ≡ none → Inside (parts_at ss p) l
 fits ss p l free =
@@ -95,8 +82,6 @@ module _ (ss : List (List (List ℕ))) (p : ℕ) (l : Lent) {v : Result Parts Ba
     pub lies_at : at ≡ parts_at ss p
     lies_at = let z = sym g ∙ h ∙ lending_by none free in cc
 
-    pub seated : p < 16
-    seated = is_pilot (pool_rooms l) ss p free
-
-    pub room : Inside at l
-    room = subst (λ (a : Parts). Inside a l) (sym lies_at) (fits ss p l free)
+-- what is lent lies in its columns, and the number is a pilot's
+pub lent-parts : (ss : List (List (List ℕ))) (p : ℕ) (l : Lent) → pool_bad (pool_rooms l) ss p ≡ none → {at : Parts} → at ≡ parts_at ss p → LentParts p l at
+lent-parts ss p l n a = record { pilot = is_pilot (pool_rooms l) ss p n; inside = subst (λ (x : Parts). Inside x l) (sym a) (fits ss p l n) }

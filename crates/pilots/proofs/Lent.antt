@@ -21,12 +21,12 @@ use Rattle.calculate.proofs.Clearing.{Even}
 use Rattle.calculate.specs.declared.Outcome.{Outcome}
 use Rattle.files.specs.Read.{pairs_read}
 use Rattle.files.proofs.Judged.{sound_pairs, sound_files}
-use Rattle.pilots.specs.Given.{pool_of, told_of, parts_at, lending_of, PoolTold}
+use Rattle.pilots.specs.Given.{pool_of, told_of, parts_at, lending_of, Inside, PoolTold}
 use Rattle.pilots.specs.declared.lending.Parts.{Parts}
 use Rattle.std.specs.Prelude.{Result, Ok, Err}
 use Rattle.pool.specs.declared.BadPool.{BadPool}
 use Rattle.pilots.proofs.Backed.{cut, backed, stretch_long, stretch_same, stretch_within}
-use Rattle.pilots.proofs.Lends.{Inside, fits, refused-at, free, lies_at}
+use Rattle.pilots.proofs.Lends.{fits, refused-at, free, lies_at}
 
 -- ---- what is decided on two files is their outcome
 

@@ -1,7 +1,7 @@
 // What a pool has of each list, and where a pilot's rows lie in it.
-ghost use Rattle.std.specs.Prelude.{◌≡◌, ◌<◌};
+ghost use Rattle.std.specs.Prelude.{◌≡◌, ◌<◌, IfOk};
 ghost use Rattle.rules.specs.Pool.{pool_rooms};
-ghost use Rattle.pilots.specs.Given.{lengths, parts_at, lending_of, PoolTold};
+ghost use Rattle.pilots.specs.Given.{lengths, parts_at, lending_of, LentParts, PoolTold};
 
 use calculate::Outcome;
 use columns::{PoolRooms, PoolStretches};
@@ -72,6 +72,7 @@ fn parts_of(stretches: &PoolStretches, p: usize) -> Parts
 // POOL with its place, or where the pilot's rows lie.
 pub fn lend(stretches: &PoolStretches, n: Lengths, pilot: u32) -> Result<Parts, BadPool>
     ensures defined { result ≡ lending_of stretches.now pilot (lengths n) }
+    ensures inside { IfOk result (λ at. LentParts pilot (lengths n) at) }
 {
     pool(stretches, &rooms_of(n), pilot)?;
     Ok(parts_of(stretches, pilot as usize))

@@ -21,6 +21,7 @@ use numbers::is_finite;
 use rules::{BOOSTER, BaseAttribute, CHAR, CHARGE, ITEM, Item, MODE, PROJECTED, SHIP, SKILL};
 
 // Whether an object of kind k may stand right after one of kind a.
+#[tactic(auto, unfolding(rules::specs::Shape::follows))]
 fn follows(a: u32, k: u32) -> bool
     ensures defined { result ≡ rule.follows a k }
 {
@@ -44,6 +45,7 @@ fn follows(a: u32, k: u32) -> bool
 }
 
 // Whether an object's codes and ranges are good; there are n base attributes and m ids.
+#[tactic(auto, unfolding(rules::specs::Shape::object_good))]
 pub fn object_good(o: Item, n: usize, m: usize) -> bool
     ensures defined { (f : Fit) → n ≡ length f.bases → m ≡ length f.ids → result ≡ object_good f o }
 {
@@ -172,6 +174,7 @@ fn bases_ascend(fit: &[u8], pairs: &TablePairs) -> bool
 }
 
 // Whether table 7 is good: floats finite, and the base attributes of one object ascend strictly.
+#[tactic(auto, unfolding(rules::specs::Shape::bases_good))]
 pub fn bases_good(fit: &[u8], pairs: &TablePairs) -> bool
     requires held_fit { HeldFit fit.now pairs.now }
     requires good_objects { objects_good (fit_of fit.now pairs.now) ≡ true }

@@ -1,18 +1,18 @@
 // 1 SHAPE: whether bytes are a sheet, and if not, which table is the first bad one, 0 for the header.
 #![tactic(auto)]
 
-ghost use Rattle.std.specs.Prelude.{◌≡◌, ◌&&◌, ◌≤◌, eqb, length};
-ghost use Rattle.laws.specs.Lists.{from, every?};
+ghost use Rattle.std.specs.Prelude.{◌≡◌, ◌+◌, ◌≤◌, length};
+ghost use Rattle.laws.specs.Lists.{from};
 ghost use Rattle.rules.specs.Bytes.{width_of, limit_of};
-ghost use Rattle.rules.specs.Shape.{end_of, header_good, book_bad, fit_bad, bad_shape};
-ghost use Rattle.rules.specs.Shape as rule;
+ghost use Rattle.rules.specs.Shape.{header_good, book_bad, fit_bad, bad_shape};
+ghost use Rattle.rules.specs.Files as files;
 ghost use Rattle.rules.specs.declared.Refusal.TheVariants.{Shape};
 ghost use Rattle.info.specs.At.{book_at, fit_at};
 ghost use Rattle.info.specs.Sound.{HeldBook, HeldFit};
 ghost use Rattle.shape.specs.Shaped.{shaped_of};
 
 use book_tables::{attributes_good, buff_collections_good, effects_good, type_effects_good};
-use columns::TablePairs;
+use columns::{TABLE_ATTRIBUTES, TablePairs};
 use fit_tables::{asks_good, bases_good, buffs_good, objects_good};
 use info::header::{count_of, offset_of, pairs_of};
 use info::little_endian::u32_at;
@@ -54,22 +54,25 @@ pub fn limit_of(t: usize) -> usize
     LIMITS[t - 1]
 }
 
-// Whether tables follow in order without gaps, each with at most its most records, up to the end of n bytes.
-fn placed(pairs: &TablePairs, n: usize) -> bool
-    ensures defined { result ≡ every? (rule.placed pairs.now) (from 0 10) && eqb (end_of pairs.now 10) n }
+// Whether tables follow without gaps from byte h on, so many from one on, each with at most its most records, up to the end of n bytes.
+pub fn standing(pairs: &TablePairs, first: usize, tables: usize, h: usize, n: usize) -> bool
+    requires some_of_ten { (1 ≤ first) × (first + tables ≤ 11) }
+    requires a_header { h ≤ 100 }
+    ensures defined { result ≡ files.standing pairs.now h (from first tables) n }
 {
-    let mut end = 100;
-    for t in 0..10 {
-        let count = count_of(pairs, t + 1);
-        let offset = offset_of(pairs, t + 1);
-        let limit = limit_of(t + 1);
+    let last = first + tables;
+    let mut end = h;
+    for t in first..last {
+        let count = count_of(pairs, t);
+        let offset = offset_of(pairs, t);
+        let limit = limit_of(t);
         if limit < count {
             return false;
         }
         if offset != end {
             return false;
         }
-        end = offset + width_of(t + 1) * count;
+        end = offset + width_of(t) * count;
     }
     end == n
 }
@@ -79,13 +82,14 @@ pub fn header_good(b: &[u8], pairs: &TablePairs) -> bool
     requires a_header { 100 ≤ length b.now }
     ensures defined { result ≡ header_good b.now pairs.now }
 {
-    let tables = placed(pairs, b.len());
+    let tables = standing(pairs, TABLE_ATTRIBUTES, 10, 100, b.len());
     let depth = u32_at(b, 92);
     let recording = u32_at(b, 96);
     tables & (1 <= depth) & (depth <= 256) & (recording <= 1)
 }
 
 // The first bad table of the book.
+#[tactic(auto, unfolding(rules::specs::Shape::book_bad))]
 pub fn book_shape(book: &[u8], pairs: &TablePairs) -> Result<(), BadTable>
     requires held_book { HeldBook book.now pairs.now }
     ensures defined { result ≡ shaped_of (book_bad (book_at book pairs)) }
@@ -106,6 +110,7 @@ pub fn book_shape(book: &[u8], pairs: &TablePairs) -> Result<(), BadTable>
 }
 
 // The first bad table of the fit.
+#[tactic(auto, unfolding(rules::specs::Shape::fit_bad))]
 pub fn fit_shape(fit: &[u8], pairs: &TablePairs) -> Result<(), BadTable>
     requires held_fit { HeldFit fit.now pairs.now }
     ensures defined { result ≡ shaped_of (fit_bad (fit_at fit pairs)) }

@@ -1,9 +1,5 @@
 -- `files::files_shape` meets its contract. Assumes nothing.
 use Rattle.files.proofs.files_shape.Goals as goal
-use Rattle.files.proofs.files_shape.Reads as reads
-use Rattle.files.proofs.files_shape.Lts as lts
-use Rattle.files.proofs.book_verdict.Reads as book-verdict-reads
-use Rattle.files.proofs.fit_verdict.Reads as fit-verdict-reads
 use Rattle.std.proofs.lemmas.Result.{err_from_is_err_and}
 use Rattle.files.proofs.Judged.{book_bad_lem, book_sound}
 

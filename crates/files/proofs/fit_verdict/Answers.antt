@@ -1,9 +1,5 @@
 -- `files::fit_verdict` meets its contract. Assumes nothing.
 use Rattle.files.proofs.fit_verdict.Goals as goal
-use Rattle.files.proofs.fit_verdict.Reads as reads
-use Rattle.files.proofs.fit_verdict.Lts as lts
-use Rattle.files.proofs.fit_header_good.Reads as fit-header-good-reads
-use Rattle.shape.proofs.fit_shape.Reads as fit-shape-reads
 use Rattle.std.proofs.Common.{arith, rules, ◌≡◌, ◌<◌, Err}
 use Rattle.std.proofs.iter.Serving.{serving}
 use Rattle.shape.specs.declared.BadTable.{BadTable}
