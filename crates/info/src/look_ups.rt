@@ -37,6 +37,7 @@ fn narrowed(b: &[u8], at: usize, w: usize, n: usize, id: i32) -> Window
 {
     let mut low = 0;
     let mut left = n;
+    // a while: by quarters, as in `search`, which was measured faster than by halves (docs/DECISIONS.md, 7)
     while 7 < left {
         let q = left / 4;
         let first = key_at(b, at, w, low + q - 1);

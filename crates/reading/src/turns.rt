@@ -25,18 +25,7 @@ pub struct Turns {
 fn rows_below(rows: &[AttributeRow], object: u32) -> usize
     ensures counted { (rs : List Row) → RowsHeld rs rows.now → result ≡ rows_below object rs }
 {
-    let mut low: usize = 0;
-    let mut high = rows.len();
-    while low < high {
-        let middle = low + (high - low) / 2;
-        let o = rows[middle][ROW_OBJECT];
-        if o < object {
-            low = middle + 1;
-        } else {
-            high = middle;
-        }
-    }
-    low
+    rows.partition_point(|row| row[ROW_OBJECT] < object)
 }
 
 // The number just past the last projected one: they stand right after the char.
