@@ -27,7 +27,7 @@ use Rattle.listing.proofs.Behind.{begins_long, cleared-behind}
 use Rattle.listing.proofs.Told.{no_number}
 use Rattle.csv_text.specs.Csv.{record_text, csv}
 use Rattle.csv_text.specs.Labels.{label_bad, Label, labels_of, label_of, fields_of, records, Export, fitted, labelled, export_of, text_of}
-use Rattle.csv_text.specs.Puts.{AddedOr, BeginsOr, PutBy, IsRefused}
+use Rattle.csv_text.specs.Puts.{AddedOr, BeginsOr, PutBy, IsRefused, number_in}
 use Rattle.csv_text.specs.declared.ExportRefusal.{ExportRefusal}
 use Rattle.csv_text.specs.declared.ExportRefusal.TheVariants as refusal
 
@@ -45,9 +45,15 @@ pub ended : (r : Result ℕ ExportRefusal) (now : List ℕ) (x : Export) → Put
 ended (Ok end) now x p = cleared-behind p.1
 ended (Err e) now x p = cleared_zeros 0 now ∙ sym (ap (λ (l : List ℕ). column (λ b. b) 0 l (length now)) p.1 ∙ column_none (λ b. b) 0 (length now))
 
+-- no refusal has number 0
+pub not_zero : (why : ExportRefusal) → IsRefused why → number_in why ≡ 0 → ⊥
+not_zero (refusal.Engine n p) (y, a, b) e = no_number y (sym a ∙ e)
+not_zero (refusal.Label i) r e = omega (arith, e)
+not_zero refusal.Full r e = omega (arith, e)
+
 pub full_refused : (r : code.Option ℕ) → IfErr (ok_or r refusal.Full) IsRefused
 full_refused (code.Some end) = tt
-full_refused code.None = λ e. absurd (omega (arith, e))
+full_refused code.None = tt
 
 -- ---- a run that is done, with good labels
 
@@ -80,6 +86,13 @@ module _ (rows : List (List ℕ)) (bytes : List ℕ) (n : ℕ) (now : List ℕ) 
       by : (q : Res Done) → num ≡ number (answer_of q) → pl ≡ place (answer_of q) → PutBy (Err (refusal.Engine num pl)) now (export_of q rows bytes n)
       by (ok d) a b = absurd (h a)
       by (refused x) a b = (rw (a, b) refl, refl)
+
+  pub engine_refused : (num ≡ 0 → ⊥) → IsRefused (refusal.Engine num pl)
+  engine_refused h = by o T.by_number T.by_place
+    where
+      by : (q : Res Done) → num ≡ number (answer_of q) → pl ≡ place (answer_of q) → IsRefused (refusal.Engine num pl)
+      by (ok d) a b = absurd (h a)
+      by (refused x) a b = (x, a, b)
 
   pub put_label : (i : ℕ) → num ≡ 0 → some i ≡ label_bad bytes rows → PutBy (Err (refusal.Label i)) now (export_of o rows bytes n)
   unfolding export_of

@@ -5,6 +5,8 @@ use Rattle.std.proofs.Math.Option.{Option, none, some}
 use Rattle.laws.specs.Columns.{column}
 use Rattle.columns.specs.Lending.{LentColumn}
 use Rattle.listing.specs.Put.{put, puts, Begins}
+use Rattle.rules.specs.Answer.{number, place, Refused}
+use Rattle.rules.specs.declared.Refusal.{Refusal}
 use Rattle.csv_text.specs.Labels.{id_of, Export, number_of, place_of, text_of}
 use Rattle.csv_text.specs.declared.labels.BadLabel.{BadLabel}
 use Rattle.csv_text.specs.declared.ExportRefusal.{ExportRefusal}
@@ -41,9 +43,11 @@ place_in (refusal.Engine n p) = p
 place_in (refusal.Label i) = i
 place_in refusal.Full = 8
 
--- no number of a refusal is 0
+-- what is said to be the engine's is one of its refusals
 abbrev pub IsRefused : ExportRefusal → Type 0
-IsRefused e = number_in e ≡ 0 → ⊥
+IsRefused (refusal.Engine n p) = (y : Refusal) × (n ≡ number (Refused y)) × (p ≡ place (Refused y))
+IsRefused (refusal.Label i) = Unit
+IsRefused refusal.Full = Unit
 
 -- number and place, and how many bytes the text has
 pub record Told : Type 0 where

@@ -160,7 +160,7 @@ fn put_export(
     requires counted { (n ≤ length rows.now) × (n ≤ length values.now) }
     ensures defined { (o : Res Done) → Tells o number place n rows.now values.now
         → Puts result text (export_of o labels.now label_bytes.now) }
-    ensures refused { IfErr result IsRefused }
+    ensures refused { (o : Res Done) → Tells o number place n rows.now values.now → IfErr result IsRefused }
 {
     if number != 0 {
         return Err(ExportRefusal::Engine { number, place });
@@ -184,7 +184,7 @@ pub fn export_text(
     requires counted { (n ≤ length rows.now) × (n ≤ length values.now) }
     ensures defined { (o : Res Done) → Tells o number place n rows.now values.now
         → Gives text (told_of result) (export_of o labels.now label_bytes.now) }
-    ensures refused { IfErr result IsRefused }
+    ensures refused { (o : Res Done) → Tells o number place n rows.now values.now → IfErr result IsRefused }
 {
     let made = put_export(text, rows, values, n, number, place, labels, label_bytes);
     zero_from(text, 0, made.unwrap_or(0));

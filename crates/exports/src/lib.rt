@@ -62,14 +62,16 @@ fn said_export(
 {
     match exported_text(text, sheet, labels, label_bytes) {
         Ok(end) => Ok(end),
-        Err(ExportRefusal::Label(label)) => Err(bad_line(
-            text,
-            b"labels, line ",
-            (label + 1) as u32,
-            b": over 64 bytes, a byte that is not printable, or an id that does not ascend\n",
-        )),
-        Err(why) => Err(RefusalLine {
-            end: refusal(text, why.number(), why.place()),
+        Err(why) => Err(match why {
+            ExportRefusal::Label(label) => bad_line(
+                text,
+                b"labels, line ",
+                (label + 1) as u32,
+                b": over 64 bytes, a byte that is not printable, or an id that does not ascend\n",
+            ),
+            _ => RefusalLine {
+                end: refusal(text, why.number(), why.place()),
+            },
         }),
     }
 }
