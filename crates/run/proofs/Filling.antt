@@ -14,7 +14,7 @@ use Rattle.rules.specs.declared.Refusal.{Refusal}
 use Rattle.info.specs.Sound.{SoundFit}
 use Rattle.info.proofs.Elements.{objects_length}
 use Rattle.states.specs.Raised.{rows_of}
-use Rattle.run.specs.Listing.{lists_in, RoomsOf, RoomsLent, CountsOf, ListsHeld, ListedAs, RowsWithin}
+use Rattle.run.specs.Listing.{lists_in, RoomsOf, RoomsLent, CountsOf, ListsHeld, ListedAs}
 use Rattle.run.specs.declared.lists.ListCounts as lists
 use Rattle.run.specs.declared.lists.ListRooms as given
 use Rattle.values.proofs.Taken.{few_objects}

@@ -7,15 +7,6 @@ use Rattle.std.proofs.lemmas.Result.{err_from_is_err_and}
 use Rattle.run.specs.Filled.{columns}
 use Rattle.run.proofs.Filling.{lent, values_lent, sources_lent, not_listed, recorded, listed_as, filled_as}
 
-pub effect_places-of_effects-requires : goal.effect_places-of_effects-requires
-effect_places-of_effects-requires c = record { held_book = c.requires.sound_book.held }
-
-pub attribute_places-of_attributes-requires : goal.attribute_places-of_attributes-requires
-attribute_places-of_attributes-requires c = record { held_book = c.requires.sound_book.held }
-
-pub recording_of-requires : goal.recording_of-requires
-recording_of-requires c = record { a_header = c.requires.sound_fit.held.header }
-
 pub set_lists-requires : goal.set_lists-requires
 set_lists-requires c = record {
   sound_book = c.requires.sound_book;

@@ -7,19 +7,8 @@ use Rattle.std.proofs.lemmas.Result.{err_from_is_err_and}
 use Rattle.rules.specs.Sheet.{book_of, fit_of}
 use Rattle.run.proofs.Answers.{no_base_room, collecting, few, collection_refused, all_listed, all-within, rooms_by}
 
-pub returns-then-rooms-base : goal.returns-then-rooms-base
-returns-then-rooms-base c = record {
-  defined = λ q Q. no_base_room (book_of c.args.book.now c.args.pairs.now) (fit_of c.args.fit.now c.args.pairs.now) c.args.rooms q Q (omega (arith, c.if-rooms-base.true, c.base_total-base.ensures.defined));
-  within = tt;
-}
-
-pub collect-requires : goal.collect-requires
-collect-requires c = record {
-  inside = (c.requires.roomy.collected, c.requires.roomy.collected_values);
-  plain_inside = c.requires.roomy.plain;
-  sound_book = c.requires.sound_book;
-  sound_fit = c.requires.sound_fit;
-}
+pub returns-then-rooms-base-clause-defined : goal.returns-then-rooms-base-clause-defined
+returns-then-rooms-base-clause-defined c = λ q Q. no_base_room (book_of c.args.book.now c.args.pairs.now) (fit_of c.args.fit.now c.args.pairs.now) c.args.rooms q Q (omega (arith, c.if-rooms-base.true, c.base_total-base.ensures.defined))
 
 pub dispatch-requires : goal.dispatch-requires
 dispatch-requires c = record {
@@ -42,8 +31,8 @@ returns-in_err-dispatched c = let p = err_from_is_err_and c.from_residual-in_err
   within = rw p.1 tt;
 }
 
-pub returns : goal.returns
-returns c = record {
-  defined = λ q Q. all_listed c.args.book.now c.args.fit.now c.args.pairs.now c.requires.sound_fit c.args.rooms c.requires.roomy (Ok c.in_ok-counts.counts) c.collect.new.collected c.collect.new.collected_values c.collect.new.plain c.in_ok-counts.ensures.defined refl c.dispatch.new.rows c.dispatch.new.bases c.dispatch.new.entries c.dispatch.new.values (omega (arith, c.if-rooms-base.false, c.base_total-base.ensures.defined)) q Q (Ok c.in_ok-dispatched.dispatched) c.in_ok-dispatched.ensures.defined;
-  within = all-within c.args.book.now c.args.fit.now c.args.pairs.now c.requires.sound_fit c.args.rooms c.requires.roomy (Ok c.in_ok-counts.counts) c.collect.new.collected c.collect.new.collected_values c.collect.new.plain c.in_ok-counts.ensures.defined refl c.dispatch.new.rows c.dispatch.new.bases c.dispatch.new.entries c.dispatch.new.values (omega (arith, c.if-rooms-base.false, c.base_total-base.ensures.defined)) (rooms_by c.args.rooms) (record { collected = refl; rows = refl; entries = refl; plain = refl }) (Ok c.in_ok-dispatched.dispatched) c.in_ok-dispatched.ensures.defined;
-}
+pub returns-clause-defined : goal.returns-clause-defined
+returns-clause-defined c = λ q Q. all_listed c.args.book.now c.args.fit.now c.args.pairs.now c.requires.sound_fit c.args.rooms c.requires.roomy (Ok c.in_ok-counts.counts) c.collect.new.collected c.collect.new.collected_values c.collect.new.plain c.in_ok-counts.ensures.defined refl c.dispatch.new.rows c.dispatch.new.bases c.dispatch.new.entries c.dispatch.new.values (omega (arith, c.if-rooms-base.false, c.base_total-base.ensures.defined)) q Q (Ok c.in_ok-dispatched.dispatched) c.in_ok-dispatched.ensures.defined
+
+pub returns-clause-within : goal.returns-clause-within
+returns-clause-within c = all-within c.args.book.now c.args.fit.now c.args.pairs.now c.requires.sound_fit c.args.rooms c.requires.roomy (Ok c.in_ok-counts.counts) c.collect.new.collected c.collect.new.collected_values c.collect.new.plain c.in_ok-counts.ensures.defined refl c.dispatch.new.rows c.dispatch.new.bases c.dispatch.new.entries c.dispatch.new.values (omega (arith, c.if-rooms-base.false, c.base_total-base.ensures.defined)) (rooms_by c.args.rooms) (record { collected = refl; rows = refl; entries = refl; plain = refl }) (Ok c.in_ok-dispatched.dispatched) c.in_ok-dispatched.ensures.defined

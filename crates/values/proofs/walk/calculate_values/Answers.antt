@@ -8,12 +8,6 @@ use Rattle.memory.proofs.Holdings.{ready_on}
 use Rattle.values.specs.Complete.{ask_of}
 use Rattle.values.proofs.Startings.{left_by, both-valued, both-refused}
 
-pub asks-requires : goal.asks-requires
-asks-requires c = record {
-  holding = c.requires.holding.ready;
-  sound = c.requires.sound;
-}
-
 pub walk-requires : goal.walk-requires
 walk-requires c = let h = c.requires.holding in let f = fit_of c.args.fit.now c.args.columns.now.pairs.now in let l = left_by h.ready.world h.ready.sources₀ h.ready.floats₀ f.depth f.asks (map ask_of (walk_order f.objects h.ready.world.rows)) h.ready.mem c.in_ok-used.used c.asks.new.values c.asks.new.sources c.asks.new.floats (c.in_ok-used.ensures.defined h.ready) in record {
   holding = record { ready = ready_on h.ready l.mem l.holds; own = h.own };
