@@ -10,8 +10,8 @@ ghost use Rattle.checks.specs.Checked.{run, LaidIf};
 
 use super::verdict::{Verdict, verdict_of};
 use columns::{AttributeRow, EntryRow, States, TablePairs};
-use given::lines::LineRow;
 use given::first_bad;
+use given::lines::LineRow;
 use loops::loop_of;
 use memory::ReadColumns;
 use needs::NeedColumns;

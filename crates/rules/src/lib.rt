@@ -288,4 +288,3 @@ pub enum Refusal {
     Number(u32),
     Depth(u32),
 }
-

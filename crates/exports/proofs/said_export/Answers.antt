@@ -28,5 +28,5 @@ returns-in_default c =
     let e = c.in-Err.ensures.the_export in
     let r = c.in-Err.ensures.refused in
     let both = said_refused (outcome c.args.sheet.now rooms) c.args.labels.now c.args.label_bytes.now (length c.args.text.now) _ c.exported_text.new.text e.0 e.1 (not_zero c.in-Err.why r) (not_label c.in-Err.why r c.in_default.not-Label)
-        (λ y p q. c.refusal.ensures.the_line y (p ∙ sym c.number.ensures.defined) (q ∙ sym c.place.ensures.defined)) in
+    (λ y p q. c.refusal.ensures.the_line y (p ∙ sym c.number.ensures.defined) (q ∙ sym c.place.ensures.defined)) in
     record { says = both.0; inside = both.1 }

@@ -19,5 +19,5 @@ returns-in_err-counts-clause-defined c = let p = err_from_is_err_and c.from_resi
 
 pub returns-clause-defined : goal.returns-clause-defined
 returns-clause-defined c = λ w counts s₀ f₀ i row high op found g t b x k fit.
-      let copies = rw (sym t.recording, c.kept.ensures.defined) at (c.with_copies-q.ensures.defined g.values x k.positive k.negative) in
-      penalised_goes w counts s₀ f₀ i row high op found g (whole c.args.positives.now c.args.positive_sources.now c.args.negatives.now c.args.negative_sources.now c.args.p) _ _ _ _ k b.row c.args.e c.args.strength c.args.x _ (whole c.with_copies-q.new.positives c.with_copies-q.new.positive_sources c.with_copies-q.new.negatives c.with_copies-q.new.negative_sources c.with_copies-q.result) (c.in_ok-counts.ensures.defined w counts s₀ f₀ i row g.mem t b k.keeping fit) c.with_copies-q.ensures.kept.1 copies.0 copies.1
+    let copies = rw (sym t.recording, c.kept.ensures.defined) at (c.with_copies-q.ensures.defined g.values x k.positive k.negative) in
+    penalised_goes w counts s₀ f₀ i row high op found g (whole c.args.positives.now c.args.positive_sources.now c.args.negatives.now c.args.negative_sources.now c.args.p) _ _ _ _ k b.row c.args.e c.args.strength c.args.x _ (whole c.with_copies-q.new.positives c.with_copies-q.new.positive_sources c.with_copies-q.new.negatives c.with_copies-q.new.negative_sources c.with_copies-q.result) (c.in_ok-counts.ensures.defined w counts s₀ f₀ i row g.mem t b k.keeping fit) c.with_copies-q.ensures.kept.1 copies.0 copies.1

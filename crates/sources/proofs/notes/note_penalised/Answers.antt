@@ -11,15 +11,15 @@ returns-in_err-copied-clause-defined c = let p = err_from_is_err_and c.from_resi
 
 pub returns-then-quantity-le8-clause-defined : goal.returns-then-quantity-le8-clause-defined
 returns-then-quantity-le8-clause-defined c = λ w counts s₀ f₀ i row m t b k fit.
-      let went = rw c.to_source-one.ensures.defined at (c.in_ok-copied.ensures.defined w counts s₀ f₀ i row m t b k (λ e. omega (arith, fit e, c.kept-copies.ensures.defined))) in
-      no_rest w counts s₀ f₀ i row c.args.e c.args.strength m _ _ _ _ c.kept-copies.ensures.defined c.if-quantity-le8.true went
+    let went = rw c.to_source-one.ensures.defined at (c.in_ok-copied.ensures.defined w counts s₀ f₀ i row m t b k (λ e. omega (arith, fit e, c.kept-copies.ensures.defined))) in
+    no_rest w counts s₀ f₀ i row c.args.e c.args.strength m _ _ _ _ c.kept-copies.ensures.defined c.if-quantity-le8.true went
 
 pub note-requires : goal.note-requires
 note-requires c = record { roomy = (omega (arith, c.requires.roomy, c.note_copies.auto.sources), omega (arith, c.requires.roomy, c.note_copies.auto.floats), omega (arith, c.requires.roomy, c.in_ok-copied.ensures.advanced)) }
 
 pub returns-clause-defined : goal.returns-clause-defined
 returns-clause-defined c = λ w counts s₀ f₀ i row m t b k fit.
-      let went = rw c.to_source-one.ensures.defined at (c.in_ok-copied.ensures.defined w counts s₀ f₀ i row m t b k (λ e. omega (arith, fit e, c.kept-copies.ensures.defined))) in
-      let g = copied w counts s₀ f₀ i row c.args.e c.args.strength m _ _ _ _ c.kept-copies.ensures.defined went in
-      rest w counts s₀ f₀ i row c.args.e c.args.strength m _ _ _ _ c.kept-copies.ensures.defined went _ _ _ c.if-quantity-le8.false
-      (rw c.to_source-rest.ensures.defined at (c.note.ensures.defined w counts s₀ f₀ i row g.mem t b g.keeping (λ e. omega (arith, fit e, c.in_ok-copied.ensures.advanced, g.keeping.mine, k.mine, c.kept-copies.ensures.defined, c.if-quantity-le8.false, more_few c.args.run.recording c.kept-copies.result))))
+    let went = rw c.to_source-one.ensures.defined at (c.in_ok-copied.ensures.defined w counts s₀ f₀ i row m t b k (λ e. omega (arith, fit e, c.kept-copies.ensures.defined))) in
+    let g = copied w counts s₀ f₀ i row c.args.e c.args.strength m _ _ _ _ c.kept-copies.ensures.defined went in
+    rest w counts s₀ f₀ i row c.args.e c.args.strength m _ _ _ _ c.kept-copies.ensures.defined went _ _ _ c.if-quantity-le8.false
+    (rw c.to_source-rest.ensures.defined at (c.note.ensures.defined w counts s₀ f₀ i row g.mem t b g.keeping (λ e. omega (arith, fit e, c.in_ok-copied.ensures.advanced, g.keeping.mine, k.mine, c.kept-copies.ensures.defined, c.if-quantity-le8.false, more_few c.args.run.recording c.kept-copies.result))))
