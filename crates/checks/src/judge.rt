@@ -8,7 +8,7 @@ ghost use Rattle.settled.specs.Lines.{line_of};
 ghost use Rattle.checks.specs.Check.{checked_in};
 ghost use Rattle.checks.specs.Checked.{run, LaidIf};
 
-use super::verdict::{Verdict, verdict_of};
+use super::verdict::CheckRefusal;
 use columns::{AttributeRow, EntryRow, States, TablePairs};
 use given::first_bad;
 use given::lines::LineRow;
@@ -18,7 +18,7 @@ use needs::NeedColumns;
 use order::WorkRow;
 use reading::stretches::{set_limits, set_stretches};
 
-// The verdict; where the listing is accepted the value column has its values.
+// The verdict: where the listing is accepted the value column has its values.
 pub fn judged(
     values: &mut [f64],
     work: &mut [WorkRow],
@@ -32,7 +32,7 @@ pub fn judged(
     listing: &[LineRow],
     n: usize,
     recording: bool,
-) -> Verdict
+) -> Result<(), CheckRefusal>
     requires sound_book { SoundBook sheet.now pairs.now }
     requires sound_fit { SoundFit sheet.now pairs.now }
     requires listed { RowsListed (book_of sheet.now pairs.now) (fit_of sheet.now pairs.now) n (run recording)
@@ -54,23 +54,22 @@ pub fn judged(
         rows,
         entries,
     };
-    let looped = loop_of(work, needs);
-    match looped {
-        Some(object) => Verdict::Loop(object),
-        None => {
-            let columns = ReadColumns {
-                book: sheet,
-                pairs,
-                states,
-                stretches: &stretches,
-                limits: &limits,
-                rows,
-                bases: &bases[..n],
-                entries,
-                entry_values,
-            };
-            let bad = first_bad(&mut values[..n], &columns, listing, recording);
-            verdict_of(bad)
-        }
+    if let Some(object) = loop_of(work, needs) {
+        return Err(CheckRefusal::Loop(object));
     }
+    let columns = ReadColumns {
+        book: sheet,
+        pairs,
+        states,
+        stretches: &stretches,
+        limits: &limits,
+        rows,
+        bases: &bases[..n],
+        entries,
+        entry_values,
+    };
+    if let Some(line) = first_bad(&mut values[..n], &columns, listing, recording) {
+        return Err(CheckRefusal::Listing(line));
+    }
+    Ok(())
 }

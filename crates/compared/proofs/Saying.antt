@@ -1,4 +1,5 @@
 -- The line of a verdict: its pieces, and which line it is.
+use Rattle.std.specs.Prelude.{Ok, Err}
 use Prim.Native.Nat.{ℕ, ◌+◌, ◌*◌, ◌≤◌, ◌<◌}
 use native.Mathlib.Omega.{arith}
 use mathlib.Core.Path.{◌≡◌, refl, sym, ap, subst, ◌∙◌}
@@ -29,9 +30,8 @@ use Rattle.figures.specs.Figures.{fields}
 use Rattle.lines.specs.Lines.{Rows, figure_lines}
 use Rattle.said.specs.Said.{Says}
 use Rattle.text.specs.SheetText.{rooms}
-use Rattle.checks.specs.Check.{number_of, place_of, checked}
-use Rattle.checks.specs.declared.verdict.Verdict.{Verdict}
-use Rattle.checks.specs.declared.verdict.Verdict.TheVariants.{Accepted, Engine, Loop, Listing}
+use Rattle.checks.specs.Check.{number_of, place_of, checked, Verdict}
+use Rattle.checks.specs.declared.verdict.CheckRefusal.TheVariants.{Engine, Loop, Listing}
 use Rattle.compared.specs.CheckText.{lines_lent, check_lent, place_text, listed_text, row_text, run_text, loop_text, bad_row, verdict_text, with_lines, check_text}
 
 -- ---- what was lent
@@ -135,29 +135,29 @@ engine_below (refusal_is.Depth p) = omega arith
 
 module _ (b : List ℕ) (ls : List (List ℕ)) where
   pub is_accepted : (v : Verdict) {k : ℕ} → k ≡ number_of v → k ≡ 0 → ascii "accepted\n" ≡ verdict_text b ls v
-  is_accepted Accepted e z = refl
-  is_accepted (Engine x) e z = absurd (no_number x (sym e ∙ z))
-  is_accepted (Loop o) e z = absurd (omega (arith, e, z))
-  is_accepted (Listing i) e z = absurd (omega (arith, e, z))
+  is_accepted (Ok t) e z = refl
+  is_accepted (Err (Engine x)) e z = absurd (no_number x (sym e ∙ z))
+  is_accepted (Err (Loop o)) e z = absurd (omega (arith, e, z))
+  is_accepted (Err (Listing i)) e z = absurd (omega (arith, e, z))
 
   pub is_loop : (v : Verdict) {k p : ℕ} → k ≡ number_of v → p ≡ place_of v → k ≡ 10 → loop_text p ≡ verdict_text b ls v
-  is_loop Accepted e f z = absurd (omega (arith, e, z))
-  is_loop (Engine x) e f z = absurd (omega (arith, e, z, engine_below x))
-  is_loop (Loop o) e f z = ap loop_text f
-  is_loop (Listing i) e f z = absurd (omega (arith, e, z))
+  is_loop (Ok t) e f z = absurd (omega (arith, e, z))
+  is_loop (Err (Engine x)) e f z = absurd (omega (arith, e, z, engine_below x))
+  is_loop (Err (Loop o)) e f z = ap loop_text f
+  is_loop (Err (Listing i)) e f z = absurd (omega (arith, e, z))
 
   pub is-listing : (v : Verdict) {k p : ℕ} → k ≡ number_of v → p ≡ place_of v → k ≡ 15 → bad_row b ls p ≡ verdict_text b ls v
-  is-listing Accepted e f z = absurd (omega (arith, e, z))
-  is-listing (Engine x) e f z = absurd (omega (arith, e, z, engine_below x))
-  is-listing (Loop o) e f z = absurd (omega (arith, e, z))
-  is-listing (Listing i) e f z = ap (bad_row b ls) f
+  is-listing (Ok t) e f z = absurd (omega (arith, e, z))
+  is-listing (Err (Engine x)) e f z = absurd (omega (arith, e, z, engine_below x))
+  is-listing (Err (Loop o)) e f z = absurd (omega (arith, e, z))
+  is-listing (Err (Listing i)) e f z = ap (bad_row b ls) f
 
   pub is_engine : (v : Verdict) {k p : ℕ} {text : List ℕ} {end : ℕ} → k ≡ number_of v → p ≡ place_of v → (k ≡ 0 → ⊥) → (k ≡ 10 → ⊥) → (k ≡ 15 → ⊥)
       → ((x : Refusal) → number (Refused x) ≡ k → place (Refused x) ≡ p → Begins text end (listing (refused x))) → Begins text end (verdict_text b ls v)
-  is_engine Accepted e f z l r g = absurd (z e)
-  is_engine (Engine x) e f z l r g = g x (sym e) (sym f)
-  is_engine (Loop o) e f z l r g = absurd (l e)
-  is_engine (Listing i) e f z l r g = absurd (r e)
+  is_engine (Ok t) e f z l r g = absurd (z e)
+  is_engine (Err (Engine x)) e f z l r g = g x (sym e) (sym f)
+  is_engine (Err (Loop o)) e f z l r g = absurd (l e)
+  is_engine (Err (Listing i)) e f z l r g = absurd (r e)
 
 -- another name of what stands there
 pub begins_as : {text xs ys : List ℕ} {end : ℕ} → xs ≡ ys → Begins text end xs → Begins text end ys

@@ -13,7 +13,8 @@ ghost use Rattle.text.specs.SheetText.{rooms};
 ghost use Rattle.checks.specs.Check.{checked, number_of, place_of};
 ghost use Rattle.compared.specs.CheckText.{place_text, listed_text, run_text, loop_text, bad_row, check_lent, verdict_text, check_text};
 
-use checks::{Checked, dogma_check};
+use calculate::Outcome;
+use checks::dogma_check;
 use columns::{AttributeRow, ENTRY_WIDTH, OBJECTS, ROW_ATTRIBUTE, ROW_OBJECT, ROW_WIDTH};
 use figures::put_fields;
 use given::lines::{LINE_ATTRIBUTE, LINE_HIGH, LINE_LOW, LINE_OBJECT, LineRow};
@@ -36,7 +37,7 @@ const LOOP: u64 = 10;
 const LISTING: u64 = 15;
 
 // The verdict, with room for 4,096 in every list.
-fn judged(sheet: &[u8], listing: &[LineRow]) -> Checked
+fn judged(sheet: &[u8], listing: &[LineRow]) -> Outcome
     ensures number { result.number ≡ number_of (checked sheet.now check_lent (map line_of listing.now)) }
     ensures place { result.place ≡ place_of (checked sheet.now check_lent (map line_of listing.now)) }
 {
