@@ -58,7 +58,7 @@ fn other_of(w: Owner, m: DogmaModifier) -> Result<Option<u32>, Refusal>
 
 // The object that an own modifier's domain means.
 #[tactic(auto, unfolding(rules::specs::Collect::test_domain))]
-pub fn get_target_object(w: Owner, m: DogmaModifier) -> Result<Option<u32>, Refusal>
+fn get_target_object(w: Owner, m: DogmaModifier) -> Result<Option<u32>, Refusal>
     ensures defined { (f : Fit) → OwnerOf f w → test_of result ≡ test_own_domain f w.item m }
 {
     match m.domain {
