@@ -6,7 +6,7 @@ ghost use Rattle.rules.specs.Answer.{Refused};
 
 use rules::Refusal;
 
-// The number of a refusal.
+// The number of a refusal: no cast, since each holds a place.
 fn refusal_number(r: Refusal) -> u32
     ensures defined { result ≡ number (Refused r) }
 {
@@ -50,7 +50,7 @@ pub fn number_of(answer: Result<(), Refusal>) -> u32
     }
 }
 
-// The place that a caller gets beside it.
+// The place that a caller gets beside it; number and place are two words of the definition, so two functions.
 pub fn place_of(answer: Result<(), Refusal>) -> u32
     ensures defined { result ≡ place (answer_from answer) }
 {

@@ -105,7 +105,7 @@ fn answered(
     })
 }
 
-// Number, place, every list and every state, whatever the bytes, the lists and the listing: nothing is required.
+// Number, place, every list and every state, whatever the bytes, the lists and the listing: nothing is required. The columns are lent by C, one by one.
 pub fn dogma_check(
     states: &mut States,
     collected: &mut [CollectedRow],

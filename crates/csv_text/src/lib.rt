@@ -25,7 +25,7 @@ const LINE_BYTES: usize = 172;
 // The header record.
 const HEADER_BYTES: usize = 30;
 
-// The numbers of the refusals, and the place of a text that is longer than the bytes lent: list 8.
+// The numbers of the refusals, as C has them, and the place of a text that is longer than the bytes lent: list 8.
 const LABEL: u64 = 16;
 
 const ROOM: u64 = 7;

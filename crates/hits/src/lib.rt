@@ -62,7 +62,7 @@ const ANY: usize = 6;
 
 const GROUP: usize = 7;
 
-// The func codes that list 1 has of modifiers (`modifier_numbers`); LocationRequiredSkillModifier's is 0.
+// The func codes that list 1, which C reads, has of modifiers (`modifier_numbers`); LocationRequiredSkillModifier's is 0.
 const LOCATION_GROUP_MODIFIER: u32 = 1;
 
 const LOCATION_MODIFIER: u32 = 2;
@@ -163,7 +163,7 @@ fn skilled(s: Spans, target: u32, test: Test) -> Aim
     }
 }
 
-// The aim at drones, fighters and charges that require a skill.
+// The aim at drones, fighters and charges that require a skill. Not one function with `char_items`: each has its own word of the definition.
 fn owned(s: Spans, test: Test) -> Aim
     ensures defined { (k : Book) (f : Fit) → Stands f s → Aims (by_owner test k f) k f result }
 {

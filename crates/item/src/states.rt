@@ -15,7 +15,7 @@ pub fn state_code(state: ItemState) -> u32
     state as u32
 }
 
-// The lowest state that would do: what asks for none runs once the item is active.
+// The lowest state that would do: what asks for none runs once the item is active. An arm for each category, as the definition has it.
 pub fn lowest_state(category: EffectCategory) -> ItemState
     ensures defined { result ≡ lowest_state category }
 {

@@ -13,7 +13,7 @@ use figures::figures_text;
 use listing::refusal;
 use text::{ROWS, SHEET_BYTES, TEXT_BYTES, calculated, sheet_text};
 
-// SHAPE is refusal 1.
+// SHAPE is refusal 1 of `calculated`, whose numbers are C's.
 const SHAPE: u64 = 1;
 
 // The figures of what comes back of a run with room for 4,096 in every list.

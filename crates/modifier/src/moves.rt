@@ -17,7 +17,7 @@ type OriginNumbers = [u32; 6];
 
 type ModifierNumbers = [u32; 2];
 
-// The rooms of lists 1 and 4.
+// The rooms of lists 1 and 4: a type of its own, since a room is no count.
 #[derive(Clone, Copy)]
 pub struct CollectedRooms {
     pub collected: usize,

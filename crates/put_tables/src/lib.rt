@@ -47,7 +47,7 @@ pub fn put_book_file(bytes: &mut [u8], header: &BookNumbers, book: BookTables) -
     put_book(bytes, body, book)
 }
 
-// A fit's file: its header, then tables 6 to 10.
+// A fit's file: its header, then tables 6 to 10. Book and fit have no table in common, so the two stay two.
 pub fn put_fit_file(bytes: &mut [u8], header: &FitNumbers, fit: FitTables) -> usize
     requires ready { FitReady (fit_in fit []) }
     requires room { length (fit_file_of (fit_in fit header.now))

@@ -31,7 +31,7 @@ fn category_of(code: u32) -> EffectCategory
     }
 }
 
-// What the code of an operator stands for; no other number is met.
+// What the code of an operator stands for; no other number is met. The two codes are two words of the definition, so the functions stay two.
 pub fn operator_of(code: u32) -> EffectOperator
     ensures defined { (o : EffectOperator) → code ≡ operator_code o → result ≡ o }
 {
@@ -128,7 +128,7 @@ pub fn operators_in(entries: &[EntryRow], first: usize, end: usize) -> OperatorM
     marks
 }
 
-// Whether an operator takes the stacking penalty.
+// Whether an operator takes the stacking penalty: an arm for each, as the definition has it.
 pub fn has_penalty(operator: EffectOperator) -> bool
     ensures defined { result ≡ has_penalty operator }
 {

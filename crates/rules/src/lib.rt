@@ -24,7 +24,7 @@ pub const CATEGORY_FIGHTER: i32 = 87;
 // Ship, Charge, Skill, Implant, Subsystem and Structure (pass_2.rs).
 pub const EXEMPT_PENALTY_CATEGORY_IDS: [i32; 6] = [6, 8, 16, 20, 32, 65];
 
-// Kinds of objects.
+// Kinds of objects, and slots: numbers, since the definition's Item has those of the sheet, which SHAPE tests once a record is read (Shape.object_good).
 pub const SHIP: u32 = 0;
 
 pub const MODE: u32 = 1;
@@ -156,7 +156,7 @@ pub struct RunsAt {
     pub lowest: ItemState,
 }
 
-// A source row, one record by value with its two floats: a row of list 5. Its state is the lowest of its source that would do.
+// A source row, one record by value with its two floats, as document 01 has it (so a flag says whether there is a penalty): a row of list 5. Its state is the lowest of its source that would do.
 #[derive(Clone, Copy)]
 pub struct Source {
     pub from: SourceRef,

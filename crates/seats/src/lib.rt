@@ -93,7 +93,7 @@ fn seat_of(stretches: &PoolStretches, p: usize) -> Stretch
 
 // ---- 18 TABLE
 
-// Whether two pairs are the same stretch.
+// Whether two pairs are the same stretch, as the definition has it (same_pair).
 fn same_pair(s: PoolStretch, t: PoolStretch) -> bool
     ensures defined { result ≡ same_pair s t }
 {

@@ -57,7 +57,7 @@ fn effect_id_of(o: Origin) -> Option<i32>
     }
 }
 
-// The attribute that an entry is read off, which a buff has not.
+// The attribute that an entry is read off, which a buff has not; a function over both would take the field as a closure and be longer.
 fn source_attribute_id_of(o: Origin) -> Option<i32>
     ensures defined { result ≡ source_attribute_id_of o }
 {

@@ -30,7 +30,7 @@ pub const RULE_ID: usize = 1;
 
 pub const RULE_NUMBER: usize = 2;
 
-// The kinds of lines: points of a type, most pieces of a group, a forbidden group, the total.
+// The kinds of lines, as C lends them: points of a type, most pieces of a group, a forbidden group, the total.
 pub const RULE_POINTS: u32 = 0;
 
 pub const RULE_MOST: u32 = 1;
@@ -60,7 +60,7 @@ fn is_counted(c: Categories, o: Item) -> bool
     item & is_calculated(c, o)
 }
 
-// So many where the test passed, else none.
+// So many where the test passed, else none: `laws::step` of 64 bits, whose contract a number type as parameter would not say.
 fn many(passed: bool, n: u64) -> u64
     ensures defined { result ≡ cond passed n 0 }
     ensures at_most { result ≤ n }

@@ -21,7 +21,7 @@ pub const ROWS: usize = 4096;
 // Room for the longest text: a head and a line for each row, of 40 bytes at most.
 pub const TEXT_BYTES: usize = 163880;
 
-// SHAPE is refusal 1.
+// SHAPE is refusal 1 of `calculated`, whose numbers are C's.
 const SHAPE: u64 = 1;
 
 // A run with room for 4,096 in every list: its rows and their values, and what comes back.

@@ -27,7 +27,7 @@ use tallies::{
 // The most points of one piece.
 const MOST_POINTS: u32 = 65535;
 
-// The numbers of the refusals.
+// The numbers of the refusals, as C has them.
 const SHAPE: u64 = 1;
 
 const RULES: u64 = 11;

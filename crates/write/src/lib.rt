@@ -20,7 +20,7 @@ use put_tables::{put_book_file, put_fit_file, put_sheet};
 use shape::BadTable;
 use tables::{BookTables, FitTables};
 
-// The numbers of the refusals, and the place of a full sheet: list 6.
+// The numbers of the refusals, as C has them, and the place of a full sheet: list 6.
 const SHAPE: u64 = 1;
 
 const ROOM: u64 = 7;
