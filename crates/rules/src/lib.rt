@@ -156,7 +156,7 @@ pub struct RunsAt {
     pub lowest: ItemState,
 }
 
-// A source row, one record by value with its two floats, as document 01 has it (so a flag says whether there is a penalty): a row of list 5. Its state is the lowest of its source that would do.
+// A source row, a record by value with its two floats and a flag for the penalty, as 01 has it. Its state is the lowest of its source that would do.
 #[derive(Clone, Copy)]
 pub struct Source {
     pub from: SourceRef,
