@@ -65,6 +65,12 @@ listed_there ls i {n} {z} h e f =
     ∙ ap (fields (get_or (get_or ls i []) 0 0) (to_z w32 (get_or (get_or ls i []) 1 0))) f
     ∙ chosen (fields (get_or (get_or ls i []) 0 0) (to_z w32 (get_or (get_or ls i []) 1 0)) (get_or (get_or ls i []) 2 0 + 4294967296 * get_or (get_or ls i []) 3 0)) (ascii "no line") (lt-ltb i (length ls) h)
 
+pub listed_at : (ls : List (List ℕ)) (i : ℕ) {l : List ℕ} {n : ℕ} {z : ℤ} → i < length ls → l ≡ get_or ls i [] → z ≡ to_z w32 (get_or l 1 0)
+    → n ≡ get_or l 2 0 + 4294967296 * get_or l 3 0 → fields (get_or l 0 0) z n ≡ listed_text ls i
+listed_at ls i {l} {n} {z} h q e f =
+    ap (λ (k : List ℕ). fields (get_or k 0 0) z n) q
+    ∙ listed_there ls i h (e ∙ ap (λ (k : List ℕ). to_z w32 (get_or k 1 0)) q) (f ∙ ap (λ (k : List ℕ). get_or k 2 0 + 4294967296 * get_or k 3 0) q)
+
 pub listed_none : (ls : List (List ℕ)) (i : ℕ) → length ls ≤ i → ascii "no line" ≡ listed_text ls i
 listed_none ls i h =
     chosen (fields (get_or (get_or ls i []) 0 0) (to_z w32 (get_or (get_or ls i []) 1 0)) (get_or (get_or ls i []) 2 0 + 4294967296 * get_or (get_or ls i []) 3 0)) (ascii "no line") (le-ltb i (length ls) h)

@@ -19,7 +19,7 @@ use Rattle.rules.specs.Listing.{ascii, listing}
 use Rattle.rules.specs.Answer.{Refused}
 use Rattle.rules.specs.declared.Refusal.{Refusal}
 use Rattle.rules.specs.declared.Refusal.TheVariants as refusal_is
-use Rattle.rules.specs.Outcome.{Lent, Done, outcome}
+use Rattle.rules.specs.Outcome.{Done}
 use Rattle.listing.specs.Put.{Begins}
 use Rattle.listing.proofs.Told.{no_number}
 use Rattle.csv_text.specs.Csv.{csv}
@@ -29,7 +29,6 @@ use Rattle.csv_text.specs.declared.ExportRefusal.{ExportRefusal}
 use Rattle.csv_text.specs.declared.ExportRefusal.TheVariants as export_refusal
 use Rattle.lines.specs.Lines.{Rows, label_lines}
 use Rattle.said.specs.Said.{Says, answer, refusal, bad_line}
-use Rattle.text.specs.SheetText.{rooms}
 use Rattle.exports.specs.ExportText.{labels_lent, export_says, with_labels, export_text}
 
 -- ---- a text is no longer than the bytes lent

@@ -14,8 +14,8 @@ overflow_cast-line c = record { fits = omega (arith, bad_small (length c.figure_
 pub slice_bounds-lines-end : goal.slice_bounds-lines-end
 slice_bounds-lines-end c = omega (arith, rows_small (length c.figure_rows.new.out) c.in-Ok.is c.figure_rows.ensures.within, c.figure_rows.auto.out)
 
-pub slice_bounds-verdict_line-end-in-Rows : goal.slice_bounds-verdict_line-end-in-Rows
-slice_bounds-verdict_line-end-in-Rows c = sym (length-take-le _ c.figure_rows.new.out (rows_small (length c.figure_rows.new.out) c.in-Ok.is c.figure_rows.ensures.within))
+pub slice_bounds-verdict_line-end-in-Ok : goal.slice_bounds-verdict_line-end-in-Ok
+slice_bounds-verdict_line-end-in-Ok c = sym (length-take-le _ c.figure_rows.new.out (rows_small (length c.figure_rows.new.out) c.in-Ok.is c.figure_rows.ensures.within))
 
 pub returns-in-Err : goal.returns-in-Err
 returns-in-Err c = record {
