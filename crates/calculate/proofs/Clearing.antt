@@ -12,8 +12,8 @@ use Rattle.rules.specs.Answer.{Res, ok, refused, number, place}
 use Rattle.rules.specs.Columns.{Counts, collected_numbers, origin_value, rows_numbers, entry_numbers, plain_numbers, source_numbers, source_floats, collected_column, collected_value_column, row_column, base_column, value_column, entry_column, entry_value_column, plain_column, source_column, source_float_column, state_column}
 use Rattle.rules.specs.Outcome.{Done}
 use Rattle.rules.specs.declared.Refusal.{Refusal}
-use Rattle.rules.specs.declared.Answer.{Answer}
-use Rattle.rules.specs.declared.Answer.TheVariants as answer
+use Rattle.rules.specs.Answer.{Answer}
+use Rattle.rules.specs.Answer as answer
 use Rattle.clear.specs.Ends.{cleared}
 use Rattle.clear.specs.declared.KeptCounts as clear
 use Rattle.clear.proofs.Columned.{cleared_column, cleared-all, cleared_same}
@@ -22,8 +22,7 @@ use Rattle.promises.proofs.Ends.{numbers_length}
 use Rattle.run.specs.Filled.{Columns, lent_of, Filled, RanAs}
 use Rattle.calculate.specs.Given.{counts_given, answer_given, result_of}
 use Rattle.calculate.specs.declared.Outcome.{Outcome}
-use Rattle.run.specs.declared.Ran.{Ran}
-use Rattle.run.specs.declared.Ran.TheVariants as ran
+use Rattle.std.specs.Prelude.{Result, Ok, Err}
 
 -- ---- one column
 
@@ -105,7 +104,7 @@ module _ (w : Res Done) (c₀ c c' : Columns) (st st' : List (List ℕ)) (o : Ou
         by_source_floats = rw e (held source_floats (replicate 2 zero_f) (flat (λ x. x) d.sources) k.source_floats f.source_floats f.n_sources);
       }
 
-  not_done : (x : Refusal) → w ≡ refused x → Even c₀ c → Cleared (counts_given (ran.Refused x)) st c st' c' → Given (counts_given (ran.Refused x)) (answer.Refused x) o → MeetsFor w (lent_of c₀) (result_of o st' c')
+  not_done : (x : Refusal) → w ≡ refused x → Even c₀ c → Cleared (counts_given (Err x)) st c st' c' → Given (counts_given (Err x)) (answer.Refused x) o → MeetsFor w (lent_of c₀) (result_of o st' c')
   unfolding collected_column collected_value_column row_column base_column value_column entry_column entry_value_column plain_column source_column source_float_column state_column
   not_done x e t k g =
       record {
@@ -125,14 +124,14 @@ module _ (w : Res Done) (c₀ c c' : Columns) (st st' : List (List ℕ)) (o : Ou
         by_source_floats = rw e (emptied source_floats (replicate 2 zero_f) c₀.source_floats c.source_floats k.source_floats t.source_floats);
       }
 
-  by_both : (s : Res Done) (r : Ran) → w ≡ s → RanAs s r st c₀ c → Even c₀ c → Cleared (counts_given r) st c st' c' → Given (counts_given r) (answer_given r) o → MeetsFor w (lent_of c₀) (result_of o st' c')
-  by_both (ok d) (ran.Done n) e f t k g = done d n e f k g
-  by_both (ok d) (ran.Refused y) e f t k g = absurd f
-  by_both (refused x) (ran.Done n) e f t k g = absurd f
-  by_both (refused x) (ran.Refused y) e f t k g = not_done y (e ∙ ap refused (sym f)) t k g
+  by_both : (s : Res Done) (r : Result clear.KeptCounts Refusal) → w ≡ s → RanAs s r st c₀ c → Even c₀ c → Cleared (counts_given r) st c st' c' → Given (counts_given r) (answer_given r) o → MeetsFor w (lent_of c₀) (result_of o st' c')
+  by_both (ok d) (Ok n) e f t k g = done d n e f k g
+  by_both (ok d) (Err y) e f t k g = absurd f
+  by_both (refused x) (Ok n) e f t k g = absurd f
+  by_both (refused x) (Err y) e f t k g = not_done y (e ∙ ap refused (sym f)) t k g
 
   -- a run, cleared and given back
-  pub meets : (r : Ran) (n : clear.KeptCounts) (a : Answer) → n ≡ counts_given r → a ≡ answer_given r → RanAs w r st c₀ c → Even c₀ c → Cleared n st c st' c' → Given n a o → MeetsFor w (lent_of c₀) (result_of o st' c')
+  pub meets : (r : Result clear.KeptCounts Refusal) (n : clear.KeptCounts) (a : Answer) → n ≡ counts_given r → a ≡ answer_given r → RanAs w r st c₀ c → Even c₀ c → Cleared n st c st' c' → Given n a o → MeetsFor w (lent_of c₀) (result_of o st' c')
   meets r n a e h f t k g =
       by_both w r refl f t (subst (λ (x : clear.KeptCounts). Cleared x st c st' c') e k)
       (subst (λ (x : Answer). Given (counts_given r) x o) h (subst (λ (x : clear.KeptCounts). Given x a o) e g))

@@ -11,8 +11,7 @@ use Rattle.rules.specs.Shape.{bad_shape}
 use Rattle.rules.specs.Outcome.{Lent, Done, run, outcome, rooms_of}
 use Rattle.rules.specs.declared.Refusal.TheVariants.{Shape}
 use Rattle.info.specs.Sound.{SoundBook, SoundFit}
-use Rattle.shape.specs.Shaped.{shaped_of, SoundBy}
-use Rattle.shape.specs.declared.Shaped.{Shaped}
+use Rattle.shape.specs.Shaped.{Shaped, shaped_of, SoundBy}
 use Rattle.shape.proofs.Shapes.{sound_long, sound_book, sound_fit}
 use Rattle.promises.specs.Result.{MeetsFor, Meets}
 use Rattle.run.specs.Filled.{Columns, lent_of, decided}

@@ -1,22 +1,27 @@
 -- What a call gives back. Definitions only.
-use Rattle.std.specs.Prelude.{ℕ, List}
-use Rattle.rules.specs.declared.Answer.{Answer}
-use Rattle.rules.specs.declared.Answer.TheVariants as answer
+use Rattle.std.specs.Prelude.{ℕ, List, Ok, Err}
+use Rattle.std.specs.Prelude as code
+use Rattle.rules.specs.declared.Refusal.{Refusal}
+use Rattle.rules.specs.Answer.{Answer}
+use Rattle.rules.specs.Answer as answer
 use Rattle.clear.specs.declared.KeptCounts.{KeptCounts}
 use Rattle.promises.specs.Result.{Result}
 use Rattle.run.specs.Filled.{Columns}
-use Rattle.run.specs.declared.Ran.{Ran}
-use Rattle.run.specs.declared.Ran.TheVariants as ran
 use Rattle.calculate.specs.declared.Outcome.{Outcome}
 
 -- the counts to keep: none after a refusal
-abbrev pub counts_given : Ran → KeptCounts
-counts_given (ran.Done n) = n
-counts_given (ran.Refused y) = record { objects = 0; collected = 0; rows = 0; entries = 0; plain = 0; sources = 0 }
+abbrev pub counts_given : code.Result KeptCounts Refusal → KeptCounts
+counts_given (Ok n) = n
+counts_given (Err y) = record { objects = 0; collected = 0; rows = 0; entries = 0; plain = 0; sources = 0 }
 
-abbrev pub answer_given : Ran → Answer
-answer_given (ran.Done n) = answer.Done
-answer_given (ran.Refused y) = answer.Refused y
+-- what code holds as `Ok` or `Err`, as the definition has it
+abbrev pub answer_from : code.Result (Unit {0}) Refusal → Answer
+answer_from (Ok u) = answer.Done
+answer_from (Err y) = answer.Refused y
+
+abbrev pub answer_given : code.Result KeptCounts Refusal → Answer
+answer_given (Ok n) = answer.Done
+answer_given (Err y) = answer.Refused y
 
 -- what a call gives back, with the columns as they are then
 abbrev pub result_of : Outcome → List (List ℕ) → Columns → Result

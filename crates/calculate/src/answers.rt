@@ -1,11 +1,12 @@
 // Document 01's number and place of each answer.
 ghost use Rattle.std.specs.Prelude.{◌≡◌};
 ghost use Rattle.rules.specs.Answer.{number, place};
-ghost use Rattle.rules.specs.declared.Answer.TheVariants.{Refused};
+ghost use Rattle.calculate.specs.Given.{answer_from};
+ghost use Rattle.rules.specs.Answer.{Refused};
 
-use rules::{Answer, Refusal};
+use rules::Refusal;
 
-// The number of a refusal.
+// The number of a refusal: no cast, since each holds a place.
 fn refusal_number(r: Refusal) -> u32
     ensures defined { result ≡ number (Refused r) }
 {
@@ -27,34 +28,34 @@ fn refusal_place(r: Refusal) -> u32
     ensures defined { result ≡ place (Refused r) }
 {
     match r {
-        Refusal::Shape(p) => p,
-        Refusal::Func(p) => p,
-        Refusal::Domain(p) => p,
-        Refusal::Category(p) => p,
-        Refusal::Operation(p) => p,
-        Refusal::Other(p) => p,
-        Refusal::Room(p) => p,
-        Refusal::Number(p) => p,
-        Refusal::Depth(p) => p,
+        Refusal::Shape(p)
+        | Refusal::Func(p)
+        | Refusal::Domain(p)
+        | Refusal::Category(p)
+        | Refusal::Operation(p)
+        | Refusal::Other(p)
+        | Refusal::Room(p)
+        | Refusal::Number(p)
+        | Refusal::Depth(p) => p,
     }
 }
 
 // The number that a caller gets.
-pub fn number_of(a: Answer) -> u32
-    ensures defined { result ≡ number a }
+pub fn number_of(answer: Result<(), Refusal>) -> u32
+    ensures defined { result ≡ number (answer_from answer) }
 {
-    match a {
-        Answer::Done => 0,
-        Answer::Refused(r) => refusal_number(r),
+    match answer {
+        Ok(()) => 0,
+        Err(r) => refusal_number(r),
     }
 }
 
-// The place that a caller gets beside it.
-pub fn place_of(a: Answer) -> u32
-    ensures defined { result ≡ place a }
+// The place that a caller gets beside it; number and place are two words of the definition, so two functions.
+pub fn place_of(answer: Result<(), Refusal>) -> u32
+    ensures defined { result ≡ place (answer_from answer) }
 {
-    match a {
-        Answer::Done => 0,
-        Answer::Refused(r) => refusal_place(r),
+    match answer {
+        Ok(()) => 0,
+        Err(r) => refusal_place(r),
     }
 }

@@ -8,7 +8,7 @@ ghost use Rattle.rules.specs.Outcome.{rooms_of};
 ghost use Rattle.promises.specs.Result.{MeetsFor, Meets};
 ghost use Rattle.shape.specs.Shaped.{SoundBy};
 ghost use Rattle.run.specs.Filled.{lent_columns, lent_of, decided};
-ghost use Rattle.calculate.specs.Given.{counts_given, answer_given, result_of};
+ghost use Rattle.calculate.specs.Given.{counts_given, answer_from, answer_given, result_of};
 
 use answers::{number_of, place_of};
 use clear::{KeptCounts, clear};
@@ -16,10 +16,9 @@ use columns::{
     AttributeRow, CollectedRow, EntryRow, PlainRow, SourceFloats, SourceRow, States, TablePairs,
 };
 use info::header::pairs_of;
-use rules::Answer;
-use run::Ran;
+use rules::Refusal;
 use run::outcome::filled;
-use shape::{Shaped, shape};
+use shape::{BadTable, shape};
 
 // What comes back of a call: 01's number and place, and how many rows each list has.
 #[repr(C)]
@@ -35,12 +34,12 @@ pub struct Outcome {
 }
 
 // The counts to keep: none after a refusal.
-fn counts_of(ran: Ran) -> KeptCounts
+fn counts_of(ran: Result<KeptCounts, Refusal>) -> KeptCounts
     ensures defined { result ≡ counts_given ran }
 {
     match ran {
-        Ran::Done(n) => n,
-        Ran::Refused(_) => KeptCounts {
+        Ok(n) => n,
+        Err(_) => KeptCounts {
             objects: 0,
             collected: 0,
             rows: 0,
@@ -52,12 +51,12 @@ fn counts_of(ran: Ran) -> KeptCounts
 }
 
 // The answer without its counts.
-fn answer_of(ran: Ran) -> Answer
-    ensures defined { result ≡ answer_given ran }
+fn answer_of(ran: Result<KeptCounts, Refusal>) -> Result<(), Refusal>
+    ensures defined { answer_from result ≡ answer_given ran }
 {
     match ran {
-        Ran::Done(_) => Answer::Done,
-        Ran::Refused(y) => Answer::Refused(y),
+        Ok(_) => Ok(()),
+        Err(y) => Err(y),
     }
 }
 
@@ -66,18 +65,7 @@ fn pairs_lent(sheet: &[u8]) -> TablePairs
     ensures defined { 100 ≤ length sheet.now → result ≡ pairs_of sheet.now }
 {
     if sheet.len() < 100 {
-        return [
-            [0, 0],
-            [0, 0],
-            [0, 0],
-            [0, 0],
-            [0, 0],
-            [0, 0],
-            [0, 0],
-            [0, 0],
-            [0, 0],
-            [0, 0],
-        ];
+        return [[0; 2]; 10];
     }
     pairs_of(sheet)
 }
@@ -98,7 +86,7 @@ pub fn calculated(
     book: &[u8],
     fit: &[u8],
     pairs: &TablePairs,
-    verdict: Shaped,
+    verdict: Result<(), BadTable>,
 ) -> Outcome
     requires sound { SoundBy verdict book.now fit.now pairs.now }
     ensures defined { let lists = lent_columns collected collected_values rows bases values entries entry_values plain sources source_values in

@@ -3,12 +3,11 @@
 #![tactic(auto)]
 
 use info::little_endian::{index, u32_at};
-use program::{fill, put, put_number};
-use std::num::{wrapping_add_u64, wrapping_add_usize};
-use text::{TEXT_BYTES, sheet_text};
+use program::{fill, put};
+use text::{SHEET_BYTES, TEXT_BYTES, sheet_text};
 
 // The place of the next sheet, how many there were, and how many texts were as expected.
-#[derive(Clone, Copy)]
+#[derive(Clone, Copy, Default)]
 struct Tally {
     at: usize,
     texts: u64,
@@ -17,102 +16,55 @@ struct Tally {
 
 // The number at a place; 0 outside.
 fn number(input: &[u8], at: usize) -> usize {
-    if input.len() < 4 {
-        return 0;
-    }
-    if input.len() - 4 < at {
+    if input.len() < 4 || input.len() - 4 < at {
         return 0;
     }
     index(u32_at(input, at))
 }
 
-// Whether the first n bytes of a text are those expected.
-fn equal(text: &[u8; TEXT_BYTES], n: usize, expected: &[u8]) -> bool {
-    if TEXT_BYTES < n {
-        return false;
-    }
-    if expected.len() != n {
-        return false;
-    }
-    let mut i = 0;
-    while i < n {
-        let found = text[i];
-        let wanted = expected[i];
-        if found != wanted {
-            return false;
-        }
-        i += 1;
-    }
-    true
-}
-
-// The text of a sheet, as the program has it: of its first 65,536 bytes, and whether there are more.
-fn given(text: &mut [u8; TEXT_BYTES], sheet: &[u8]) -> usize {
-    let n = sheet.len().min(65536);
-    sheet_text(text, &sheet[..n], n < sheet.len())
-}
-
-// Whether the sheet at a place has the text behind it, which ends at another; what is cut off has not.
-fn right(input: &[u8], sheet: usize, expected: usize, end: usize) -> bool {
-    if expected < sheet {
-        return false;
-    }
-    if end < expected {
-        return false;
-    }
-    if input.len() < end {
-        return false;
-    }
+// Whether a sheet has the text that is expected, as the program has it: of its first 65,536 bytes, and whether there are more.
+fn has_text(sheet: &[u8], expected: &[u8]) -> bool {
     let mut text = [0u8; TEXT_BYTES];
-    let n = given(&mut text, &input[sheet..expected]);
-    equal(&text, n, &input[expected..end])
+    let read = sheet.len().min(SHEET_BYTES);
+    let n = sheet_text(&mut text, &sheet[..read], read < sheet.len());
+    &text[..n] == expected
 }
 
-// Says which sheet has another text.
-fn differs(rt: &HostRuntime, input: &[u8], name: usize, sheet: usize) {
-    if sheet < name {
-        return;
-    }
-    if input.len() < sheet {
-        return;
-    }
-    put(rt, &input[name..sheet]);
-    put(rt, b" has another text\n");
+// The bytes from one place up to another; none where they are cut off.
+fn part(input: &[u8], from: usize, to: usize) -> Option<&[u8]> {
+    input.get(..to)?.get(from..)
 }
 
-// One sheet more; behind one that is cut off there is none.
+// One sheet more, and where its text is another, says which it is; behind one that is cut off there is none.
 fn next(rt: &HostRuntime, input: &[u8], tally: Tally) -> Tally {
     let at = tally.at;
-    let name = wrapping_add_usize(at, 12);
-    let sheet = wrapping_add_usize(name, number(input, at));
-    let expected = wrapping_add_usize(sheet, number(input, wrapping_add_usize(at, 4)));
-    let end = wrapping_add_usize(expected, number(input, wrapping_add_usize(at, 8)));
-    let same = right(input, sheet, expected, end);
-    if !same {
-        differs(rt, input, name, sheet);
+    let name = at.wrapping_add(12);
+    let sheet = name.wrapping_add(number(input, at));
+    let expected = sheet.wrapping_add(number(input, at.wrapping_add(4)));
+    let end = expected.wrapping_add(number(input, at.wrapping_add(8)));
+    let same = match (part(input, sheet, expected), part(input, expected, end)) {
+        (Some(bytes), Some(text)) => has_text(bytes, text),
+        _ => false,
+    };
+    if !same && let Some(name) = part(input, name, sheet) {
+        put(rt, name);
+        put(rt, b" has another text\n");
     }
     Tally {
         at: if end < name { input.len() } else { end },
-        texts: wrapping_add_u64(tally.texts, 1),
-        same: wrapping_add_u64(tally.same, if same { 1 } else { 0 }),
+        texts: tally.texts.wrapping_add(1),
+        same: tally.same.wrapping_add(u64::from(same)),
     }
 }
 
 // Takes one sheet after the other. There are fewer than the turns.
 fn run(rt: &HostRuntime, input: &[u8]) -> Tally {
-    let mut tally = Tally {
-        at: 0,
-        texts: 0,
-        same: 0,
-    };
-    let mut turns = u32::MAX;
-    while 0 < turns {
-        let at = tally.at;
-        if input.len() <= at {
-            return tally;
+    let mut tally = Tally::default();
+    for _ in 0..u32::MAX {
+        if input.len() <= tally.at {
+            break;
         }
         tally = next(rt, input, tally);
-        turns -= 1;
     }
     tally
 }
@@ -120,9 +72,6 @@ fn run(rt: &HostRuntime, input: &[u8]) -> Tally {
 fn main(rt: HostRuntime) {
     let mut input = [0u8; 262144];
     let n = fill(&mut input, &mut rt.reader());
-    let tally = run(&rt, &input[..n]);
-    put_number(&rt, tally.same);
-    put(&rt, b" of ");
-    put_number(&rt, tally.texts);
-    put(&rt, b" texts are as expected\n");
+    let Tally { texts, same, .. } = run(&rt, &input[..n]);
+    let _ = println!(rt; "{same} of {texts} texts are as expected");
 }

@@ -5,6 +5,7 @@ ghost use Rattle.std.specs.Prelude.{◌≤◌, length};
 
 use compared::{LINE_BYTES, check_text};
 use program::{arg_count, complain, read_file, say};
+use said::RefusalLine;
 
 // The longest text of a listing that is read: 4,096 lines of 80 bytes.
 const LISTING_BYTES: usize = 327680;
@@ -14,26 +15,19 @@ fn say_check(rt: &HostRuntime, sheet: &[u8], listing: &[u8])
     requires short { length listing.now ≤ 327680 }
 {
     let mut line = [0u8; LINE_BYTES];
-    let said = check_text(&mut line, sheet, listing);
-    let end = said.end;
-    say(rt, &rt.stderr(), &line[..end], said.good);
+    match check_text(&mut line, sheet, listing) {
+        Ok(end) => say(rt, &rt.stderr(), &line[..end]),
+        Err(RefusalLine { end }) => complain(&rt.stderr(), &line[..end]),
+    }
 }
 
 // The listing read, and then the verdict.
 fn with_listing(rt: &HostRuntime, sheet: &[u8]) {
     let mut listing = [0u8; LISTING_BYTES];
-    let file = read_file(&mut listing, rt, &rt.stderr(), 2);
-    if file.failed {
+    let too_long = b"checker: the listing has more than 327,680 bytes\n";
+    let Some(n) = read_file(&mut listing, rt, &rt.stderr(), 2, too_long) else {
         return;
-    }
-    if file.more {
-        complain(
-            &rt.stderr(),
-            b"checker: the listing has more than 327,680 bytes\n",
-        );
-        return;
-    }
-    let n = file.bytes;
+    };
     say_check(rt, sheet, &listing[..n]);
 }
 
@@ -43,17 +37,9 @@ fn main(rt: HostRuntime) {
         return;
     }
     let mut sheet = [0u8; 65536];
-    let file = read_file(&mut sheet, &rt, &rt.stderr(), 1);
-    if file.failed {
+    let too_long = b"checker: the sheet has more than 65,536 bytes\n";
+    let Some(n) = read_file(&mut sheet, &rt, &rt.stderr(), 1, too_long) else {
         return;
-    }
-    if file.more {
-        complain(
-            &rt.stderr(),
-            b"checker: the sheet has more than 65,536 bytes\n",
-        );
-        return;
-    }
-    let n = file.bytes;
+    };
     with_listing(&rt, &sheet[..n]);
 }

@@ -1,17 +1,15 @@
 -- After dispatch the columns tell the world whose listing is judged, and what its rows need.
-use Prim.Native.Nat.{ℕ, ◌≤◌, ◌<◌, ◌^◌, zero-le}
-use native.Mathlib.Omega.{arith}
-use mathlib.Core.Path.{◌≡◌, refl, sym, ap, subst, ◌∙◌}
-use mathlib.Core.Bool.{Bool, true, false}
-use mathlib.Core.List.{List, [], ◌++◌, map}
-use mathlib.Core.Option.{Option, none, some}
-use lib.Dec.{eqb}
+use Prim.Native.Nat.{ℕ, ◌≤◌, zero-le}
+use mathlib.Core.Path.{◌≡◌, refl, sym, subst, ◌∙◌}
+use mathlib.Core.Bool.{Bool}
+use mathlib.Core.List.{List, []}
+use mathlib.Core.Option.{none}
 use lib.Ieee.{Float}
-use lib.ListN.{length, get_or, take, drop}
+use lib.ListN.{length, take}
 use lib.Seq.{length-take-le}
 use Rattle.rules.specs.Sheet.{Book, Fit, book_of, fit_of}
 use Rattle.rules.specs.Outcome.{rows_in, world_of}
-use Rattle.rules.specs.Value.{World, state_of}
+use Rattle.rules.specs.Value.{World}
 use Rattle.rules.specs.Fresh.{unrecorded}
 use Rattle.info.specs.Sound.{SoundBook, SoundFit}
 use Rattle.reading.specs.Held.{RowsHeld}
@@ -28,7 +26,7 @@ use Rattle.values.proofs.Running.{states_agree}
 use Rattle.values.proofs.Setting.{rows_wide, bases_wide}
 use Rattle.values.proofs.Sheets.{sound_rows}
 use Rattle.values.proofs.Told.{told_in}
-use Rattle.needs.specs.Telling.{TellsNeeds, KnowsNeeds}
+use Rattle.needs.specs.Telling.{KnowsNeeds}
 use Rattle.loops.specs.Loop.{loop_at}
 use Rattle.loops.proofs.Telling.{needs-told, need_tables_of}
 use Rattle.given.specs.Judging.{off, Awaits}

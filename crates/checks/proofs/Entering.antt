@@ -11,9 +11,9 @@ use lib.Ieee.{Float, nan}
 use lib.ListN.{length, get_or, drop, length-map}
 use Rattle.laws.specs.Columns.{Col}
 use Rattle.laws.specs.Floats.{zero_f}
-use Rattle.rules.specs.Answer.{Res, ok, refused}
+use Rattle.rules.specs.Answer.{Res, ok}
 use Rattle.rules.specs.Bytes.{pairs_of, count_of}
-use Rattle.rules.specs.Outcome.{Lent, Rooms, Done, counted, rows_in, world_of}
+use Rattle.rules.specs.Outcome.{Lent, Rooms, counted, world_of}
 use Rattle.rules.specs.Shape.{bad_shape}
 use Rattle.rules.specs.Sheet.{Book, Fit, book_of, fit_of}
 use Rattle.rules.specs.States.{states_of}
@@ -22,30 +22,25 @@ use Rattle.rules.specs.declared.Refusal.{Refusal}
 use Rattle.rules.specs.declared.Refusal.TheVariants.{Shape}
 use Rattle.info.specs.Sound.{SoundBook, SoundFit}
 use Rattle.info.proofs.Elements.{objects_length}
-use Rattle.shape.specs.Shaped.{shaped_of}
-use Rattle.shape.specs.declared.Shaped.{Shaped}
-use Rattle.shape.specs.declared.Shaped.TheVariants.{Sound, Bad}
+use Rattle.std.specs.Prelude.{Ok, Err, Result}
+use Rattle.shape.specs.Shaped.{Shaped, shaped_of}
+use Rattle.shape.specs.declared.BadTable.{BadTable}
 use Rattle.shape.proofs.Shapes.{bad_said, sound_said, sound_long, sound_book, sound_fit}
 use Rattle.states.specs.Raised.{rows_of}
 use Rattle.values.specs.Setting.{RowsListed}
 use Rattle.values.proofs.Taken.{few_objects}
-use Rattle.clear.specs.declared.KeptCounts.{KeptCounts}
 use Rattle.run.specs.Filled.{Columns, lent_of, Filled}
 use Rattle.run.specs.Listing.{lists_in, RoomsOf, RoomsLent, CountsOf, ListsHeld, ListedAs, RowsWithin}
 use Rattle.run.specs.declared.lists.ListRooms.{ListRooms}
 use Rattle.run.specs.declared.lists.ListCounts.{ListCounts}
-use Rattle.run.specs.declared.lists.Listed.{Listed}
-use Rattle.run.specs.declared.lists.Listed.TheVariants as listed
 use Rattle.promises.specs.NoMemory.{book_in, fit_in}
 use Rattle.settled.specs.Given as settled
-use Rattle.settled.specs.Lines.{Line, line_of, value_in, values_of, first_bad}
+use Rattle.settled.specs.Lines.{Line, line_of, value_in, values_of}
 use Rattle.settled.proofs.Listings.{not_bad_accepted}
 use Rattle.given.specs.Judging.{shown_in}
-use Rattle.checks.specs.Check.{checked_in, checked_after, checked_for, checked, check_rooms, listed_done}
-use Rattle.checks.specs.Checked.{run, LaidIf, no_counts, counts_by, checked_by, refused_by, LeftBy}
-use Rattle.checks.specs.declared.Checked.{Checked}
-use Rattle.checks.specs.declared.verdict.Verdict.{Verdict}
-use Rattle.checks.specs.declared.verdict.Verdict.TheVariants.{Accepted, Engine, Loop, Listing}
+use Rattle.checks.specs.Check.{checked_in, checked_after, checked_for, checked, check_rooms, listed_done, Verdict}
+use Rattle.checks.specs.Checked.{run, counts_of}
+use Rattle.checks.specs.declared.verdict.CheckRefusal.TheVariants.{Engine}
 use Rattle.checks.proofs.Promises.{is_accepted}
 
 -- ---- rooms
@@ -96,9 +91,9 @@ module _ (c : Columns) (work : ℕ) (s : ListRooms) (m : RoomsOf (check_rooms (l
       }
 
   -- values and scratch have an element for each row
-  pub rows_lent_lem : {l : Listed} {n : ListCounts} → l ≡ listed.Done n → RowsWithin s.rows l → (n.rows ≤ length c.values) × ((n.rows ≤ work) × (n.rows < 2 ^ 32))
+  pub rows_lent_lem : {l : Result ListCounts Refusal} {n : ListCounts} → l ≡ Ok n → RowsWithin s.rows l → (n.rows ≤ length c.values) × ((n.rows ≤ work) × (n.rows < 2 ^ 32))
   rows_lent_lem {n = n} e h =
-      let few : n.rows ≤ s.rows = subst (λ (l : Listed). RowsWithin s.rows l) e h in
+      let few : n.rows ≤ s.rows = subst (λ (l : Result ListCounts Refusal). RowsWithin s.rows l) e h in
       let both : s.rows ≤ min (length c.values) work = least_right (length c.bases) _ s.rows rest in (
         omega (arith, few, least_left (length c.values) work s.rows both),
         (omega (arith, few, least_right (length c.values) work s.rows both), omega (arith, few, few_of _ s.rows m.rows)),
@@ -107,12 +102,12 @@ module _ (c : Columns) (work : ℕ) (s : ListRooms) (m : RoomsOf (check_rooms (l
 -- ---- SHAPE
 
 module _ (b : List ℕ) {v : Shaped} (shape : v ≡ shaped_of (bad_shape b)) where
-  pub bad_shape_lem : (q : Rooms) (ls : List Line) {t : ℕ} → v ≡ Bad t → Engine (Shape t) ≡ checked b q ls
+  pub bad_shape_lem : (q : Rooms) (ls : List Line) {x : BadTable} → v ≡ Err x → Err (Engine (Shape x.table)) ≡ checked b q ls
   unfolding checked
   bad_shape_lem q ls h =
-      sym (ap (λ (o : Option ℕ). elim o [ some u ↦ Engine (Shape u) | none ↦ checked_for (book_of b (pairs_of b)) (fit_of b (pairs_of b)) q ls ]) (bad_said (bad_shape b) (sym h ∙ shape)))
+      sym (ap (λ (o : Option ℕ). elim o [ some u ↦ Err (Engine (Shape u)) | none ↦ checked_for (book_of b (pairs_of b)) (fit_of b (pairs_of b)) q ls ]) (bad_said (bad_shape b) (sym h ∙ shape)))
 
-  module _ (good : v ≡ Sound) where
+  module _ (good : v ≡ Ok tt) where
     pub long_enough : 100 ≤ length b
     long_enough = sound_long b (sym good ∙ shape)
 
@@ -128,7 +123,7 @@ module _ (b : List ℕ) {v : Shaped} (shape : v ≡ shaped_of (bad_shape b)) whe
       unfolding checked
       checked_sound q ls =
           ap (λ (x : List (List ℕ)). checked_for (book_of b x) (fit_of b x) q ls) read
-          ∙ sym (ap (λ (o : Option ℕ). elim o [ some u ↦ Engine (Shape u) | none ↦ checked_for (book_of b (pairs_of b)) (fit_of b (pairs_of b)) q ls ]) (sound_said (bad_shape b) (sym good ∙ shape)))
+          ∙ sym (ap (λ (o : Option ℕ). elim o [ some u ↦ Err (Engine (Shape u)) | none ↦ checked_for (book_of b (pairs_of b)) (fit_of b (pairs_of b)) q ls ]) (sound_said (bad_shape b) (sym good ∙ shape)))
 
 -- ---- what stands in the columns of an accepted listing
 
@@ -160,8 +155,8 @@ module _ (w : World) (ls : List (List ℕ)) (a : settled.Accepted w (values_of (
 
 -- ---- the lists, then the verdict
 
-module _ (b : List ℕ) {shaped : Shaped} (shape : shaped ≡ shaped_of (bad_shape b)) (good : shaped ≡ Sound) {p : List (List ℕ)} (read : p ≡ pairs_of b) (c₀ c : Columns) (work : ℕ) (s : ListRooms)
-    (m : RoomsOf (check_rooms (lent_of c₀) work) s) (st : List (List ℕ)) (l : Listed) where
+module _ (b : List ℕ) {shaped : Shaped} (shape : shaped ≡ shaped_of (bad_shape b)) (good : shaped ≡ Ok tt) {p : List (List ℕ)} (read : p ≡ pairs_of b) (c₀ c : Columns) (work : ℕ) (s : ListRooms)
+    (m : RoomsOf (check_rooms (lent_of c₀) work) s) (st : List (List ℕ)) (l : Result ListCounts Refusal) where
   abbrev k : Book
   k = book_of b p
 
@@ -171,15 +166,15 @@ module _ (b : List ℕ) {shaped : Shaped} (shape : shaped ≡ shaped_of (bad_sha
   abbrev rooms : Rooms
   rooms = check_rooms (lent_of c₀) work
 
-  abbrev Lists : Listed → Type 0
+  abbrev Lists : Result ListCounts Refusal → Type 0
   Lists x = (q : Rooms) → RoomsOf q s → ListedAs (lists_in (book_of b p) (fit_of b p) q) x (book_of b p) (fit_of b p) c₀.collected c.collected c₀.collected_values c.collected_values c₀.rows c.rows c₀.bases c.bases c₀.entries c.entries c₀.entry_values c.entry_values c₀.plain c.plain
 
   -- a list is full, or collection is refused
-  pub lists_refused : (ls : List Line) {x : Refusal} → l ≡ listed.Refused x → Lists l → Engine x ≡ checked b (check_rooms (lent_of c₀) work) ls
+  pub lists_refused : (ls : List Line) {x : Refusal} → l ≡ Err x → Lists l → Err (Engine x) ≡ checked b (check_rooms (lent_of c₀) work) ls
   lists_refused ls e h =
       sym (ap (λ (r : Res Unit). checked_after r (world_of k f 0) ls) (subst Lists e h rooms m)) ∙ checked_sound b shape good read rooms ls
 
-  module _ {n : ListCounts} (e : l ≡ listed.Done n) (h : Lists l) (S : st ≡ rows_of (book_of b p) (fit_of b p)) where
+  module _ {n : ListCounts} (e : l ≡ Ok n) (h : Lists l) (S : st ≡ rows_of (book_of b p) (fit_of b p)) where
     abbrev by_lists : (lists_in (book_of b p) (fit_of b p) (check_rooms (lent_of c₀) work) ≡ ok tt) × CountsOf n (book_of b p) (fit_of b p) × ListsHeld (book_of b p) (fit_of b p) c₀.collected c.collected c₀.collected_values c.collected_values c₀.rows c.rows c₀.bases c.bases c₀.entries c.entries c₀.entry_values c.entry_values c₀.plain c.plain
     by_lists = subst Lists e h rooms m
 
@@ -201,8 +196,8 @@ module _ (b : List ℕ) {shaped : Shaped} (shape : shaped ≡ shaped_of (bad_sha
     verdict_checked v ls g = g ∙ sym (ap (λ (r : Res Unit). checked_after r (world_of k f 0) ls) by_lists.0) ∙ checked_sound b shape good read rooms ls
 
     module _ (objects : ℕ) (O : objects ≡ count_of p 6) (ls : List (List ℕ)) where
-      filled : checked_in (world_of k f 0) (map line_of ls) ≡ Accepted → length ls ≡ n.rows → Col shown_in ls c₀.values c.values → c.sources ≡ [] → c₀.sources ≡ [] → c.source_floats ≡ [] → c₀.source_floats ≡ []
-          → Filled (listed_done k f (map line_of ls)) (counts_by Accepted n objects) st c₀ c
+      filled : checked_in (world_of k f 0) (map line_of ls) ≡ Ok tt → length ls ≡ n.rows → Col shown_in ls c₀.values c.values → c.sources ≡ [] → c₀.sources ≡ [] → c.source_floats ≡ [] → c₀.source_floats ≡ []
+          → Filled (listed_done k f (map line_of ls)) (counts_of n objects) st c₀ c
       unfolding world_of
       filled g long laid s₁ s₀ t₁ t₀ =
           let a = not_bad_accepted (world_of k f 0) (map line_of ls) (is_accepted (world_of k f 0) (map line_of ls) g).1 in
@@ -230,28 +225,8 @@ module _ (b : List ℕ) {shaped : Shaped} (shape : shaped ≡ shaped_of (bad_sha
             source_floats = rw (t₁, t₀) (record { is = refl; long = refl });
           }
 
-      -- what is left, by the verdict
-      pub left_by : (v : Verdict) → v ≡ checked_in (world_of (book_of b p) (fit_of b p) 0) (map line_of ls) → LaidIf v n.rows ls c₀.values c.values
-          → c.sources ≡ [] → c₀.sources ≡ [] → c.source_floats ≡ [] → c₀.source_floats ≡ [] → LeftBy v (counts_by v n objects) (listed_done (book_in b) (fit_in b) (map line_of ls)) st c₀ c
-      left_by Accepted g laid s₁ s₀ t₁ t₀ =
-          subst (λ (x : List (List ℕ)). Filled (listed_done (book_of b x) (fit_of b x) (map line_of ls)) (counts_by Accepted n objects) st c₀ c) read (filled (sym g) laid.0 laid.1 s₁ s₀ t₁ t₀)
-      left_by (Engine x) g laid s₁ s₀ t₁ t₀ = refl
-      left_by (Loop o) g laid s₁ s₀ t₁ t₀ = refl
-      left_by (Listing i) g laid s₁ s₀ t₁ t₀ = refl
-
--- ---- verdict and counts
-
-pub refused-is : (x : Refusal) {k : KeptCounts} → k ≡ no_counts → ◌≡◌ {A = Checked} (record { verdict = Engine x; counts = k }) (refused_by x)
-refused-is x e = rw e refl
-
-pub counted_is : (v : Verdict) (n : ListCounts) (objects : ℕ) (k : KeptCounts) → k ≡ counts_by v n objects → ◌≡◌ {A = Checked} (record { verdict = v; counts = k }) (checked_by v n objects)
-counted_is v n objects k e = rw e refl
-
--- ---- the whole answer r
-
-module _ {w : Verdict} (d : Done) (st : List (List ℕ)) (c₀ c : Columns) (r : Checked) where
-  pub refused-whole : {x : Refusal} → r ≡ refused_by x → Engine x ≡ w → (r.verdict ≡ w) × LeftBy r.verdict r.counts d st c₀ c
-  refused-whole e h = (ap (λ (y : Checked). y.verdict) e ∙ h, subst (λ (y : Checked). LeftBy y.verdict y.counts d st c₀ c) (sym e) refl)
-
-  pub judged-whole : (v : Verdict) (n : ListCounts) (objects : ℕ) → r ≡ checked_by v n objects → v ≡ w → LeftBy v (counts_by v n objects) d st c₀ c → (r.verdict ≡ w) × LeftBy r.verdict r.counts d st c₀ c
-  judged-whole v n objects e h k = (ap (λ (y : Checked). y.verdict) e ∙ h, subst (λ (y : Checked). LeftBy y.verdict y.counts d st c₀ c) (sym e) k)
+      -- what an accepted listing leaves
+      pub left_by : Ok tt ≡ checked_in (world_of (book_of b p) (fit_of b p) 0) (map line_of ls) → (length ls ≡ n.rows) × Col shown_in ls c₀.values c.values
+          → c.sources ≡ [] → c₀.sources ≡ [] → c.source_floats ≡ [] → c₀.source_floats ≡ [] → Filled (listed_done (book_in b) (fit_in b) (map line_of ls)) (counts_of n objects) st c₀ c
+      left_by g laid s₁ s₀ t₁ t₀ =
+          subst (λ (x : List (List ℕ)). Filled (listed_done (book_of b x) (fit_of b x) (map line_of ls)) (counts_of n objects) st c₀ c) read (filled (sym g) laid.0 laid.1 s₁ s₀ t₁ t₀)

@@ -1,4 +1,5 @@
 -- Marked examples of M-111, by computing the definition: case L of 01, a sheet with a loop, an idle entry whose strength is no number, -0.0.
+use Rattle.std.specs.Prelude.{Ok}
 use Prim.Native.Nat.{ℕ}
 use native.Mathlib.Omega.{arith}
 use mathlib.Core.Path.{◌≡◌, refl}
@@ -16,7 +17,6 @@ use Rattle.settled.specs.Lines.{Line, values_of}
 use Rattle.settled.proofs.TendsReads.{Tended, done, wanting, DepthOrRoom, depth, room, at_any, accepted_tends}
 use Rattle.checks.specs.Check.{number_of, place_of, checked}
 use Rattle.checks.specs.Promised.{world_at}
-use Rattle.checks.specs.declared.verdict.Verdict.TheVariants.{Accepted}
 use Rattle.checks.proofs.All.{all}
 use Rattle.checks.proofs.Promises.{accepted_free, accepted_right}
 use Rattle.checks.proofs.Results.{Came, came, not_engine, sound_there}
@@ -108,12 +108,12 @@ checks =
     }
 
 -- where the product is recorded no listing is accepted: a run comes to a step that is no number, and only DEPTH and ROOM would be excused
-module _ (q : Rooms) (ls : List Line) (e : checked (product 1) q ls ≡ Accepted) where
+module _ (q : Rooms) (ls : List Line) (e : checked (product 1) q ls ≡ Ok tt) where
   abbrev b : List ℕ
   b = product 1
 
-  comes : Came b q ls Accepted
-  comes = came b q ls Accepted e (λ x h. not_engine Accepted x refl h)
+  comes : Came b q ls (Ok tt)
+  comes = came b q ls (Ok tt) e (λ x h. not_engine (Ok tt) x refl h)
 
   sound : Sound (fit_in b)
   sound = sound_there b comes.dispatched.shape

@@ -1,38 +1,39 @@
 -- The verdict by its parts: LOOP, or the first bad line, or none.
+use Rattle.std.specs.Prelude.{Ok, Err}
 use Prim.Native.Nat.{ℕ, ◌≤◌}
 use native.Mathlib.Omega.{arith}
-use mathlib.Core.Path.{◌≡◌, refl, sym, ap, ◌∙◌}
+use mathlib.Core.Path.{◌≡◌, sym, ap, ◌∙◌}
 use mathlib.Core.List.{List, ◌++◌, map}
 use mathlib.Core.Option.{Option, none, some}
 use lib.Ieee.{Float}
 use lib.ListN.{length, drop, length-map}
 use Rattle.laws.proofs.Laid.{laid-length}
 use Rattle.rules.specs.Value.{World}
-use Rattle.reading.specs.Held.{placed}
-use Rattle.reading.specs.declared.rows.Found.{Found}
-use Rattle.reading.specs.declared.rows.Found.TheVariants.{At, Nothing}
 use Rattle.settled.specs.Lines.{Line, first_bad}
 use Rattle.loops.specs.Loop.{loop_at}
-use Rattle.given.specs.Judging.{shown_in, LaidUnless}
-use Rattle.checks.specs.Check.{checked_in}
-use Rattle.checks.specs.Checked.{verdict_by, LaidIf}
-use Rattle.checks.specs.declared.verdict.Verdict.{Verdict}
-use Rattle.checks.specs.declared.verdict.Verdict.TheVariants.{Accepted, Loop, Listing}
+use Rattle.given.specs.Judging.{shown_in}
+use Rattle.checks.specs.Check.{checked_in, Verdict}
+use Rattle.laws.specs.Columns.{Col}
+use Rattle.checks.specs.declared.verdict.CheckRefusal.TheVariants.{Loop, Listing}
 
 module _ (w : World) (ls : List Line) where
-  pub looped : (o : ℕ) → some o ≡ loop_at w → Loop o ≡ checked_in w ls
-  unfolding checked_in
-  looped o e = ap (λ (x : Option ℕ). elim x [ some p ↦ Loop p | none ↦ elim (first_bad w ls) [ some i ↦ Listing i | none ↦ Accepted ] ]) e
+  abbrev by_line : Option ℕ → Verdict
+  by_line b = elim b [ some i ↦ Err (Listing i) | none ↦ Ok tt ]
 
-  pub by_lines : none ≡ loop_at w → (b : Found) → placed b ≡ first_bad w ls → verdict_by b ≡ checked_in w ls
+  abbrev by_loop : Option ℕ → Verdict
+  by_loop x = elim x [ some o ↦ Err (Loop o) | none ↦ by_line (first_bad w ls) ]
+
+  pub looped : (o : ℕ) → some o ≡ loop_at w → Err (Loop o) ≡ checked_in w ls
   unfolding checked_in
-  by_lines e (At i) q = ap (λ (x : Option ℕ). elim x [ some j ↦ Listing j | none ↦ Accepted ]) q ∙ ap (λ (x : Option ℕ). elim x [ some p ↦ Loop p | none ↦ elim (first_bad w ls) [ some j ↦ Listing j | none ↦ Accepted ] ]) e
-  by_lines e Nothing q = ap (λ (x : Option ℕ). elim x [ some j ↦ Listing j | none ↦ Accepted ]) q ∙ ap (λ (x : Option ℕ). elim x [ some p ↦ Loop p | none ↦ elim (first_bad w ls) [ some j ↦ Listing j | none ↦ Accepted ] ]) e
+  looped o e = ap by_loop e
+
+  pub by_lines : none ≡ loop_at w → (b : Option ℕ) → b ≡ first_bad w ls → by_line b ≡ checked_in w ls
+  unfolding checked_in
+  by_lines e b q = ap by_line q ∙ ap by_loop e
 
 -- where no line is bad the column is laid
-pub is-laid : (b : Found) (n : ℕ) (ls : List (List ℕ)) (v u v' : List Float) → n ≤ length v → length u ≡ n → LaidUnless b ls u → v' ≡ u ++ drop n v → LaidIf (verdict_by b) n ls v v'
-is-laid (At i) n ls v u v' l s k e = tt
-is-laid Nothing n ls v u v' l s k e = (lines, record { is = whole; long = ap length whole ∙ laid-length shown_in ls v (omega (arith, l, lines)) })
+pub is-laid : (n : ℕ) (ls : List (List ℕ)) (v u v' : List Float) → n ≤ length v → length u ≡ n → u ≡ map shown_in ls → v' ≡ u ++ drop n v → (length ls ≡ n) × Col shown_in ls v v'
+is-laid n ls v u v' l s k e = (lines, record { is = whole; long = ap length whole ∙ laid-length shown_in ls v (omega (arith, l, lines)) })
   where
     lines : length ls ≡ n
     lines = sym (length-map ls shown_in) ∙ ap length (sym k) ∙ s

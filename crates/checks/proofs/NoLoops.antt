@@ -12,7 +12,7 @@ use Rattle.laws.specs.Lists.{some?, put, keep, flat, first, from, or_else}
 use Rattle.laws.proofs.Bools.{both_ways}
 use Rattle.rules.specs.Dispatch.{Row, Key, same_key}
 use Rattle.rules.specs.Value.{World, Found, find_row}
-use Rattle.rules.specs.Fresh.{needs_of, needs_at, LeadsBack, Leads, last, next}
+use Rattle.rules.specs.Fresh.{needs_of, needs_at, LeadsBack, last, next}
 use Rattle.promises.specs.NoMemory.{no_row, key_of, key_at, Needs, NoLoop}
 use Rattle.promises.proofs.Ranks.{found_at}
 use Rattle.loops.specs.Loop.{backs, loop_among, loop_at}

@@ -1,10 +1,10 @@
 -- M-111's promises: LOOP exactly where there is a loop; an accepted listing is that of every run, there is only one, and what our engine writes is accepted.
+use Rattle.std.specs.Prelude.{Ok, Err}
 use Prim.Native.Nat.{ℕ, ◌<◌}
 use native.Mathlib.Omega.{arith}
-use mathlib.Core.Path.{◌≡◌, refl, sym, ap, ◌∙◌}
+use mathlib.Core.Path.{◌≡◌, refl, ap, ◌∙◌}
 use mathlib.Core.List.{List, map}
 use mathlib.Core.Option.{Option, none, some}
-use lib.Ieee.{Float}
 use lib.ListN.{length, get_or}
 use Rattle.rules.specs.Answer.{ok}
 use Rattle.rules.specs.Outcome.{Rooms, Done, collected_in, rows_in, world_of, run}
@@ -15,19 +15,18 @@ use Rattle.promises.proofs.NoMemoryRows.{found_there, rows_distinct}
 use Rattle.settled.specs.Given as goal
 use Rattle.settled.specs.Lines.{Line, values_of, first_bad}
 use Rattle.settled.proofs.Accepted.{accepted_ours, one-listing}
-use Rattle.settled.proofs.Listings.{not_bad_keys, not_bad_accepted, accepted_not_bad}
+use Rattle.settled.proofs.Listings.{not_bad_keys, not_bad_accepted}
 use Rattle.loops.specs.Loop.{loop_at}
-use Rattle.checks.specs.Check.{checked_in}
-use Rattle.checks.specs.declared.verdict.Verdict.{Verdict}
-use Rattle.checks.specs.declared.verdict.Verdict.TheVariants.{Accepted, Loop, Listing}
+use Rattle.checks.specs.Check.{checked_in, Verdict}
+use Rattle.checks.specs.declared.verdict.CheckRefusal.TheVariants.{Loop, Listing}
 use Rattle.checks.proofs.NoLoops.{no_loop}
 
 -- the parts of an acceptance
-pub is_accepted : (w : World) (ls : List Line) → checked_in w ls ≡ Accepted → (loop_at w ≡ none) × (none ≡ first_bad w ls)
+pub is_accepted : (w : World) (ls : List Line) → checked_in w ls ≡ Ok tt → (loop_at w ≡ none) × (none ≡ first_bad w ls)
 unfolding checked_in
 is_accepted w ls = by (loop_at w) (first_bad w ls)
   where
-    by : (o b : Option ℕ) → ◌≡◌ {A = Verdict} (elim o [ some p ↦ Loop p | none ↦ elim b [ some i ↦ Listing i | none ↦ Accepted ] ]) Accepted → (o ≡ none) × (none ≡ b)
+    by : (o b : Option ℕ) → ◌≡◌ {A = Verdict} (elim o [ some p ↦ Err (Loop p) | none ↦ elim b [ some i ↦ Err (Listing i) | none ↦ Ok tt ] ]) (Ok tt) → (o ≡ none) × (none ≡ b)
     by none none e = (refl, refl)
     by none (some i) e = let z : ◌≡◌ {A = ℕ} 0 1 = cc in absurd (omega arith)
     by (some p) b e = let z : ◌≡◌ {A = ℕ} 0 1 = cc in absurd (omega arith)
@@ -40,7 +39,7 @@ module _ (k : Book) (f : Fit) (sound : Sound f) where
   unfolding world_of rows_in
   each_found i h = found_there 0 world.rows i (rows_distinct k f (collected_in k f) sound) h ∙ ap (λ (m : ℕ). some (record { index = m; row = get_or world.rows i no_row })) (omega arith)
 
-  module _ (ls : List Line) (e : checked_in (world_of k f 0) ls ≡ Accepted) where
+  module _ (ls : List Line) (e : checked_in (world_of k f 0) ls ≡ Ok tt) where
     pub accepted_free : NoLoop (world_of k f 0)
     accepted_free = no_loop world each_found (is_accepted world ls e).0
 
@@ -55,5 +54,5 @@ module _ (k : Book) (f : Fit) (sound : Sound f) where
     checked_ours g q d same h = accepted_ours k f 0 sound accepted_free (values_of ls) accepted_right g q d same h
 
   -- there is only one
-  pub one_accepted : (ls ms : List Line) → checked_in (world_of k f 0) ls ≡ Accepted → checked_in (world_of k f 0) ms ≡ Accepted → values_of ls ≡ values_of ms
+  pub one_accepted : (ls ms : List Line) → checked_in (world_of k f 0) ls ≡ Ok tt → checked_in (world_of k f 0) ms ≡ Ok tt → values_of ls ≡ values_of ms
   one_accepted ls ms a b = one-listing k f 0 sound (accepted_free ls a) (values_of ls) (values_of ms) (accepted_right ls a) (accepted_right ms b)

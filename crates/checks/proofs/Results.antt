@@ -1,15 +1,15 @@
 -- M-111's promises, of every result that meets the contract of `dogma_check`.
+use Rattle.std.specs.Prelude.{Ok, Err}
 use Prim.Native.Nat.{ℕ, ◌<◌}
 use native.Mathlib.Omega.{arith}
 use mathlib.Core.Path.{◌≡◌, refl, sym, ap, subst, ◌∙◌}
-use mathlib.Core.Bool.{Bool, true}
+use mathlib.Core.Bool.{true}
 use mathlib.Core.List.{List, map}
 use mathlib.Core.Option.{Option, none, some}
 use lib.Dec.{eqb}
 use lib.ListN.{length}
 use Rattle.rules.specs.Answer.{Res, ok, refused, ◌>>=◌, number}
 use Rattle.rules.specs.Bytes.{pairs_of}
-use Rattle.rules.specs.Dispatch.{Row, Key}
 use Rattle.rules.specs.Collect.{moves, plain_of}
 use Rattle.rules.specs.Fresh.{unrecorded}
 use Rattle.rules.specs.Outcome.{Lent, Rooms, Done, rooms_of, collected_in, rows_in, world_of, starts_of, blank, valued, run, outcome}
@@ -18,7 +18,7 @@ use Rattle.rules.specs.Sheet.{Book, Fit}
 use Rattle.rules.specs.Value.{World, Mem}
 use Rattle.rules.specs.declared.Refusal.{Refusal}
 use Rattle.rules.specs.declared.Refusal.TheVariants as refusal
-use Rattle.rules.specs.declared.Answer.TheVariants.{Refused}
+use Rattle.rules.specs.Answer.{Refused}
 use Rattle.info.specs.Sound.{SoundBook, SoundFit}
 use Rattle.shape.specs.Shaped.{shaped_of}
 use Rattle.shape.proofs.Shapes.{sound_book, sound_fit}
@@ -37,12 +37,10 @@ use Rattle.settled.proofs.Ours.{ours_accepted, accepted_same}
 use Rattle.settled.proofs.TendsReads.{Tended, done, wanting, OnlyRoom, room5, lifted, accepted_lifted}
 use Rattle.promises.proofs.Ranks.{Within}
 use Rattle.reading.specs.Held.{ascending}
-use Rattle.reading.specs.declared.rows.Found.TheVariants.{Nothing}
 use Rattle.loops.specs.Loop.{loop_at}
-use Rattle.checks.specs.Check.{number_of, place_of, checked_in, checked_after, checked_for, checked, check_rooms, Checks}
+use Rattle.checks.specs.Check.{number_of, place_of, checked_in, checked_after, checked_for, checked, check_rooms, Checks, Verdict}
 use Rattle.checks.specs.Promised.{world_at, Dispatched, Lowest, IsListing, DoneWith, listed, no_room}
-use Rattle.checks.specs.declared.verdict.Verdict.{Verdict}
-use Rattle.checks.specs.declared.verdict.Verdict.TheVariants.{Accepted, Engine, Loop, Listing}
+use Rattle.checks.specs.declared.verdict.CheckRefusal.TheVariants.{Engine, Loop, Listing}
 use Rattle.checks.proofs.Judges.{looped, by_lines}
 use Rattle.checks.proofs.NoLoops.{loop_lowest, lowest_loop}
 use Rattle.checks.proofs.Promises.{each_found, accepted_free, accepted_right, accepted_keys, checked_ours, one_accepted}
@@ -60,17 +58,17 @@ engine_number (refusal.Room p) = (omega arith, omega arith)
 engine_number (refusal.Number p) = (omega arith, omega arith)
 engine_number (refusal.Depth p) = (omega arith, omega arith)
 
-is-done : (v : Verdict) → number_of v ≡ 0 → v ≡ Accepted
-is-done Accepted e = refl
-is-done (Engine x) e = absurd (omega (arith, e, (engine_number x).0))
-is-done (Loop o) e = absurd (omega (arith, e))
-is-done (Listing i) e = absurd (omega (arith, e))
+is-done : (v : Verdict) → number_of v ≡ 0 → v ≡ Ok tt
+is-done (Ok t) e = refl
+is-done (Err (Engine x)) e = absurd (omega (arith, e, (engine_number x).0))
+is-done (Err (Loop o)) e = absurd (omega (arith, e))
+is-done (Err (Listing i)) e = absurd (omega (arith, e))
 
-is_loop : (v : Verdict) → number_of v ≡ 10 → v ≡ Loop (place_of v)
-is_loop Accepted e = absurd (omega (arith, e))
-is_loop (Engine x) e = absurd (omega (arith, e, (engine_number x).1))
-is_loop (Loop o) e = refl
-is_loop (Listing i) e = absurd (omega (arith, e))
+is_loop : (v : Verdict) → number_of v ≡ 10 → v ≡ Err (Loop (place_of v))
+is_loop (Ok t) e = absurd (omega (arith, e))
+is_loop (Err (Engine x)) e = absurd (omega (arith, e, (engine_number x).1))
+is_loop (Err (Loop o)) e = refl
+is_loop (Err (Listing i)) e = absurd (omega (arith, e))
 
 -- ---- a verdict that is none of the engine's
 
@@ -79,7 +77,7 @@ module _ (b : List ℕ) (q : Rooms) (ls : List Line) where
     pub dispatched : Dispatched b q
     pub is : checked_in (world_at b) ls ≡ v
 
-  pub came : (v : Verdict) → checked b q ls ≡ v → ((x : Refusal) → v ≡ Engine x → ⊥) → Came v
+  pub came : (v : Verdict) → checked b q ls ≡ v → ((x : Refusal) → v ≡ Err (Engine x) → ⊥) → Came v
   unfolding checked
   came v e none_of = by (bad_shape b) refl e
     where
@@ -87,7 +85,7 @@ module _ (b : List ℕ) (q : Rooms) (ls : List Line) where
       by_lists g (ok t) h k = record { dispatched = record { shape = g; lists = h }; is = k }
       by_lists g (refused x) h k = absurd (none_of x (sym k))
 
-      by : (o : Option ℕ) → bad_shape b ≡ o → ◌≡◌ {A = Verdict} (elim o [ some t ↦ Engine (refusal.Shape t) | none ↦ checked_for (book_in b) (fit_in b) q ls ]) v → Came v
+      by : (o : Option ℕ) → bad_shape b ≡ o → ◌≡◌ {A = Verdict} (elim o [ some t ↦ Err (Engine (refusal.Shape t)) | none ↦ checked_for (book_in b) (fit_in b) q ls ]) v → Came v
       by (some t) g k = absurd (none_of (refusal.Shape t) (sym k))
       by none g k = by_lists g (lists_in (book_in b) (fit_in b) q) refl k
 
@@ -95,19 +93,19 @@ module _ (b : List ℕ) (q : Rooms) (ls : List Line) where
   past : Dispatched b q → checked b q ls ≡ checked_in (world_at b) ls
   unfolding checked
   past d =
-      ap (λ (o : Option ℕ). elim o [ some t ↦ Engine (refusal.Shape t) | none ↦ checked_for (book_in b) (fit_in b) q ls ]) d.shape
+      ap (λ (o : Option ℕ). elim o [ some t ↦ Err (Engine (refusal.Shape t)) | none ↦ checked_for (book_in b) (fit_in b) q ls ]) d.shape
       ∙ ap (λ (s : Res Unit). checked_after s (world_at b) ls) d.lists
 
-loop_said : (w : World) (ls : List Line) (o : ℕ) → checked_in w ls ≡ Loop o → loop_at w ≡ some o
+loop_said : (w : World) (ls : List Line) (o : ℕ) → checked_in w ls ≡ Err (Loop o) → loop_at w ≡ some o
 unfolding checked_in
 loop_said w ls o e = by (loop_at w) (first_bad w ls) e
   where
-    by : (x y : Option ℕ) → ◌≡◌ {A = Verdict} (elim x [ some p ↦ Loop p | none ↦ elim y [ some i ↦ Listing i | none ↦ Accepted ] ]) (Loop o) → x ≡ some o
+    by : (x y : Option ℕ) → ◌≡◌ {A = Verdict} (elim x [ some p ↦ Err (Loop p) | none ↦ elim y [ some i ↦ Err (Listing i) | none ↦ Ok tt ] ]) (Err (Loop o)) → x ≡ some o
     by (some p) y k = cc
     by none none k = let z : ◌≡◌ {A = ℕ} 0 1 = cc in absurd (omega arith)
     by none (some i) k = let z : ◌≡◌ {A = ℕ} 0 1 = cc in absurd (omega arith)
 
-pub not_engine : (v : Verdict) (x : Refusal) → number_of v ≡ 0 → v ≡ Engine x → ⊥
+pub not_engine : (v : Verdict) (x : Refusal) → number_of v ≡ 0 → v ≡ Err (Engine x) → ⊥
 not_engine v x e h = let p = (engine_number x).0 in let z : number (Refused x) ≡ 0 = sym (ap number_of h) ∙ e in omega (arith, p, z)
 
 -- ---- what is sound
@@ -189,14 +187,14 @@ module _ (b : List ℕ) (l : Lent) (work : ℕ) (ls : List Line) (r : Result) (c
     where
       said : r.number ≡ 10 → Dispatched b (check_rooms l work) × Lowest (world_at b) r.place
       said e =
-          let loops : verdict ≡ Loop r.place = is_loop verdict (sym c.by_number ∙ e) ∙ ap Loop (sym c.by_place) in
-          let k = came b (check_rooms l work) ls (Loop r.place) loops (λ x h. let z : ◌≡◌ {A = ℕ} 0 1 = cc in omega arith) in
+          let loops : verdict ≡ Err (Loop r.place) = is_loop verdict (sym c.by_number ∙ e) ∙ ap (λ (o : ℕ). Err (Loop o)) (sym c.by_place) in
+          let k = came b (check_rooms l work) ls (Err (Loop r.place)) loops (λ x h. let z : ◌≡◌ {A = ℕ} 0 1 = cc in omega arith) in
           (k.dispatched, lowest b k.dispatched.shape r.place (loop_said (world_at b) ls r.place k.is))
 
       given : (o : ℕ) → Dispatched b (check_rooms l work) → Lowest (world_at b) o → (r.number ≡ 10) × (r.place ≡ o)
       given o d k =
           let found = lowest_loop (world_at b) (each_found (book_in b) (fit_in b) (sound_there b d.shape)) (rows_ordered b d.shape) o k in
-          let loops : verdict ≡ Loop o = past b (check_rooms l work) ls d ∙ sym (looped (world_at b) ls o (sym found)) in
+          let loops : verdict ≡ Err (Loop o) = past b (check_rooms l work) ls d ∙ sym (looped (world_at b) ls o (sym found)) in
           (c.by_number ∙ ap number_of loops, c.by_place ∙ ap place_of loops)
 
   -- "all that our engine writes for a sheet without a loop is accepted, whichever asks it had"
@@ -217,14 +215,14 @@ module _ (b : List ℕ) (l : Lent) (work : ℕ) (ls : List Line) (r : Result) (c
       keys : map (λ (x : Line). x.key) ls ≡ map key_of (world_at b).rows
       keys = own.keys ∙ ap (map key_of) rows
 
-      accepted : verdict ≡ Accepted
-      accepted = past b (check_rooms l work) ls s ∙ sym (by_lines (world_at b) ls (none_found b s.shape free) Nothing (accepted_not_bad (world_at b) ls keys right))
+      accepted : verdict ≡ Ok tt
+      accepted = past b (check_rooms l work) ls s ∙ sym (by_lines (world_at b) ls (none_found b s.shape free) none (accepted_not_bad (world_at b) ls keys right))
 
   module _ (zero : r.number ≡ 0) where
-    accepts : Came b (check_rooms l work) ls Accepted
+    accepts : Came b (check_rooms l work) ls (Ok tt)
     accepts =
-        let v : verdict ≡ Accepted = is-done verdict (sym c.by_number ∙ zero) in
-        came b (check_rooms l work) ls Accepted v (λ x h. not_engine Accepted x refl h)
+        let v : verdict ≡ Ok tt = is-done verdict (sym c.by_number ∙ zero) in
+        came b (check_rooms l work) ls (Ok tt) v (λ x h. not_engine (Ok tt) x refl h)
 
     sound : Sound (fit_in b)
     sound = sound_there b accepts.dispatched.shape

@@ -1,5 +1,6 @@
 -- M-111, "Test another planner's figures": what is answered, and what comes back. Definitions only.
-use Rattle.std.specs.Prelude.{ℕ, min, ◌≡◌, List, []}
+use Rattle.std.specs.Prelude.{ℕ, min, ◌≡◌, List, [], Ok, Err}
+use Rattle.std.specs.Prelude as code
 use Rattle.std.proofs.Math.Option.{none, some}
 use Rattle.rules.specs.Answer.{Res, ok, refused, number, place}
 use Rattle.rules.specs.Bytes.{pairs_of}
@@ -9,38 +10,41 @@ use Rattle.rules.specs.Outcome.{Lent, Rooms, Done, counted, collected_in, world_
 use Rattle.rules.specs.Shape.{bad_shape}
 use Rattle.rules.specs.Sheet.{Book, Fit, book_of, fit_of}
 use Rattle.rules.specs.Value.{World}
-use Rattle.rules.specs.declared.Refusal.{Refusal}
 use Rattle.rules.specs.declared.Refusal.TheVariants.{Shape}
-use Rattle.rules.specs.declared.Answer.TheVariants.{Refused}
+use Rattle.rules.specs.Answer.{Refused}
 use Rattle.promises.specs.NoMemory.{book_in, fit_in}
 use Rattle.promises.specs.Result.{Result}
 use Rattle.settled.specs.Lines.{Line, values_of, first_bad}
 use Rattle.loops.specs.Loop.{loop_at}
 use Rattle.run.specs.Listing.{lists_in}
-use Rattle.checks.specs.declared.verdict.Verdict.{Verdict}
-use Rattle.checks.specs.declared.verdict.Verdict.TheVariants.{Accepted, Engine, Loop, Listing}
+use Rattle.checks.specs.declared.verdict.CheckRefusal.{CheckRefusal}
+use Rattle.checks.specs.declared.verdict.CheckRefusal.TheVariants.{Engine, Loop, Listing}
+
+-- accepted, or why it is not
+abbrev pub Verdict : Type 0
+Verdict = code.Result (Unit {0}) CheckRefusal
 
 -- "10 LOOP", "15 LISTING"; the engine's keep their numbers
 abbrev pub number_of : Verdict → ℕ
-number_of Accepted = 0
-number_of (Engine x) = number (Refused x)
-number_of (Loop o) = 10
-number_of (Listing i) = 15
+number_of (Ok t) = 0
+number_of (Err (Engine x)) = number (Refused x)
+number_of (Err (Loop o)) = 10
+number_of (Err (Listing i)) = 15
 
 -- "the lowest object", "first wrong line from 0, or the number of lines where rows are missing"
 abbrev pub place_of : Verdict → ℕ
-place_of Accepted = 0
-place_of (Engine x) = place (Refused x)
-place_of (Loop o) = o
-place_of (Listing i) = i
+place_of (Ok t) = 0
+place_of (Err (Engine x)) = place (Refused x)
+place_of (Err (Loop o)) = o
+place_of (Err (Listing i)) = i
 
 -- a sheet that has come to its values: LOOP, then rows, then values
 unfoldable pub checked_in : World → List Line → Verdict
-checked_in w ls = elim (loop_at w) [ some o ↦ Loop o | none ↦ elim (first_bad w ls) [ some i ↦ Listing i | none ↦ Accepted ] ]
+checked_in w ls = elim (loop_at w) [ some o ↦ Err (Loop o) | none ↦ elim (first_bad w ls) [ some i ↦ Err (Listing i) | none ↦ Ok tt ] ]
 
 -- "Refusals: the engine's up to dispatch", then those of the listing
 abbrev pub checked_after : Res Unit → World → List Line → Verdict
-checked_after (refused x) w ls = Engine x
+checked_after (refused x) w ls = Err (Engine x)
 checked_after (ok t) w ls = checked_in w ls
 
 -- of a book and a fit
@@ -49,7 +53,7 @@ checked_for k f q ls = checked_after (lists_in k f q) (world_of k f 0) ls
 
 -- of any bytes, with any rooms
 unfoldable pub checked : List ℕ → Rooms → List Line → Verdict
-checked b q ls = elim (bad_shape b) [ some t ↦ Engine (Shape t) | none ↦ checked_for (book_of b (pairs_of b)) (fit_of b (pairs_of b)) q ls ]
+checked b q ls = elim (bad_shape b) [ some t ↦ Err (Engine (Shape t)) | none ↦ checked_for (book_of b (pairs_of b)) (fit_of b (pairs_of b)) q ls ]
 
 -- "a list's room is its shortest column": the lent scratch is a column of list 2; list 5 is not lent
 abbrev pub check_rooms : Lent → ℕ → Rooms
@@ -70,10 +74,10 @@ listed_done k f ls =
 
 -- "After a refusal all lists, states and counts are zero": as after any refusal of the engine
 abbrev pub kept_by : Verdict → Done → Res Done
-kept_by Accepted d = ok d
-kept_by (Engine x) d = refused x
-kept_by (Loop o) d = refused (Shape 0)
-kept_by (Listing i) d = refused (Shape 0)
+kept_by (Ok t) d = ok d
+kept_by (Err (Engine x)) d = refused x
+kept_by (Err (Loop o)) d = refused (Shape 0)
+kept_by (Err (Listing i)) d = refused (Shape 0)
 
 -- r is what the verdict v and what is left give, with these lists lent
 pub record ChecksAs (v : Verdict) (left : Res Done) (l : Lent) (r : Result) : Type 0 where

@@ -1,25 +1,16 @@
 -- What the parts of a check answer, and what they leave in the columns. Definitions only.
-use Rattle.std.specs.Prelude.{ℕ, ◌≡◌, Bool, List, [], Float, length}
+use Rattle.std.specs.Prelude.{ℕ, ◌≡◌, Bool, List, [], Float, length, Result, Ok, Err}
 use denote.Triple.Both.{Both}
 use Rattle.columns.specs.Lending.{LentColumn}
 use Rattle.laws.specs.Columns.{Col}
 use Rattle.rules.specs.Outcome.{Lent, Done}
-use Rattle.rules.specs.declared.Refusal.{Refusal}
-use Rattle.reading.specs.declared.rows.Found.{Found}
-use Rattle.reading.specs.declared.rows.Found.TheVariants.{At, Nothing}
 use Rattle.sources.specs.declared.Recording.{Recording}
 use Rattle.clear.specs.declared.KeptCounts.{KeptCounts}
 use Rattle.run.specs.Filled.{Columns, columns, Filled}
 use Rattle.run.specs.declared.lists.ListCounts.{ListCounts}
 use Rattle.given.specs.Judging.{shown_in}
-use Rattle.checks.specs.declared.Checked.{Checked}
-use Rattle.checks.specs.declared.verdict.Verdict.{Verdict}
-use Rattle.checks.specs.declared.verdict.Verdict.TheVariants.{Accepted, Engine, Loop, Listing}
-
--- the verdict where there is no loop
-abbrev pub verdict_by : Found → Verdict
-verdict_by (At i) = Listing i
-verdict_by Nothing = Accepted
+use Rattle.checks.specs.declared.verdict.CheckRefusal.{CheckRefusal}
+use Rattle.checks.specs.Check.{Verdict}
 
 -- list 5 has no room
 abbrev pub run : Bool → Recording
@@ -27,10 +18,8 @@ run recording = record { room = 0; recording = recording }
 
 -- an accepted listing has n lines, and the column their values
 abbrev pub LaidIf : Verdict → ℕ → List (List ℕ) → List Float → List Float → Type 0
-LaidIf Accepted n ls v v' = (length ls ≡ n) × Col shown_in ls v v'
-LaidIf (Engine x) n ls v v' = Unit {0}
-LaidIf (Loop o) n ls v v' = Unit {0}
-LaidIf (Listing i) n ls v v' = Unit {0}
+LaidIf (Ok t) n ls v v' = (length ls ≡ n) × Col shown_in ls v v'
+LaidIf (Err e) n ls v v' = Unit {0}
 
 -- ---- what is lent: list 5 is not
 
@@ -51,22 +40,20 @@ check_columns c v r b x e w p =
 abbrev pub no_counts : KeptCounts
 no_counts = record { objects = 0; collected = 0; rows = 0; entries = 0; plain = 0; sources = 0 }
 
-abbrev pub counts_by : Verdict → ListCounts → ℕ → KeptCounts
-counts_by Accepted n objects =
+abbrev pub counts_of : ListCounts → ℕ → KeptCounts
+counts_of n objects =
     record { objects = objects; collected = n.collected; rows = n.rows; entries = n.entries; plain = n.plain; sources = 0 }
-counts_by (Engine x) n objects = no_counts
-counts_by (Loop o) n objects = no_counts
-counts_by (Listing i) n objects = no_counts
 
-abbrev pub checked_by : Verdict → ListCounts → ℕ → Checked
-checked_by v n objects = record { verdict = v; counts = counts_by v n objects }
+-- the verdict of what is answered, and its counts
+abbrev pub verdict_in : Result KeptCounts CheckRefusal → Verdict
+verdict_in (Ok n) = Ok tt
+verdict_in (Err e) = Err e
 
-abbrev pub refused_by : Refusal → Checked
-refused_by x = record { verdict = Engine x; counts = no_counts }
+abbrev pub counts_in : Result KeptCounts CheckRefusal → KeptCounts
+counts_in (Ok n) = n
+counts_in (Err e) = no_counts
 
 -- an accepted listing leaves d in the columns c, which were c₀; after a refusal nothing is counted, and they may hold anything
 abbrev pub LeftBy : Verdict → KeptCounts → Done → List (List ℕ) → Columns → Columns → Type 0
-LeftBy Accepted n d st c₀ c = Filled d n st c₀ c
-LeftBy (Engine x) n d st c₀ c = n ≡ no_counts
-LeftBy (Loop o) n d st c₀ c = n ≡ no_counts
-LeftBy (Listing i) n d st c₀ c = n ≡ no_counts
+LeftBy (Ok t) n d st c₀ c = Filled d n st c₀ c
+LeftBy (Err e) n d st c₀ c = n ≡ no_counts

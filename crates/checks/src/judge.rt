@@ -8,15 +8,17 @@ ghost use Rattle.settled.specs.Lines.{line_of};
 ghost use Rattle.checks.specs.Check.{checked_in};
 ghost use Rattle.checks.specs.Checked.{run, LaidIf};
 
-use super::verdict::{Verdict, verdict_of};
+use super::verdict::CheckRefusal;
 use columns::{AttributeRow, EntryRow, States, TablePairs};
 use given::first_bad;
 use given::lines::LineRow;
-use loops::{Looped, loop_of};
+use loops::loop_of;
+use memory::ReadColumns;
+use needs::NeedColumns;
 use order::WorkRow;
 use reading::stretches::{set_limits, set_stretches};
 
-// The verdict; where the listing is accepted the value column has its values.
+// The verdict: where the listing is accepted the value column has its values.
 pub fn judged(
     values: &mut [f64],
     work: &mut [WorkRow],
@@ -30,7 +32,7 @@ pub fn judged(
     listing: &[LineRow],
     n: usize,
     recording: bool,
-) -> Verdict
+) -> Result<(), CheckRefusal>
     requires sound_book { SoundBook sheet.now pairs.now }
     requires sound_fit { SoundFit sheet.now pairs.now }
     requires listed { RowsListed (book_of sheet.now pairs.now) (fit_of sheet.now pairs.now) n (run recording)
@@ -41,27 +43,33 @@ pub fn judged(
         result ≡ checked_in (world_of k f 0) (map line_of listing.now) }
     ensures laid { LaidIf result n listing.now values.old values.new }
 {
-    let stretches = set_stretches(&rows[..n]);
+    let rows = &rows[..n];
+    let stretches = set_stretches(rows);
     let limits = set_limits(sheet, pairs);
-    let looped = loop_of(work, sheet, pairs, &stretches, &limits, &rows[..n], entries);
-    match looped {
-        Looped::At(object) => Verdict::Loop(object),
-        Looped::Nothing => {
-            let bad = first_bad(
-                &mut values[..n],
-                sheet,
-                pairs,
-                states,
-                &stretches,
-                &limits,
-                &rows[..n],
-                &bases[..n],
-                entries,
-                entry_values,
-                listing,
-                recording,
-            );
-            verdict_of(bad)
-        }
+    let needs = NeedColumns {
+        book: sheet,
+        pairs,
+        stretches: &stretches,
+        limits: &limits,
+        rows,
+        entries,
+    };
+    if let Some(object) = loop_of(work, needs) {
+        return Err(CheckRefusal::Loop(object));
     }
+    let columns = ReadColumns {
+        book: sheet,
+        pairs,
+        states,
+        stretches: &stretches,
+        limits: &limits,
+        rows,
+        bases: &bases[..n],
+        entries,
+        entry_values,
+    };
+    if let Some(line) = first_bad(&mut values[..n], &columns, listing, recording) {
+        return Err(CheckRefusal::Listing(line));
+    }
+    Ok(())
 }

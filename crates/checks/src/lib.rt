@@ -7,7 +7,7 @@ ghost use Rattle.run.specs.Filled.{lent_of};
 ghost use Rattle.calculate.specs.Given.{result_of};
 ghost use Rattle.settled.specs.Lines.{line_of};
 ghost use Rattle.checks.specs.Check.{check_rooms, checked, listed_done, Checks};
-ghost use Rattle.checks.specs.Checked.{check_columns, no_counts, checked_by, refused_by, LeftBy};
+ghost use Rattle.checks.specs.Checked.{check_columns, verdict_in, counts_in, LeftBy};
 
 use calculate::Outcome;
 use clear::{KeptCounts, clear};
@@ -20,74 +20,20 @@ use info::header::{count_of, pairs_of, recording_of};
 use judge::judged;
 use lists::{rooms_of, set_sheet};
 use order::WorkRow;
-use rules::Refusal;
-use run::lists::{ListCounts, Listed};
-use shape::{Shaped, shape};
-use verdict::{Verdict, verdict_number, verdict_place};
-
-// The verdict, and how many elements of each list stay.
-#[derive(Clone, Copy)]
-pub struct Checked {
-    pub verdict: Verdict,
-    pub counts: KeptCounts,
-}
+use shape::shape;
+use verdict::CheckRefusal;
 
 // Nothing stays.
-fn no_counts() -> KeptCounts
-    ensures defined { result ≡ no_counts }
-{
-    KeptCounts {
-        objects: 0,
-        collected: 0,
-        rows: 0,
-        entries: 0,
-        plain: 0,
-        sources: 0,
-    }
-}
+const NO_COUNTS: KeptCounts = KeptCounts {
+    objects: 0,
+    collected: 0,
+    rows: 0,
+    entries: 0,
+    plain: 0,
+    sources: 0,
+};
 
-// A refusal of the engine.
-fn refused_by(x: Refusal) -> Checked
-    ensures defined { result ≡ refused_by x }
-{
-    Checked {
-        verdict: Verdict::Engine(x),
-        counts: no_counts(),
-    }
-}
-
-// The counts of an accepted listing's lists; none after a refusal.
-fn checked_of(v: Verdict, n: ListCounts, objects: usize) -> Checked
-    ensures defined { result ≡ checked_by v n objects }
-{
-    match v {
-        Verdict::Accepted => Checked {
-            verdict: v,
-            counts: KeptCounts {
-                objects,
-                collected: n.collected,
-                rows: n.rows,
-                entries: n.entries,
-                plain: n.plain,
-                sources: 0,
-            },
-        },
-        Verdict::Engine(_) => Checked {
-            verdict: v,
-            counts: no_counts(),
-        },
-        Verdict::Loop(_) => Checked {
-            verdict: v,
-            counts: no_counts(),
-        },
-        Verdict::Listing(_) => Checked {
-            verdict: v,
-            counts: no_counts(),
-        },
-    }
-}
-
-// Any bytes, any lists, any listing. After a refusal the columns may hold anything: who lent them clears them.
+// How many elements of each list stay, of any bytes, any lists, any listing. After a refusal the columns may hold anything: who lent them clears them.
 fn answered(
     states: &mut States,
     collected: &mut [CollectedRow],
@@ -101,68 +47,65 @@ fn answered(
     plain: &mut [PlainRow],
     sheet: &[u8],
     listing: &[LineRow],
-) -> Checked
+) -> Result<KeptCounts, CheckRefusal>
     ensures verdict { let lists = check_columns collected collected_values rows bases values entries entry_values plain in
         let q = check_rooms (lent_of lists.entry) (length work.old) in
-        result.verdict ≡ checked sheet.now q (map line_of listing.now) }
+        verdict_in result ≡ checked sheet.now q (map line_of listing.now) }
     ensures left { let lists = check_columns collected collected_values rows bases values entries entry_values plain in
         let d = listed_done (book_in sheet.now) (fit_in sheet.now) (map line_of listing.now) in
-        LeftBy result.verdict result.counts d states.new lists.entry lists.exit }
+        LeftBy (verdict_in result) (counts_in result) d states.new lists.entry lists.exit }
 {
-    let shaped = shape(sheet);
-    match shaped {
-        Shaped::Bad(table) => refused_by(Refusal::Shape(table)),
-        Shaped::Sound => {
-            let pairs = pairs_of(sheet);
-            let rooms = rooms_of(
-                collected.len(),
-                collected_values.len(),
-                rows.len(),
-                bases.len(),
-                values.len(),
-                work.len(),
-                entries.len(),
-                entry_values.len(),
-                plain.len(),
-            );
-            let listed = set_sheet(
-                states,
-                collected,
-                collected_values,
-                rows,
-                bases,
-                entries,
-                entry_values,
-                plain,
-                sheet,
-                &pairs,
-                rooms,
-            );
-            match listed {
-                Listed::Refused(x) => refused_by(x),
-                Listed::Done(n) => {
-                    let v = judged(
-                        values,
-                        work,
-                        states,
-                        rows,
-                        bases,
-                        entries,
-                        entry_values,
-                        sheet,
-                        &pairs,
-                        listing,
-                        n.rows,
-                        recording_of(sheet, &pairs) == 1,
-                    );
-                    checked_of(v, n, count_of(&pairs, TABLE_OBJECTS))
-                }
-            }
-        }
-    }
+    shape(sheet)?;
+    let pairs = pairs_of(sheet);
+    let rooms = rooms_of(
+        collected.len(),
+        collected_values.len(),
+        rows.len(),
+        bases.len(),
+        values.len(),
+        work.len(),
+        entries.len(),
+        entry_values.len(),
+        plain.len(),
+    );
+    let counts = set_sheet(
+        states,
+        collected,
+        collected_values,
+        rows,
+        bases,
+        entries,
+        entry_values,
+        plain,
+        sheet,
+        &pairs,
+        rooms,
+    )?;
+    judged(
+        values,
+        work,
+        states,
+        rows,
+        bases,
+        entries,
+        entry_values,
+        sheet,
+        &pairs,
+        listing,
+        counts.rows,
+        recording_of(sheet, &pairs) == 1,
+    )?;
+    Ok(KeptCounts {
+        objects: count_of(&pairs, TABLE_OBJECTS),
+        collected: counts.collected,
+        rows: counts.rows,
+        entries: counts.entries,
+        plain: counts.plain,
+        sources: 0,
+    })
 }
 
-// Number, place, every list and every state, whatever the bytes, the lists and the listing: nothing is required.
+// Number, place, every list and every state, whatever the bytes, the lists and the listing: nothing is required. The columns are lent by C, one by one.
 pub fn dogma_check(
     states: &mut States,
     collected: &mut [CollectedRow],
@@ -182,7 +125,7 @@ pub fn dogma_check(
         let given = result_of result states.new lists.exit in
         Checks sheet.now (lent_of lists.entry) (length work.old) lines given }
 {
-    let checked = answered(
+    let answer = answered(
         states,
         collected,
         collected_values,
@@ -196,8 +139,10 @@ pub fn dogma_check(
         sheet,
         listing,
     );
-    let counts = checked.counts;
-    let verdict = checked.verdict;
+    let (counts, number, place) = match answer {
+        Ok(counts) => (counts, 0, 0),
+        Err(refusal) => (NO_COUNTS, refusal.number(), refusal.place()),
+    };
     let mut sources = [[0u32; SOURCE_WIDTH]; 1];
     let mut floats = [[0.0; SOURCE_FLOATS]; 1];
     clear(
@@ -215,8 +160,8 @@ pub fn dogma_check(
         counts,
     );
     Outcome {
-        number: verdict_number(verdict),
-        place: verdict_place(verdict),
+        number,
+        place,
         collected: counts.collected as u64,
         rows: counts.rows as u64,
         entries: counts.entries as u64,

@@ -10,21 +10,15 @@ ghost use Rattle.checks.specs.Checked.{lengths};
 
 use columns::{AttributeRow, CollectedRow, EntryRow, PlainRow, States, TablePairs};
 use info::places::{attribute_places, effect_places};
-use run::lists::{ListRooms, Listed, set_lists};
+use rules::Refusal;
+use run::lists::{ListCounts, ListRooms, set_lists};
 use states::correct_states;
-
-// The lesser of two.
-fn least_of(a: usize, b: usize) -> usize
-    ensures defined { result ≡ min a b }
-{
-    if a < b { a } else { b }
-}
 
 // A list's room is its shortest column, at most what 32 bits count.
 fn room_of(a: usize, b: usize) -> usize
     ensures defined { result ≡ counted (min a b) }
 {
-    least_of(least_of(a, b), 4294967295)
+    a.min(b).min(4294967295)
 }
 
 // The rooms of lists 1 to 4 by the lengths of their columns; the lent scratch is a column of list 2.
@@ -41,7 +35,7 @@ pub fn rooms_of(
 ) -> ListRooms
     ensures defined { RoomsOf (check_rooms (lengths collected collected_values rows bases values entries entry_values plain) work) result }
 {
-    let least = least_of(bases, least_of(values, work));
+    let least = bases.min(values).min(work);
     ListRooms {
         collected: room_of(collected, collected_values),
         rows: room_of(rows, least),
@@ -63,7 +57,7 @@ pub fn set_sheet(
     sheet: &[u8],
     pairs: &TablePairs,
     rooms: ListRooms,
-) -> Listed
+) -> Result<ListCounts, Refusal>
     requires sound_book { SoundBook sheet.now pairs.now }
     requires sound_fit { SoundFit sheet.now pairs.now }
     requires roomy { RoomsLent rooms collected.old collected_values.old rows.old bases.old entries.old entry_values.old plain.old }

@@ -1,51 +1,57 @@
-// The verdict on another planner's listing, as an answer.
-ghost use Rattle.std.specs.Prelude.{◌≡◌};
+// Why a listing is not accepted, and the number and place that a caller gets for it.
+ghost use Rattle.std.specs.Prelude.{◌≡◌, Err};
+ghost use Rattle.rules.specs.declared.Refusal.TheVariants.{Shape};
+ghost use Rattle.checks.specs.declared.verdict.CheckRefusal.TheVariants.{Engine};
 ghost use Rattle.checks.specs.Check.{number_of, place_of};
-ghost use Rattle.checks.specs.Checked.{verdict_by};
 
 use calculate::answers::{number_of, place_of};
-use reading::rows::Found;
-use rules::{Answer, Refusal};
+use rules::Refusal;
+use shape::BadTable;
 
-// It is ours; or a refusal of the engine up to dispatch; or the lowest object on a loop; or the first bad line.
+// A refusal of the engine up to dispatch; or the lowest object on a loop; or the first bad line.
 #[derive(Clone, Copy)]
-pub enum Verdict {
-    Accepted,
+pub enum CheckRefusal {
     Engine(Refusal),
     Loop(u32),
     Listing(usize),
 }
 
-// The verdict where there is no loop.
-pub fn verdict_of(bad: Found) -> Verdict
-    ensures defined { result ≡ verdict_by bad }
-{
-    match bad {
-        Found::At(i) => Verdict::Listing(i),
-        Found::Nothing => Verdict::Accepted,
+impl From<Refusal> for CheckRefusal {
+    ghost from_gives = { λ x refusal. refusal ≡ Engine x };
+
+    fn from(x: Refusal) -> CheckRefusal {
+        CheckRefusal::Engine(x)
     }
 }
 
-// The number that a caller gets.
-pub fn verdict_number(v: Verdict) -> u64
-    ensures defined { result ≡ number_of v }
-{
-    match v {
-        Verdict::Accepted => 0,
-        Verdict::Engine(x) => number_of(Answer::Refused(x)) as u64,
-        Verdict::Loop(_) => 10,
-        Verdict::Listing(_) => 15,
+impl From<BadTable> for CheckRefusal {
+    ghost from_gives = { λ bad refusal. refusal ≡ Engine (Shape bad.table) };
+
+    fn from(bad: BadTable) -> CheckRefusal {
+        CheckRefusal::Engine(Refusal::Shape(bad.table))
     }
 }
 
-// The place that a caller gets beside it.
-pub fn verdict_place(v: Verdict) -> u64
-    ensures defined { result ≡ place_of v }
-{
-    match v {
-        Verdict::Accepted => 0,
-        Verdict::Engine(x) => place_of(Answer::Refused(x)) as u64,
-        Verdict::Loop(o) => o as u64,
-        Verdict::Listing(i) => i as u64,
+impl CheckRefusal {
+    // The number that a caller gets.
+    pub fn number(self) -> u64
+        ensures defined { result ≡ number_of (Err self) }
+    {
+        match self {
+            CheckRefusal::Engine(x) => u64::from(number_of(Err(x))),
+            CheckRefusal::Loop(_) => 10,
+            CheckRefusal::Listing(_) => 15,
+        }
+    }
+
+    // The place that a caller gets beside it.
+    pub fn place(self) -> u64
+        ensures defined { result ≡ place_of (Err self) }
+    {
+        match self {
+            CheckRefusal::Engine(x) => u64::from(place_of(Err(x))),
+            CheckRefusal::Loop(object) => u64::from(object),
+            CheckRefusal::Listing(line) => line as u64,
+        }
     }
 }

@@ -10,101 +10,20 @@ use columns::{
     PlainRow, ROW_WIDTH, SOURCE_FLOATS, SOURCE_WIDTH, STATE_WIDTH, SourceFloats, SourceRow, States,
 };
 
-// ---- one column: zero from a place on; a place past the end changes nothing
-
-fn zero_collected(collected: &mut [CollectedRow], from: usize)
-    ensures cleared { ClearedFrom collected (replicate 14 0) from }
+// One column: zero from a place on; a place past the end changes nothing.
+pub fn zero_from<T: Copy>(column: &mut [T], zero: T, from: usize)
+    ensures cleared { ClearedFrom column zero from }
 {
-    let n = collected.len();
-    let mut i = from;
-    while i < n {
-        collected[i] = [0; COLLECTED_WIDTH];
-        i += 1;
+    for i in from..column.len() {
+        column[i] = zero;
     }
 }
-
-fn zero_entries(entries: &mut [EntryRow], from: usize)
-    ensures cleared { ClearedFrom entries (replicate 12 0) from }
-{
-    let n = entries.len();
-    let mut i = from;
-    while i < n {
-        entries[i] = [0; ENTRY_WIDTH];
-        i += 1;
-    }
-}
-
-fn zero_sources(sources: &mut [SourceRow], from: usize)
-    ensures cleared { ClearedFrom sources (replicate 11 0) from }
-{
-    let n = sources.len();
-    let mut i = from;
-    while i < n {
-        sources[i] = [0; SOURCE_WIDTH];
-        i += 1;
-    }
-}
-
-fn zero_rows(rows: &mut [AttributeRow], from: usize)
-    ensures cleared { ClearedFrom rows (replicate 6 0) from }
-{
-    let n = rows.len();
-    let mut i = from;
-    while i < n {
-        rows[i] = [0; ROW_WIDTH];
-        i += 1;
-    }
-}
-
-fn zero_plain(plain: &mut [PlainRow], from: usize)
-    ensures cleared { ClearedFrom plain (replicate 2 0) from }
-{
-    let n = plain.len();
-    let mut i = from;
-    while i < n {
-        plain[i] = [0; PLAIN_WIDTH];
-        i += 1;
-    }
-}
-
-fn zero_values(floats: &mut [f64], from: usize)
-    ensures cleared { ClearedFrom floats zero_f from }
-{
-    let n = floats.len();
-    let mut i = from;
-    while i < n {
-        floats[i] = 0.0;
-        i += 1;
-    }
-}
-
-fn zero_source_values(pairs: &mut [SourceFloats], from: usize)
-    ensures cleared { ClearedFrom pairs (replicate 2 zero_f) from }
-{
-    let n = pairs.len();
-    let mut i = from;
-    while i < n {
-        pairs[i] = [0.0; SOURCE_FLOATS];
-        i += 1;
-    }
-}
-
-// A lent array's length is told where it is handed on by value; the compiler drops the copy.
-fn full(given: States)
-    ensures whole { length given ≡ 1024 }
-{}
 
 fn zero_states(states: &mut States, from: usize)
     ensures cleared { ClearedFrom states (replicate 2 0) from }
     ensures whole { length states.old ≡ 1024 }
 {
-    let given = *states;
-    full(given);
-    let mut o = from;
-    while o < OBJECTS {
-        states[o] = [0; STATE_WIDTH];
-        o += 1;
-    }
+    zero_from(states, [0; STATE_WIDTH], from);
 }
 
 // ---- all columns
@@ -148,15 +67,15 @@ pub fn clear(
     ensures states { ClearedFrom states (replicate 2 0) counts.objects }
     ensures whole { length states.old ≡ 1024 }
 {
-    zero_collected(collected, counts.collected);
-    zero_values(collected_values, counts.collected);
-    zero_rows(rows, counts.rows);
-    zero_values(bases, counts.rows);
-    zero_values(values, counts.rows);
-    zero_entries(entries, counts.entries);
-    zero_values(entry_values, counts.entries);
-    zero_plain(plain, counts.plain);
-    zero_sources(sources, counts.sources);
-    zero_source_values(source_values, counts.sources);
+    zero_from(collected, [0; COLLECTED_WIDTH], counts.collected);
+    zero_from(collected_values, 0.0, counts.collected);
+    zero_from(rows, [0; ROW_WIDTH], counts.rows);
+    zero_from(bases, 0.0, counts.rows);
+    zero_from(values, 0.0, counts.rows);
+    zero_from(entries, [0; ENTRY_WIDTH], counts.entries);
+    zero_from(entry_values, 0.0, counts.entries);
+    zero_from(plain, [0; PLAIN_WIDTH], counts.plain);
+    zero_from(sources, [0; SOURCE_WIDTH], counts.sources);
+    zero_from(source_values, [0.0; SOURCE_FLOATS], counts.sources);
     zero_states(states, counts.objects);
 }

@@ -1,4 +1,5 @@
 -- Every effect that collection takes from a sound sheet points at objects of the fit, and its ids have 32 bits.
+use Rattle.std.specs.Prelude.{None, Some}
 use Prim.Native.Nat.{ℕ, ◌<◌}
 use native.Mathlib.Omega.{arith}
 use mathlib.Core.Path.{sym, subst}
@@ -23,8 +24,7 @@ use Rattle.rules.specs.declared.Item.{Item}
 use Rattle.rules.specs.declared.BaseAttribute.{BaseAttribute}
 use Rattle.rules.specs.declared.DogmaEffect.{DogmaEffect}
 use Rattle.rules.specs.declared.DogmaModifier.{DogmaModifier}
-use Rattle.rules.specs.declared.OptionalId.{OptionalId}
-use Rattle.rules.specs.declared.OptionalId.TheVariants.{Absent, Given}
+use Rattle.rules.specs.Ids.{OptionalId}
 use Rattle.rules.specs.declared.Pass2Effect.{Pass2Effect}
 use Rattle.rules.specs.declared.ProjectedBuff.{ProjectedBuff}
 use Rattle.rules.proofs.Verdicts.{objects_good_lem}
@@ -33,8 +33,8 @@ use Rattle.info.specs.Stands.{Pointing, Narrow, NarrowOrigin, NarrowId}
 use Rattle.info.proofs.Narrow.{signed_narrow, cut_narrow}
 use Rattle.info.proofs.Rows.{pointing}
 use Rattle.info.proofs.Sheets.{numbered, char_inside}
-use Rattle.modifier.specs.declared.causes.Cause.{Cause}
-use Rattle.modifier.specs.declared.causes.Cause.TheVariants as cause
+use Rattle.modifier.specs.Causes.{Cause}
+use Rattle.modifier.specs.Causes as cause
 use Rattle.modifier.specs.Causes.{resistance_of}
 use Rattle.collect.specs.Takes.{Each, Goes, Member, Caused, Collects, origin_of, met_by}
 use Rattle.collect.proofs.Taking.{each_weaker, each_at, func_goes, func_of_lem}
@@ -54,14 +54,14 @@ named_narrow : (x : Option BaseAttribute) → SFits w32 (elim x [ none ↦ pos 0
 named_narrow none = zero_narrow
 named_narrow (some r) = cut_narrow r.value
 
-unless_narrow : (b : Bool) (a : ℤ) (o : OptionalId) → SFits w32 a → NarrowId o → NarrowId (cond b o (Given a))
+unless_narrow : (b : Bool) (a : ℤ) (o : OptionalId) → SFits w32 a → NarrowId o → NarrowId (cond b o (Some a))
 unless_narrow true a o h g = g
 unless_narrow false a o h g = h
 
 resistance_narrow : (f : Fit) (o : Item) (e : DogmaEffect) → SFits w32 e.resistance_attribute_id → NarrowId (resistance_of f o e)
 resistance_narrow f o e h =
-    unless_narrow (eq_z (named f o) (pos 0)) (named f o) (unless_zero e.resistance_attribute_id Absent) (named_narrow (get_base f o remote_resistance))
-    (unless_narrow (eq_z e.resistance_attribute_id (pos 0)) e.resistance_attribute_id Absent h tt)
+    unless_narrow (eq_z (named f o) (pos 0)) (named f o) (unless_zero e.resistance_attribute_id None) (named_narrow (get_base f o remote_resistance))
+    (unless_narrow (eq_z e.resistance_attribute_id (pos 0)) e.resistance_attribute_id None h tt)
 
 -- ---- by what an effect is collected for
 
@@ -101,14 +101,14 @@ module _ (book fit : List ℕ) (pairs : List (List ℕ)) where
   buff_narrow b l = subst (λ (x : ProjectedBuff). SFits w32 x.id) (sym (buff_read fit pairs l)) (read_narrow (record_at fit pairs 9 l.at) 0)
 
   origin_narrow : (m : DogmaModifier) → Member k.modifiers m → (c : Cause) → Caused k f c → NarrowOrigin (origin_of c m)
-  origin_narrow m l (cause.Own w e c) h = (effect_narrow e h.1, modifying_narrow m l)
-  origin_narrow m l (cause.Projected w e c r) h = (effect_narrow e h.1, modifying_narrow m l)
-  origin_narrow m l (cause.Buff b o) h = buff_narrow b h
+  origin_narrow m l (cause.own w e c) h = (effect_narrow e h.1, modifying_narrow m l)
+  origin_narrow m l (cause.projected w e c r) h = (effect_narrow e h.1, modifying_narrow m l)
+  origin_narrow m l (cause.buff b o) h = buff_narrow b h
 
   met_narrow : (c : Cause) → Caused k f c → NarrowId (met_by f c)
-  met_narrow (cause.Own w e c) h = tt
-  met_narrow (cause.Projected w e c r) h = resistance_narrow f w.item e (effect_resistance e h.1)
-  met_narrow (cause.Buff b o) h = tt
+  met_narrow (cause.own w e c) h = tt
+  met_narrow (cause.projected w e c r) h = resistance_narrow f w.item e (effect_resistance e h.1)
+  met_narrow (cause.buff b o) h = tt
 
   module _ (s : SoundFit fit pairs) where
     bounded : (t : Pass2Effect) → Collects k f t → Bounded (length f.objects) t

@@ -1,4 +1,5 @@
 -- Every effect that collection takes comes of a modifier of table 3, for an object and its effect or for a buff.
+use Rattle.std.specs.Prelude.{None}
 use Prim.Native.Nat.{ℕ, zero, suc, suc-le-suc, zero-le}
 use native.Mathlib.Omega.{arith}
 use mathlib.Core.Path.{◌≡◌, refl, sym, subst, ◌∙◌}
@@ -13,7 +14,7 @@ use Rattle.rules.specs.Bytes.{record_at}
 use Rattle.rules.specs.Sheet.{Book, Fit, table, book_of, fit_of, effect_from, modifier_from, buff_from}
 use Rattle.rules.proofs.Tables.{table_at, table-length}
 use Rattle.rules.specs.Info.{get_dogma_effect, get_dbuff_collection}
-use Rattle.rules.specs.Item.{is_item, is_charge, is_skill, is_projected, has_charge, item_of, char_of, structure_fit, passed, category_on, effects_of}
+use Rattle.rules.specs.Item.{is_item, is_charge, is_skill, is_projected, item_of, char_of, structure_fit, passed, category_on, effects_of}
 use Rattle.rules.specs.Collect.{Move, Test, go, over, bad, in_use, test_operation, modifier_moves, projected_modifier_moves, buff_modifier_moves, found_moves, effect_moves, own_moves, projected_moves, buff_moves, fitted_moves, moves}
 use Rattle.rules.specs.declared.DbuffCollection.{DbuffCollection}
 use Rattle.rules.specs.declared.DogmaEffect.{DogmaEffect}
@@ -21,14 +22,14 @@ use Rattle.rules.specs.declared.DogmaModifier.{DogmaModifier}
 use Rattle.rules.specs.declared.EffectCategory.{EffectCategory}
 use Rattle.rules.specs.declared.EffectOperator.{EffectOperator}
 use Rattle.rules.specs.declared.Item.{Item}
-use Rattle.rules.specs.declared.OptionalId.TheVariants.{Absent}
 use Rattle.rules.specs.declared.Pass2Effect.{Pass2Effect}
 use Rattle.rules.specs.declared.ProjectedBuff.{ProjectedBuff}
 use Rattle.rules.specs.declared.TypeDogmaEffect.{TypeDogmaEffect}
-use Rattle.modifier.specs.declared.causes.Cause.{Cause}
-use Rattle.modifier.specs.declared.causes.Cause.TheVariants as cause
+use Rattle.modifier.specs.Causes.{Cause}
+use Rattle.modifier.specs.Causes as cause
 use Rattle.modifier.specs.declared.codes.Owner.{Owner}
 use Rattle.modifier.specs.Causes.{cause_moves}
+use Rattle.modifier.specs.Tests.{other_in}
 use Rattle.collect.specs.Takes.{Each, Of, Member, Caused, Collects}
 use Rattle.collect.proofs.Gives.{given, found, found_is, no_effect_lem, an_effect, projected_none, projected_bad, projected_modifiers, buff_after, buff_none, buff_some}
 use Rattle.collect.proofs.Taking.{each_append, each_unless, each_weaker, each_taken}
@@ -90,12 +91,12 @@ module _ (k : Book) (f : Fit) where
       each_weaker (Of f c m) (Collects k f) (λ t o. record { cause = c; modifier = m; of = o; listed = l; caused = a }) (cause_moves k f c m) (each_taken f m k c)
 
   abbrev owner_of : Item → Owner
-  owner_of o = record { item = o; charged = has_charge f o; other = cond (is_item o) (suc o.number) (item_of f o).number; structure = structure_fit f; character = char_of f }
+  owner_of o = record { item = o; other = other_in f o; structure = structure_fit f; character = char_of f }
 
   module _ (o : Item) (n : Member f.objects o) where
     module _ (e : DogmaEffect) (i : Member k.effects e) where
       own : (c : EffectCategory) → Here (flat (modifier_moves k f o e c) (span e.first_modifier e.modifiers k.modifiers))
-      own c = each_span (Collects k f) (modifier_moves k f o e c) e.first_modifier e.modifiers k.modifiers (λ m l. of_cause (cause.Own (owner_of o) e c) (n, i) m l)
+      own c = each_span (Collects k f) (modifier_moves k f o e c) e.first_modifier e.modifiers k.modifiers (λ m l. of_cause (cause.own (owner_of o) e c) (n, i) m l)
 
       of_given : (t : TypeDogmaEffect) (c : EffectCategory) (m : ℕ) → Here (given k f o t e c m)
       of_given t c zero = tt
@@ -125,7 +126,7 @@ module _ (k : Book) (f : Fit) where
     category_all e none h i g = subst Here (projected_bad k f o e h g) tt
     category_all e (some c) h i g =
         subst Here (projected_modifiers k f o e c h g)
-        (each_span (Collects k f) (projected_modifier_moves f o e c) e.first_modifier e.modifiers k.modifiers (λ m l. of_cause (cause.Projected (owner_of o) e c Absent) (n, i) m l))
+        (each_span (Collects k f) (projected_modifier_moves f o e c) e.first_modifier e.modifiers k.modifiers (λ m l. of_cause (cause.projected (owner_of o) e c None) (n, i) m l))
 
     projected_by_lem : (x : Option DogmaEffect) → get_dogma_effect k o.projected_effect ≡ x → Here (projected_moves k f o)
     unfolding get_dogma_effect
@@ -135,7 +136,7 @@ module _ (k : Book) (f : Fit) where
   module _ (b : ProjectedBuff) (n : Member f.buffs b) where
     after-all : (r : DbuffCollection) (t : Test EffectOperator) → Here (buff_after k b r t)
     after-all r (go op) =
-        each_span (Collects k f) (buff_modifier_moves b op) r.first_modifier r.modifiers k.modifiers (λ m l. of_cause (cause.Buff b op) n m l)
+        each_span (Collects k f) (buff_modifier_moves b op) r.first_modifier r.modifiers k.modifiers (λ m l. of_cause (cause.buff b op) n m l)
     after-all r over = tt
     after-all r (bad x) = tt
 

@@ -1,8 +1,6 @@
 pub mod Case
 pub mod Gives
 pub mod Inside
-pub mod Resists
-pub mod Seeking
 pub mod Turns
 pub mod Own
 pub mod Neighbours

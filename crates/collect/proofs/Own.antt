@@ -6,7 +6,7 @@ use Rattle.laws.specs.Lists.{keep, flat}
 use Rattle.laws.proofs.Flat.{flat_keep, flat_map}
 use Rattle.rules.specs.Sheet.{Book, Fit}
 use Rattle.rules.specs.Info.{get_dogma_effects}
-use Rattle.rules.specs.Item.{mutated, effects_of}
+use Rattle.rules.specs.Item.{mutated}
 use Rattle.rules.specs.Collect.{effect_moves, own_moves}
 use Rattle.rules.specs.declared.Item.{Item}
 use Rattle.rules.specs.declared.TypeDogmaEffect.{TypeDogmaEffect}

@@ -15,8 +15,8 @@ use Rattle.rules.specs.declared.DogmaModifier.{DogmaModifier}
 use Rattle.rules.specs.declared.Item.{Item}
 use Rattle.rules.specs.declared.Pass2Effect.{Pass2Effect}
 use Rattle.rules.specs.declared.Refusal.TheVariants.{Domain, Other}
-use Rattle.modifier.specs.declared.causes.Cause.{Cause}
-use Rattle.modifier.specs.declared.causes.Cause.TheVariants as cause
+use Rattle.modifier.specs.Causes.{Cause}
+use Rattle.modifier.specs.Causes as cause
 use Rattle.collect.specs.Takes.{Goes, Of, Member, Caused, Collects, origin_of}
 use Rattle.collect.proofs.Taking.{goes_if, goes_cond}
 
@@ -64,14 +64,14 @@ module _ (f : Fit) (char : char_of f < length f.objects) (numbered : (i : ℕ) �
 
   module _ (k : Book) (t : Pass2Effect) where
     aimed_in : (c : Cause) (m : DogmaModifier) → Caused k f c → Of f c m t → In t.target
-    aimed_in (cause.Own w e c) m a o = subst (Goes In) o.aim (own_in w.item m (object_in_lem w.item a.0) o.met)
-    aimed_in (cause.Projected w e c r) m a o = subst (Goes In) o.aim (projected_in m)
-    aimed_in (cause.Buff b op) m a o = subst (Goes In) o.aim first_in_lem
+    aimed_in (cause.own w e c) m a o = subst (Goes In) o.aim (own_in w.item m (object_in_lem w.item a.0) o.met)
+    aimed_in (cause.projected w e c r) m a o = subst (Goes In) o.aim (projected_in m)
+    aimed_in (cause.buff b op) m a o = subst (Goes In) o.aim first_in_lem
 
     from_in : (c : Cause) (m : DogmaModifier) → Caused k f c → In (get_or (origin_numbers (origin_of c m)) 2 0)
-    from_in (cause.Own w e c) m a = object_in_lem w.item a.0
-    from_in (cause.Projected w e c r) m a = object_in_lem w.item a.0
-    from_in (cause.Buff b op) m a = first_in_lem
+    from_in (cause.own w e c) m a = object_in_lem w.item a.0
+    from_in (cause.projected w e c r) m a = object_in_lem w.item a.0
+    from_in (cause.buff b op) m a = first_in_lem
 
     pub target_in : Collects k f t → t.target < length f.objects
     target_in c = aimed_in c.cause c.modifier c.caused c.of

@@ -1,4 +1,5 @@
 -- Every effect that a modifier gives is of that modifier, and of what it is collected for.
+use Rattle.std.specs.Prelude.{None}
 use Prim.Native.Nat.{ℕ, zero, suc, ◌<◌}
 use native.Mathlib.Nat.{not-suc-le-zero, le_of_suc-le-suc}
 use mathlib.Core.Path.{◌≡◌, refl, subst}
@@ -17,13 +18,12 @@ use Rattle.rules.specs.declared.Pass2Effect.{Pass2Effect}
 use Rattle.rules.specs.declared.DogmaEffect.{DogmaEffect}
 use Rattle.rules.specs.declared.EffectCategory.{EffectCategory}
 use Rattle.rules.specs.declared.EffectOperator.{EffectOperator}
-use Rattle.rules.specs.declared.OptionalId.{OptionalId}
-use Rattle.rules.specs.declared.OptionalId.TheVariants.{Absent}
+use Rattle.rules.specs.Ids.{OptionalId}
 use Rattle.rules.specs.declared.ProjectedBuff.{ProjectedBuff}
 use Rattle.rules.specs.declared.Refusal.TheVariants.{Func}
 use Rattle.modifier.specs.declared.codes.Owner.{Owner}
-use Rattle.modifier.specs.declared.causes.Cause.{Cause}
-use Rattle.modifier.specs.declared.causes.Cause.TheVariants as cause
+use Rattle.modifier.specs.Causes.{Cause}
+use Rattle.modifier.specs.Causes as cause
 use Rattle.modifier.specs.Tests.{own_target}
 use Rattle.modifier.specs.Causes.{cause_moves, effect_of, resistance_of}
 use Rattle.collect.specs.Takes.{Each, Goes, Of, origin_of, aim_of, unmet, met_by}
@@ -69,28 +69,28 @@ module _ (f : Fit) (m : DogmaModifier) where
   one : (c : Cause) (t : Pass2Effect) → test_func m ≡ go t.modifier → aim_of f c m ≡ go t.target → unmet f c m ≡ false → t.target_attribute_id ≡ m.modified_attribute_id → t.origin ≡ origin_of c m → t.resistance ≡ met_by f c → Each (Of f c m) (taken t ∷ [])
   one c t h j u a o r = (record { func = h; aim = j; met = u; attribute = a; origin = o; resistance = r }, tt)
 
-  own_each : (k : Book) (w : Owner) (e : DogmaEffect) (c : EffectCategory) → Each (Of f (cause.Own w e c) m) (modifier_moves k f w.item e c m)
+  own_each : (k : Book) (w : Owner) (e : DogmaEffect) (c : EffectCategory) → Each (Of f (cause.own w e c) m) (modifier_moves k f w.item e c m)
   unfolding modifier_moves
   own_each k w e c =
-      let P = Of f (cause.Own w e c) m in
-      let T : Modifier → EffectOperator → ℕ → Pass2Effect = λ func op n. effect_of w.item e m (source_of w.item e m c) Absent func op n in
-      each_then P (test_func m) _ (λ func h. each_then P (test_operation m.operation m.number) _ (λ op i. each_own_target P f w.item m (λ n. taken (T func op n) ∷ []) (λ n j u. one (cause.Own w e c) (T func op n) h j u refl refl refl)))
+      let P = Of f (cause.own w e c) m in
+      let T : Modifier → EffectOperator → ℕ → Pass2Effect = λ func op n. effect_of w.item e m (source_of w.item e m c) None func op n in
+      each_then P (test_func m) _ (λ func h. each_then P (test_operation m.operation m.number) _ (λ op i. each_own_target P f w.item m (λ n. taken (T func op n) ∷ []) (λ n j u. one (cause.own w e c) (T func op n) h j u refl refl refl)))
 
-  projected_each : (w : Owner) (e : DogmaEffect) (c : EffectCategory) (r : OptionalId) → Each (Of f (cause.Projected w e c r) m) (projected_modifier_moves f w.item e c m)
+  projected_each : (w : Owner) (e : DogmaEffect) (c : EffectCategory) (r : OptionalId) → Each (Of f (cause.projected w e c r) m) (projected_modifier_moves f w.item e c m)
   unfolding projected_modifier_moves
   projected_each w e c r =
-      let P = Of f (cause.Projected w e c r) m in
+      let P = Of f (cause.projected w e c r) m in
       let T : Modifier → EffectOperator → ℕ → Pass2Effect = λ func op n. effect_of w.item e m c (resistance_of f w.item e) func op n in
-      each_then P (test_projected_domain f m) _ (λ n j. each_then P (test_func m) _ (λ func h. each_then P (test_operation m.operation m.number) (λ op. taken (T func op n) ∷ []) (λ op i. one (cause.Projected w e c r) (T func op n) h j refl refl refl refl)))
+      each_then P (test_projected_domain f m) _ (λ n j. each_then P (test_func m) _ (λ func h. each_then P (test_operation m.operation m.number) (λ op. taken (T func op n) ∷ []) (λ op i. one (cause.projected w e c r) (T func op n) h j refl refl refl refl)))
 
-  buff_each : (b : ProjectedBuff) (op : EffectOperator) → Each (Of f (cause.Buff b op) m) (buff_modifier_moves b op m)
+  buff_each : (b : ProjectedBuff) (op : EffectOperator) → Each (Of f (cause.buff b op) m) (buff_modifier_moves b op m)
   unfolding buff_modifier_moves
-  buff_each b op = each_then (Of f (cause.Buff b op) m) (test_func m) _ (λ func h. one (cause.Buff b op) _ h refl refl refl refl refl)
+  buff_each b op = each_then (Of f (cause.buff b op) m) (test_func m) _ (λ func h. one (cause.buff b op) _ h refl refl refl refl refl)
 
   pub each_taken : (k : Book) (c : Cause) → Each (Of f c m) (cause_moves k f c m)
-  each_taken k (cause.Own w e c) = own_each k w e c
-  each_taken k (cause.Projected w e c r) = projected_each w e c r
-  each_taken k (cause.Buff b op) = buff_each b op
+  each_taken k (cause.own w e c) = own_each k w e c
+  each_taken k (cause.projected w e c r) = projected_each w e c r
+  each_taken k (cause.buff b op) = buff_each b op
 
 -- what a test goes on with
 module _ {A : Type 0} (Q : A → Type 0) where

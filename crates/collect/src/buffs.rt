@@ -12,12 +12,12 @@ ghost use Rattle.modifier.specs.Ran.{Lent, RunsCollected};
 use super::collecting::collect_modifiers;
 use columns::{CollectedRow, TABLE_BUFFS, TablePairs};
 use info::header::count_of;
-use info::look_ups::{FoundCollection, get_dbuff_collection};
+use info::look_ups::get_dbuff_collection;
 use info::records::projected_buff;
-use modifier::causes::Cause;
-use modifier::codes::{OperationTest, get_effect_operator};
-use modifier::moves::{CollectedRooms, Counted};
-use rules::{DbuffCollection, ProjectedBuff};
+use modifier::causes::buff_move;
+use modifier::codes::get_effect_operator;
+use modifier::moves::{CollectedCounts, CollectedRooms};
+use rules::{DbuffCollection, ProjectedBuff, Refusal};
 
 // A buff whose collection was found: operation before any modifier.
 pub fn collect_collection(
@@ -26,37 +26,31 @@ pub fn collect_collection(
     book: &[u8],
     pairs: &TablePairs,
     rooms: CollectedRooms,
-    used: usize,
-    used_plain: usize,
+    used: CollectedCounts,
     b: ProjectedBuff,
     found: DbuffCollection,
-) -> Counted
+) -> Result<CollectedCounts, Refusal>
     requires lent { Lent rooms collected.old collected_values.old }
     requires held_book { HeldBook book.now pairs.now }
     requires inside { found.first_modifier + found.modifiers ≤ count_of pairs.now 3 }
     ensures defined { get_dbuff_collection (book_at book pairs) b.id ≡ some found
-        → RunsCollected rooms result used used_plain (buff_moves (book_at book pairs) b) collected collected_values }
+        → RunsCollected rooms result used (buff_moves (book_at book pairs) b) collected collected_values }
 {
-    let tested = get_effect_operator(found.operation, found.number);
-    match tested {
-        OperationTest::Go(operator) => {
-            let cause = Cause::Buff(b, operator);
-            collect_modifiers(
-                collected,
-                collected_values,
-                book,
-                pairs,
-                rooms,
-                used,
-                used_plain,
-                cause,
-                found.first_modifier,
-                found.modifiers,
-            )
-        }
-        OperationTest::Over => Counted::At(used, used_plain),
-        OperationTest::Bad(x) => Counted::Refused(x),
-    }
+    let Some(operator) = get_effect_operator(found.operation, found.number)? else {
+        return Ok(used);
+    };
+    let gives = |m| buff_move(b, operator, m);
+    collect_modifiers(
+        collected,
+        collected_values,
+        book,
+        pairs,
+        rooms,
+        used,
+        found.first_modifier,
+        found.modifiers,
+        gives,
+    )
 }
 
 // A buff; one without a collection is passed over.
@@ -66,29 +60,26 @@ fn collect_buff(
     book: &[u8],
     pairs: &TablePairs,
     rooms: CollectedRooms,
-    used: usize,
-    used_plain: usize,
+    used: CollectedCounts,
     b: ProjectedBuff,
-) -> Counted
+) -> Result<CollectedCounts, Refusal>
     requires lent { Lent rooms collected.old collected_values.old }
     requires sound_book { SoundBook book.now pairs.now }
-    ensures defined { RunsCollected rooms result used used_plain (buff_moves (book_at book pairs) b) collected collected_values }
+    ensures defined { RunsCollected rooms result used (buff_moves (book_at book pairs) b) collected collected_values }
 {
-    let found = get_dbuff_collection(book, pairs, b.id);
-    match found {
-        FoundCollection::At(r) => collect_collection(
-            collected,
-            collected_values,
-            book,
-            pairs,
-            rooms,
-            used,
-            used_plain,
-            b,
-            r,
-        ),
-        FoundCollection::Nothing => Counted::At(used, used_plain),
-    }
+    let Some(found) = get_dbuff_collection(book, pairs, b.id) else {
+        return Ok(used);
+    };
+    collect_collection(
+        collected,
+        collected_values,
+        book,
+        pairs,
+        rooms,
+        used,
+        b,
+        found,
+    )
 }
 
 // All buffs of the fit, in order.
@@ -99,29 +90,16 @@ pub fn collect_buffs(
     fit: &[u8],
     pairs: &TablePairs,
     rooms: CollectedRooms,
-    used: usize,
-    used_plain: usize,
-) -> Counted
+    mut used: CollectedCounts,
+) -> Result<CollectedCounts, Refusal>
     requires lent { Lent rooms collected.old collected_values.old }
     requires sound_book { SoundBook book.now pairs.now }
     requires held_fit { HeldFit fit.now pairs.now }
-    ensures defined { RunsCollected rooms result used used_plain (flat (buff_moves (book_at book pairs)) (fit_at fit pairs).buffs) collected collected_values }
+    ensures defined { RunsCollected rooms result used (flat (buff_moves (book_at book pairs)) (fit_at fit pairs).buffs) collected collected_values }
 {
-    let mut a = used;
-    let mut b = used_plain;
-    let mut i = 0;
-    let end = count_of(pairs, TABLE_BUFFS);
-    while i < end {
-        let x = projected_buff(fit, pairs, i);
-        i += 1;
-        let got = collect_buff(collected, collected_values, book, pairs, rooms, a, b, x);
-        match got {
-            Counted::At(k, l) => {
-                a = k;
-                b = l;
-            }
-            Counted::Refused(y) => return Counted::Refused(y),
-        }
+    for i in 0..count_of(pairs, TABLE_BUFFS) {
+        let b = projected_buff(fit, pairs, i);
+        used = collect_buff(collected, collected_values, book, pairs, rooms, used, b)?;
     }
-    Counted::At(a, b)
+    Ok(used)
 }

@@ -9,16 +9,16 @@ ghost use Rattle.modifier.specs.Tests.{OwnerOf};
 ghost use Rattle.modifier.specs.Ran.{AllLent, Runs};
 ghost use Rattle.collect.specs.OfFit.{OfFit};
 
-use super::collecting::collect_own;
+use super::collecting::collect_modifiers;
 use super::uses::is_used;
 use columns::{CollectedRow, EffectPlaces, PlainRow, TablePairs};
-use info::look_ups::{FoundEffect, get_dogma_effect, get_dogma_effects};
-use item::CategoryFound;
+use info::look_ups::{get_dogma_effect, get_dogma_effects};
 use item::codes::category_at;
-use item::kinds::mutated;
+use item::kinds::mutation_base;
 use item::states::category_on;
+use modifier::causes::own_move;
 use modifier::codes::Owner;
-use modifier::moves::{CollectedRooms, Counted, push_plain};
+use modifier::moves::{CollectedCounts, CollectedRooms, push_plain};
 use rules::{DogmaEffect, Refusal, TypeDogmaEffect};
 use states::{base_effects, effect_at, is_doubled};
 
@@ -31,47 +31,40 @@ fn collect_found(
     fit: &[u8],
     pairs: &TablePairs,
     rooms: CollectedRooms,
-    used: usize,
-    used_plain: usize,
+    used: CollectedCounts,
     w: Owner,
     t: TypeDogmaEffect,
     e: DogmaEffect,
-) -> Counted
+) -> Result<CollectedCounts, Refusal>
     requires lent { AllLent rooms collected.old collected_values.old plain.old }
     requires held_book { HeldBook book.now pairs.now }
     requires sound_fit { SoundFit fit.now pairs.now }
     requires of_fit { OfFit (fit_of fit.now pairs.now) w.item }
     requires owner { OwnerOf (fit_of fit.now pairs.now) w }
     requires inside { e.first_modifier + e.modifiers ≤ count_of pairs.now 3 }
-    ensures defined { Runs rooms result used used_plain (found_moves (book_at book pairs) (fit_at fit pairs) w.item t e) collected collected_values plain }
+    ensures defined { Runs rooms result used (found_moves (book_at book pairs) (fit_at fit pairs) w.item t e) collected collected_values plain }
 {
     let o = w.item;
-    let found = category_at(e.category);
-    match found {
-        CategoryFound::At(category) => {
-            let on = category_on(o, category);
-            let in_use = is_used(fit, pairs, o, e, t, on);
-            if in_use {
-                if e.modifiers == 0 {
-                    return push_plain(plain, rooms, used, used_plain, o.number, e.id);
-                }
-                return collect_own(
-                    collected,
-                    collected_values,
-                    book,
-                    pairs,
-                    rooms,
-                    used,
-                    used_plain,
-                    w,
-                    e,
-                    on,
-                );
-            }
-            Counted::At(used, used_plain)
-        }
-        CategoryFound::Nothing => Counted::Refused(Refusal::Category(e.number)),
+    let category = category_at(e.category).ok_or(Refusal::Category(e.number))?;
+    let on = category_on(o, category);
+    if !is_used(fit, pairs, o, e, t, on) {
+        return Ok(used);
     }
+    if e.modifiers == 0 {
+        return push_plain(plain, rooms, used, o.number, e.id);
+    }
+    let gives = |m| own_move(w, e, on, m);
+    collect_modifiers(
+        collected,
+        collected_values,
+        book,
+        pairs,
+        rooms,
+        used,
+        e.first_modifier,
+        e.modifiers,
+        gives,
+    )
 }
 
 // A missing effect is passed over.
@@ -84,36 +77,33 @@ fn collect_effect(
     pairs: &TablePairs,
     places: &EffectPlaces,
     rooms: CollectedRooms,
-    used: usize,
-    used_plain: usize,
+    used: CollectedCounts,
     w: Owner,
     t: TypeDogmaEffect,
-) -> Counted
+) -> Result<CollectedCounts, Refusal>
     requires lent { AllLent rooms collected.old collected_values.old plain.old }
     requires sound_book { SoundBook book.now pairs.now }
     requires sound_fit { SoundFit fit.now pairs.now }
     requires of_fit { OfFit (fit_of fit.now pairs.now) w.item }
     requires owner { OwnerOf (fit_of fit.now pairs.now) w }
-    ensures defined { Runs rooms result used used_plain (effect_moves (book_at book pairs) (fit_at fit pairs) w.item t) collected collected_values plain }
+    ensures defined { Runs rooms result used (effect_moves (book_at book pairs) (fit_at fit pairs) w.item t) collected collected_values plain }
 {
-    let found = get_dogma_effect(book, pairs, places, t.effect_id);
-    match found {
-        FoundEffect::At(e) => collect_found(
-            collected,
-            collected_values,
-            plain,
-            book,
-            fit,
-            pairs,
-            rooms,
-            used,
-            used_plain,
-            w,
-            t,
-            e,
-        ),
-        FoundEffect::Nothing => Counted::At(used, used_plain),
-    }
+    let Some(e) = get_dogma_effect(book, pairs, places, t.effect_id) else {
+        return Ok(used);
+    };
+    collect_found(
+        collected,
+        collected_values,
+        plain,
+        book,
+        fit,
+        pairs,
+        rooms,
+        used,
+        w,
+        t,
+        e,
+    )
 }
 
 // Own type effects first, then base effects whose id the type lacks.
@@ -126,30 +116,24 @@ pub fn collect_effects(
     pairs: &TablePairs,
     places: &EffectPlaces,
     rooms: CollectedRooms,
-    used: usize,
-    used_plain: usize,
+    mut used: CollectedCounts,
     w: Owner,
-) -> Counted
+) -> Result<CollectedCounts, Refusal>
     requires lent { AllLent rooms collected.old collected_values.old plain.old }
     requires sound_book { SoundBook book.now pairs.now }
     requires sound_fit { SoundFit fit.now pairs.now }
     requires of_fit { OfFit (fit_of fit.now pairs.now) w.item }
     requires owner { OwnerOf (fit_of fit.now pairs.now) w }
-    ensures defined { Runs rooms result used used_plain (own_moves (book_at book pairs) (fit_at fit pairs) w.item) collected collected_values plain }
+    ensures defined { Runs rooms result used (own_moves (book_at book pairs) (fit_at fit pairs) w.item) collected collected_values plain }
 {
     let o = w.item;
     let own = get_dogma_effects(book, pairs, places, o.type_id);
-    let base = base_effects(book, pairs, places, mutated(o), o.mutation_base);
+    let base = base_effects(book, pairs, places, mutation_base(o));
     let total = own.count + base.count;
-    let mut a = used;
-    let mut b = used_plain;
-    let mut i = 0;
-    while i < total {
+    for i in 0..total {
         let t = effect_at(book, pairs, own, base, i);
-        let over = is_doubled(book, pairs, own, i, t);
-        i += 1;
-        if !over {
-            let got = collect_effect(
+        if !is_doubled(book, pairs, own, i, t) {
+            used = collect_effect(
                 collected,
                 collected_values,
                 plain,
@@ -158,19 +142,11 @@ pub fn collect_effects(
                 pairs,
                 places,
                 rooms,
-                a,
-                b,
+                used,
                 w,
                 t,
-            );
-            match got {
-                Counted::At(k, j) => {
-                    a = k;
-                    b = j;
-                }
-                Counted::Refused(x) => return Counted::Refused(x),
-            }
+            )?;
         }
     }
-    Counted::At(a, b)
+    Ok(used)
 }

@@ -20,8 +20,8 @@ use info::header::count_of;
 use info::records::object;
 use info::standing::spans_of;
 use item::kinds::{is_charge, is_item, is_projected, is_skill};
-use modifier::moves::{CollectedRooms, Counted};
-use rules::{CHAR, Item};
+use modifier::moves::{CollectedCounts, CollectedRooms};
+use rules::{CHAR, Item, Refusal};
 use states::is_passed_over;
 
 // Whether an object is collected in a phase.
@@ -46,27 +46,23 @@ fn collect_object(
     pairs: &TablePairs,
     places: &EffectPlaces,
     rooms: CollectedRooms,
-    used: usize,
-    used_plain: usize,
+    used: CollectedCounts,
     hull: Hull,
     phase: Phase,
     o: Item,
-) -> Counted
+) -> Result<CollectedCounts, Refusal>
     requires lent { AllLent rooms collected.old collected_values.old plain.old }
     requires sound_book { SoundBook book.now pairs.now }
     requires sound_fit { SoundFit fit.now pairs.now }
     requires hull_of_fit { HullOf (book_of book.now pairs.now) (fit_of fit.now pairs.now) hull }
     requires of_fit { OfFit (fit_of fit.now pairs.now) o }
-    ensures defined { Runs rooms result used used_plain (object_moves (book_at book pairs) (fit_at fit pairs) phase o) collected collected_values plain }
+    ensures defined { Runs rooms result used (object_moves (book_at book pairs) (fit_at fit pairs) phase o) collected collected_values plain }
 {
-    let inside = in_phase(phase, o);
-    if !inside {
-        return Counted::At(used, used_plain);
+    if !in_phase(phase, o) {
+        return Ok(used);
     }
-    let categories = hull.categories;
-    let over = is_passed_over(fit, pairs, categories, hull.structure, o);
-    if over {
-        return Counted::At(used, used_plain);
+    if is_passed_over(fit, pairs, hull.categories, hull.structure, o) {
+        return Ok(used);
     }
     let w = owner_of(fit, pairs, hull, o);
     if is_projected(o) {
@@ -79,7 +75,6 @@ fn collect_object(
             places,
             rooms,
             used,
-            used_plain,
             w,
         );
     }
@@ -93,7 +88,6 @@ fn collect_object(
         places,
         rooms,
         used,
-        used_plain,
         w,
     )
 }
@@ -108,27 +102,22 @@ fn collect_objects(
     pairs: &TablePairs,
     places: &EffectPlaces,
     rooms: CollectedRooms,
-    used: usize,
-    used_plain: usize,
+    mut used: CollectedCounts,
     hull: Hull,
     phase: Phase,
     first: usize,
     end: usize,
-) -> Counted
+) -> Result<CollectedCounts, Refusal>
     requires lent { AllLent rooms collected.old collected_values.old plain.old }
     requires sound_book { SoundBook book.now pairs.now }
     requires sound_fit { SoundFit fit.now pairs.now }
     requires hull_of_fit { HullOf (book_of book.now pairs.now) (fit_of fit.now pairs.now) hull }
     requires ranged { Ranged (fit_of fit.now pairs.now) phase first end }
-    ensures defined { Runs rooms result used used_plain (all_of (book_at book pairs) (fit_at fit pairs) phase) collected collected_values plain }
+    ensures defined { Runs rooms result used (all_of (book_at book pairs) (fit_at fit pairs) phase) collected collected_values plain }
 {
-    let mut a = used;
-    let mut b = used_plain;
-    let mut i = first;
-    while i < end {
+    for i in first..end {
         let o = object(fit, pairs, i);
-        i += 1;
-        let got = collect_object(
+        used = collect_object(
             collected,
             collected_values,
             plain,
@@ -137,21 +126,13 @@ fn collect_objects(
             pairs,
             places,
             rooms,
-            a,
-            b,
+            used,
             hull,
             phase,
             o,
-        );
-        match got {
-            Counted::At(k, j) => {
-                a = k;
-                b = j;
-            }
-            Counted::Refused(x) => return Counted::Refused(x),
-        }
+        )?;
     }
-    Counted::At(a, b)
+    Ok(used)
 }
 
 // Two phases, one after the other: the early one before the skills, the late one in its range.
@@ -164,24 +145,23 @@ fn collect_phases(
     pairs: &TablePairs,
     places: &EffectPlaces,
     rooms: CollectedRooms,
-    used: usize,
-    used_plain: usize,
+    used: CollectedCounts,
     hull: Hull,
     early: Phase,
     late: Phase,
     skills: usize,
     first: usize,
     end: usize,
-) -> Counted
+) -> Result<CollectedCounts, Refusal>
     requires lent { AllLent rooms collected.old collected_values.old plain.old }
     requires sound_book { SoundBook book.now pairs.now }
     requires sound_fit { SoundFit fit.now pairs.now }
     requires hull_of_fit { HullOf (book_of book.now pairs.now) (fit_of fit.now pairs.now) hull }
     requires ranged { (Ranged (fit_of fit.now pairs.now) early 0 skills) × (Ranged (fit_of fit.now pairs.now) late first end) }
     ensures defined { let both = all_of (book_at book pairs) (fit_at fit pairs) early ++ all_of (book_at book pairs) (fit_at fit pairs) late in
-        Runs rooms result used used_plain both collected collected_values plain }
+        Runs rooms result used both collected collected_values plain }
 {
-    let got = collect_objects(
+    let used = collect_objects(
         collected,
         collected_values,
         plain,
@@ -191,31 +171,26 @@ fn collect_phases(
         places,
         rooms,
         used,
-        used_plain,
         hull,
         early,
         0,
         skills,
-    );
-    match got {
-        Counted::At(a, b) => collect_objects(
-            collected,
-            collected_values,
-            plain,
-            book,
-            fit,
-            pairs,
-            places,
-            rooms,
-            a,
-            b,
-            hull,
-            late,
-            first,
-            end,
-        ),
-        Counted::Refused(x) => Counted::Refused(x),
-    }
+    )?;
+    collect_objects(
+        collected,
+        collected_values,
+        plain,
+        book,
+        fit,
+        pairs,
+        places,
+        rooms,
+        used,
+        hull,
+        late,
+        first,
+        end,
+    )
 }
 
 // The buffs, items each with its charge, and skills.
@@ -228,54 +203,35 @@ fn collect_rest(
     pairs: &TablePairs,
     places: &EffectPlaces,
     rooms: CollectedRooms,
-    used: usize,
-    used_plain: usize,
+    used: CollectedCounts,
     hull: Hull,
     skills: usize,
-) -> Counted
+) -> Result<CollectedCounts, Refusal>
     requires lent { AllLent rooms collected.old collected_values.old plain.old }
     requires sound_book { SoundBook book.now pairs.now }
     requires sound_fit { SoundFit fit.now pairs.now }
     requires hull_of_fit { HullOf (book_of book.now pairs.now) (fit_of fit.now pairs.now) hull }
     requires skills_last { SkillsFrom (fit_of fit.now pairs.now) skills }
-    ensures defined { Runs rooms result used used_plain (rest_of (book_at book pairs) (fit_at fit pairs)) collected collected_values plain }
+    ensures defined { Runs rooms result used (rest_of (book_at book pairs) (fit_at fit pairs)) collected collected_values plain }
 {
-    let got = collect_buffs(
+    let used = collect_buffs(collected, collected_values, book, fit, pairs, rooms, used)?;
+    collect_phases(
         collected,
         collected_values,
+        plain,
         book,
         fit,
         pairs,
+        places,
         rooms,
         used,
-        used_plain,
-    );
-    match got {
-        Counted::At(a, b) => {
-            let early = Phase::Fitted;
-            let late = Phase::Skills;
-            let objects = count_of(pairs, TABLE_OBJECTS);
-            collect_phases(
-                collected,
-                collected_values,
-                plain,
-                book,
-                fit,
-                pairs,
-                places,
-                rooms,
-                a,
-                b,
-                hull,
-                early,
-                late,
-                skills,
-                skills,
-                objects,
-            )
-        }
-        Counted::Refused(x) => Counted::Refused(x),
-    }
+        hull,
+        Phase::Fitted,
+        Phase::Skills,
+        skills,
+        skills,
+        count_of(pairs, TABLE_OBJECTS),
+    )
 }
 
 // Collection of a sound sheet into lists 1 and 4. After a refusal the columns may hold anything: who lent them clears them.
@@ -289,7 +245,7 @@ pub fn collect(
     places: &EffectPlaces,
     room: usize,
     room_plain: usize,
-) -> Counted
+) -> Result<CollectedCounts, Refusal>
     requires inside { (room ≤ length collected.old) × (room ≤ length collected_values.old) }
     requires plain_inside { room_plain ≤ length plain.old }
     requires sound_book { SoundBook book.now pairs.now }
@@ -302,11 +258,12 @@ pub fn collect(
         plain: room_plain,
     };
     let hull = hull_of(book, fit, pairs);
-    let spans = spans_of(fit, pairs);
-    let skills = spans.end;
-    let early = Phase::Front;
-    let late = Phase::Projected;
-    let got = collect_phases(
+    let skills = spans_of(fit, pairs).end;
+    let none = CollectedCounts {
+        collected: 0,
+        plain: 0,
+    };
+    let used = collect_phases(
         collected,
         collected_values,
         plain,
@@ -315,30 +272,25 @@ pub fn collect(
         pairs,
         places,
         rooms,
-        0,
-        0,
+        none,
         hull,
-        early,
-        late,
+        Phase::Front,
+        Phase::Projected,
         skills,
         0,
         skills,
-    );
-    match got {
-        Counted::At(a, b) => collect_rest(
-            collected,
-            collected_values,
-            plain,
-            book,
-            fit,
-            pairs,
-            places,
-            rooms,
-            a,
-            b,
-            hull,
-            skills,
-        ),
-        Counted::Refused(x) => Counted::Refused(x),
-    }
+    )?;
+    collect_rest(
+        collected,
+        collected_values,
+        plain,
+        book,
+        fit,
+        pairs,
+        places,
+        rooms,
+        used,
+        hull,
+        skills,
+    )
 }

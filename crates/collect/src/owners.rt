@@ -5,7 +5,7 @@ ghost use Rattle.rules.specs.Sheet.{Book, fit_of};
 ghost use Rattle.rules.specs.Item.{is_item, is_charge};
 ghost use Rattle.info.specs.At.{book_at, fit_at, object_at};
 ghost use Rattle.info.specs.Sound.{HeldFit, SoundFit};
-ghost use Rattle.modifier.specs.Tests.{OwnerOf};
+ghost use Rattle.modifier.specs.Tests.{OwnerOf, other_in};
 ghost use Rattle.collect.specs.OfFit.{OfFit};
 ghost use Rattle.collect.specs.Parts.{HullOf};
 
@@ -27,13 +27,10 @@ pub fn hull_of(book: &[u8], fit: &[u8], pairs: &TablePairs) -> Hull
     requires sound_fit { SoundFit fit.now pairs.now }
     ensures of_the_fit { HullOf (book_at book pairs) (fit_at fit pairs) result }
 {
-    let categories = categories_of(book, pairs);
-    let structure = is_structure_fit(fit, pairs);
-    let character = char_of(fit, pairs);
     Hull {
-        categories: categories,
-        structure: structure,
-        character: character,
+        categories: categories_of(book, pairs),
+        structure: is_structure_fit(fit, pairs),
+        character: char_of(fit, pairs),
     }
 }
 
@@ -43,25 +40,19 @@ fn is_charged(fit: &[u8], pairs: &TablePairs, number: u32) -> bool
     ensures defined { result ≡ is_charge (object_at fit pairs (suc number)) }
 {
     let next = index(number) + 1;
-    if next < count_of(pairs, TABLE_OBJECTS) {
-        let o = object(fit, pairs, next);
-        return is_charge(o);
-    }
-    false
+    next < count_of(pairs, TABLE_OBJECTS) && is_charge(object(fit, pairs, next))
 }
 
-// An item's charge stands after it, and a charge's item before it.
-fn beside(o: Item) -> u32
-    requires inside { o.number < 1024 }
-    ensures defined { result ≡ cond (is_item o) (suc o.number) (o.number - 1) }
+// An item's charge, if it has one, stands after it, and a charge's item before it.
+fn beside(fit: &[u8], pairs: &TablePairs, o: Item) -> Option<u32>
+    requires held_fit { HeldFit fit.now pairs.now }
+    requires of_fit { OfFit (fit_of fit.now pairs.now) o }
+    ensures defined { result ≡ other_in (fit_at fit pairs) o }
 {
     if is_item(o) {
-        return o.number + 1;
+        return is_charged(fit, pairs, o.number).then_some(o.number + 1);
     }
-    if o.number == 0 {
-        return 0;
-    }
-    o.number - 1
+    is_charge(o).then_some(o.number.saturating_sub(1))
 }
 
 // An object with what of the fit its modifiers go by.
@@ -70,12 +61,9 @@ pub fn owner_of(fit: &[u8], pairs: &TablePairs, hull: Hull, o: Item) -> Owner
     requires of_fit { OfFit (fit_of fit.now pairs.now) o }
     ensures of_the_fit { ((k : Book) → HullOf k (fit_at fit pairs) hull → OwnerOf (fit_at fit pairs) result) × (result.item ≡ o) }
 {
-    let charged = is_charged(fit, pairs, o.number);
-    let other = beside(o);
     Owner {
         item: o,
-        charged: charged,
-        other: other,
+        other: beside(fit, pairs, o),
         structure: hull.structure,
         character: hull.character,
     }

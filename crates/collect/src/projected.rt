@@ -14,23 +14,22 @@ ghost use Rattle.collect.specs.OfFit.{OfFit};
 
 use super::collecting::collect_modifiers;
 use columns::{CollectedRow, EffectPlaces, TablePairs};
-use info::look_ups::{FoundBase, FoundEffect, get_base, get_dogma_effect};
-use item::CategoryFound;
+use info::look_ups::{get_base, get_dogma_effect};
 use item::codes::category_at;
-use modifier::causes::Cause;
+use modifier::causes::projected_move;
 use modifier::codes::Owner;
-use modifier::moves::{CollectedRooms, Counted};
+use modifier::moves::{CollectedCounts, CollectedRooms};
 use numbers::integers::cut;
-use rules::{ATTRIBUTE_REMOTE_RESISTANCE_ID, DogmaEffect, Item, OptionalId, Refusal};
+use rules::{ATTRIBUTE_REMOTE_RESISTANCE_ID, DogmaEffect, Item, Refusal};
 
 // An id, or what it is where it is 0: 0 is none.
-fn unless_zero(id: i32, other: OptionalId) -> OptionalId
+fn unless_zero(id: i32, other: Option<i32>) -> Option<i32>
     ensures defined { result ≡ unless_zero id other }
 {
     if id == 0 {
         return other;
     }
-    OptionalId::Given(id)
+    Some(id)
 }
 
 // The resistance that attribute 2138 names.
@@ -39,22 +38,21 @@ fn named_resistance(fit: &[u8], pairs: &TablePairs, o: Item) -> i32
     requires based { Based (fit_of fit.now pairs.now) o }
     ensures defined { result ≡ named (fit_at fit pairs) o }
 {
-    let found = get_base(fit, pairs, o, ATTRIBUTE_REMOTE_RESISTANCE_ID);
-    let FoundBase::At(b) = found else {
-        return 0;
-    };
-    cut(b.value)
+    match get_base(fit, pairs, o, ATTRIBUTE_REMOTE_RESISTANCE_ID) {
+        Some(b) => cut(b.value),
+        None => 0,
+    }
 }
 
 // Attribute 2138 names it, or else the effect does.
-fn get_resistance(fit: &[u8], pairs: &TablePairs, o: Item, e: DogmaEffect) -> OptionalId
+fn get_resistance(fit: &[u8], pairs: &TablePairs, o: Item, e: DogmaEffect) -> Option<i32>
     requires held_fit { HeldFit fit.now pairs.now }
     requires based { Based (fit_of fit.now pairs.now) o }
     ensures defined { result ≡ resistance_of (fit_at fit pairs) o e }
 {
     let own = e.resistance_attribute_id;
     let named = named_resistance(fit, pairs, o);
-    let other = unless_zero(own, OptionalId::Absent);
+    let other = unless_zero(own, None);
     unless_zero(named, other)
 }
 
@@ -65,37 +63,30 @@ pub fn collect_projected_effect(
     book: &[u8],
     pairs: &TablePairs,
     rooms: CollectedRooms,
-    used: usize,
-    used_plain: usize,
+    used: CollectedCounts,
     w: Owner,
     e: DogmaEffect,
-    resistance: OptionalId,
-) -> Counted
+    resistance: Option<i32>,
+) -> Result<CollectedCounts, Refusal>
     requires lent { Lent rooms collected.old collected_values.old }
     requires held_book { HeldBook book.now pairs.now }
     requires inside { e.first_modifier + e.modifiers ≤ count_of pairs.now 3 }
     ensures defined { (f : Fit) → OwnerOf f w → resistance ≡ resistance_of f w.item e → get_dogma_effect (book_at book pairs) w.item.projected_effect ≡ some e
-        → RunsCollected rooms result used used_plain (projected_moves (book_at book pairs) f w.item) collected collected_values }
+        → RunsCollected rooms result used (projected_moves (book_at book pairs) f w.item) collected collected_values }
 {
-    let found = category_at(e.category);
-    match found {
-        CategoryFound::At(category) => {
-            let cause = Cause::Projected(w, e, category, resistance);
-            collect_modifiers(
-                collected,
-                collected_values,
-                book,
-                pairs,
-                rooms,
-                used,
-                used_plain,
-                cause,
-                e.first_modifier,
-                e.modifiers,
-            )
-        }
-        CategoryFound::Nothing => Counted::Refused(Refusal::Category(e.number)),
-    }
+    let category = category_at(e.category).ok_or(Refusal::Category(e.number))?;
+    let gives = |m| projected_move(w, e, category, resistance, m);
+    collect_modifiers(
+        collected,
+        collected_values,
+        book,
+        pairs,
+        rooms,
+        used,
+        e.first_modifier,
+        e.modifiers,
+        gives,
+    )
 }
 
 // A projected object's one effect; a missing one is passed over.
@@ -107,35 +98,30 @@ pub fn collect_projected(
     pairs: &TablePairs,
     places: &EffectPlaces,
     rooms: CollectedRooms,
-    used: usize,
-    used_plain: usize,
+    used: CollectedCounts,
     w: Owner,
-) -> Counted
+) -> Result<CollectedCounts, Refusal>
     requires lent { Lent rooms collected.old collected_values.old }
     requires sound_book { SoundBook book.now pairs.now }
     requires sound_fit { SoundFit fit.now pairs.now }
     requires of_fit { OfFit (fit_of fit.now pairs.now) w.item }
     requires owner { OwnerOf (fit_of fit.now pairs.now) w }
-    ensures defined { RunsCollected rooms result used used_plain (projected_moves (book_at book pairs) (fit_at fit pairs) w.item) collected collected_values }
+    ensures defined { RunsCollected rooms result used (projected_moves (book_at book pairs) (fit_at fit pairs) w.item) collected collected_values }
 {
     let o = w.item;
-    let found = get_dogma_effect(book, pairs, places, o.projected_effect);
-    match found {
-        FoundEffect::At(e) => {
-            let resistance = get_resistance(fit, pairs, o, e);
-            collect_projected_effect(
-                collected,
-                collected_values,
-                book,
-                pairs,
-                rooms,
-                used,
-                used_plain,
-                w,
-                e,
-                resistance,
-            )
-        }
-        FoundEffect::Nothing => Counted::At(used, used_plain),
-    }
+    let Some(e) = get_dogma_effect(book, pairs, places, o.projected_effect) else {
+        return Ok(used);
+    };
+    let resistance = get_resistance(fit, pairs, o, e);
+    collect_projected_effect(
+        collected,
+        collected_values,
+        book,
+        pairs,
+        rooms,
+        used,
+        w,
+        e,
+        resistance,
+    )
 }

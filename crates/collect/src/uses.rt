@@ -23,16 +23,9 @@ fn has_id(fit: &[u8], pairs: &TablePairs, first: u32, count: u32, id: i32) -> bo
     requires inside { first + count ≤ count_of pairs.now 8 }
     ensures defined { result ≡ some? (eq_z id) (span first count (fit_at fit pairs).ids) }
 {
-    let mut i = index(first);
-    let end = i + index(count);
-    while i < end {
-        let x = id_at(fit, pairs, i);
-        i += 1;
-        if id == x {
-            return true;
-        }
-    }
-    false
+    let start = index(first);
+    let end = start + index(count);
+    (start..end).any(|i| id_at(fit, pairs, i) == id)
 }
 
 // A fighter's effect that is not Passive is an ability, and the fit picks which run.
@@ -63,10 +56,8 @@ fn is_taken(fit: &[u8], pairs: &TablePairs, o: Item, e: DogmaEffect) -> bool
     requires of_fit { OfFit (fit_of fit.now pairs.now) o }
     ensures defined { result ≡ is_taken (fit_at fit pairs) o e }
 {
-    if e.usage_chance_attribute_id == 0 {
-        return true;
-    }
-    has_id(fit, pairs, o.first_side_effect, o.side_effects, e.id)
+    e.usage_chance_attribute_id == 0
+        || has_id(fit, pairs, o.first_side_effect, o.side_effects, e.id)
 }
 
 // Whether an object's effect is in use at all.

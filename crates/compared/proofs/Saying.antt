@@ -1,4 +1,5 @@
 -- The line of a verdict: its pieces, and which line it is.
+use Rattle.std.specs.Prelude.{Ok, Err}
 use Prim.Native.Nat.{ℕ, ◌+◌, ◌*◌, ◌≤◌, ◌<◌}
 use native.Mathlib.Omega.{arith}
 use mathlib.Core.Path.{◌≡◌, refl, sym, ap, subst, ◌∙◌}
@@ -17,7 +18,7 @@ use Rattle.rules.specs.Answer.{Res, ok, refused, number, place}
 use Rattle.rules.specs.Columns.{value_list}
 use Rattle.rules.specs.Listing.{ascii, natural, listing}
 use Rattle.rules.specs.Outcome.{Rooms, Done, outcome}
-use Rattle.rules.specs.declared.Answer.TheVariants.{Refused}
+use Rattle.rules.specs.Answer.{Refused}
 use Rattle.rules.specs.declared.Refusal.{Refusal}
 use Rattle.rules.specs.declared.Refusal.TheVariants as refusal_is
 use Rattle.reading.specs.Held.{no_row}
@@ -29,9 +30,8 @@ use Rattle.figures.specs.Figures.{fields}
 use Rattle.lines.specs.Lines.{Rows, figure_lines}
 use Rattle.said.specs.Said.{Says}
 use Rattle.text.specs.SheetText.{rooms}
-use Rattle.checks.specs.Check.{number_of, place_of, checked}
-use Rattle.checks.specs.declared.verdict.Verdict.{Verdict}
-use Rattle.checks.specs.declared.verdict.Verdict.TheVariants.{Accepted, Engine, Loop, Listing}
+use Rattle.checks.specs.Check.{number_of, place_of, checked, Verdict}
+use Rattle.checks.specs.declared.verdict.CheckRefusal.TheVariants.{Engine, Loop, Listing}
 use Rattle.compared.specs.CheckText.{lines_lent, check_lent, place_text, listed_text, row_text, run_text, loop_text, bad_row, verdict_text, with_lines, check_text}
 
 -- ---- what was lent
@@ -64,6 +64,12 @@ listed_there ls i {n} {z} h e f =
     ap (λ (y : ℤ). fields (get_or (get_or ls i []) 0 0) y n) e
     ∙ ap (fields (get_or (get_or ls i []) 0 0) (to_z w32 (get_or (get_or ls i []) 1 0))) f
     ∙ chosen (fields (get_or (get_or ls i []) 0 0) (to_z w32 (get_or (get_or ls i []) 1 0)) (get_or (get_or ls i []) 2 0 + 4294967296 * get_or (get_or ls i []) 3 0)) (ascii "no line") (lt-ltb i (length ls) h)
+
+pub listed_at : (ls : List (List ℕ)) (i : ℕ) {l : List ℕ} {n : ℕ} {z : ℤ} → i < length ls → l ≡ get_or ls i [] → z ≡ to_z w32 (get_or l 1 0)
+    → n ≡ get_or l 2 0 + 4294967296 * get_or l 3 0 → fields (get_or l 0 0) z n ≡ listed_text ls i
+listed_at ls i {l} {n} {z} h q e f =
+    ap (λ (k : List ℕ). fields (get_or k 0 0) z n) q
+    ∙ listed_there ls i h (e ∙ ap (λ (k : List ℕ). to_z w32 (get_or k 1 0)) q) (f ∙ ap (λ (k : List ℕ). get_or k 2 0 + 4294967296 * get_or k 3 0) q)
 
 pub listed_none : (ls : List (List ℕ)) (i : ℕ) → length ls ≤ i → ascii "no line" ≡ listed_text ls i
 listed_none ls i h =
@@ -135,29 +141,29 @@ engine_below (refusal_is.Depth p) = omega arith
 
 module _ (b : List ℕ) (ls : List (List ℕ)) where
   pub is_accepted : (v : Verdict) {k : ℕ} → k ≡ number_of v → k ≡ 0 → ascii "accepted\n" ≡ verdict_text b ls v
-  is_accepted Accepted e z = refl
-  is_accepted (Engine x) e z = absurd (no_number x (sym e ∙ z))
-  is_accepted (Loop o) e z = absurd (omega (arith, e, z))
-  is_accepted (Listing i) e z = absurd (omega (arith, e, z))
+  is_accepted (Ok t) e z = refl
+  is_accepted (Err (Engine x)) e z = absurd (no_number x (sym e ∙ z))
+  is_accepted (Err (Loop o)) e z = absurd (omega (arith, e, z))
+  is_accepted (Err (Listing i)) e z = absurd (omega (arith, e, z))
 
   pub is_loop : (v : Verdict) {k p : ℕ} → k ≡ number_of v → p ≡ place_of v → k ≡ 10 → loop_text p ≡ verdict_text b ls v
-  is_loop Accepted e f z = absurd (omega (arith, e, z))
-  is_loop (Engine x) e f z = absurd (omega (arith, e, z, engine_below x))
-  is_loop (Loop o) e f z = ap loop_text f
-  is_loop (Listing i) e f z = absurd (omega (arith, e, z))
+  is_loop (Ok t) e f z = absurd (omega (arith, e, z))
+  is_loop (Err (Engine x)) e f z = absurd (omega (arith, e, z, engine_below x))
+  is_loop (Err (Loop o)) e f z = ap loop_text f
+  is_loop (Err (Listing i)) e f z = absurd (omega (arith, e, z))
 
   pub is-listing : (v : Verdict) {k p : ℕ} → k ≡ number_of v → p ≡ place_of v → k ≡ 15 → bad_row b ls p ≡ verdict_text b ls v
-  is-listing Accepted e f z = absurd (omega (arith, e, z))
-  is-listing (Engine x) e f z = absurd (omega (arith, e, z, engine_below x))
-  is-listing (Loop o) e f z = absurd (omega (arith, e, z))
-  is-listing (Listing i) e f z = ap (bad_row b ls) f
+  is-listing (Ok t) e f z = absurd (omega (arith, e, z))
+  is-listing (Err (Engine x)) e f z = absurd (omega (arith, e, z, engine_below x))
+  is-listing (Err (Loop o)) e f z = absurd (omega (arith, e, z))
+  is-listing (Err (Listing i)) e f z = ap (bad_row b ls) f
 
   pub is_engine : (v : Verdict) {k p : ℕ} {text : List ℕ} {end : ℕ} → k ≡ number_of v → p ≡ place_of v → (k ≡ 0 → ⊥) → (k ≡ 10 → ⊥) → (k ≡ 15 → ⊥)
       → ((x : Refusal) → number (Refused x) ≡ k → place (Refused x) ≡ p → Begins text end (listing (refused x))) → Begins text end (verdict_text b ls v)
-  is_engine Accepted e f z l r g = absurd (z e)
-  is_engine (Engine x) e f z l r g = g x (sym e) (sym f)
-  is_engine (Loop o) e f z l r g = absurd (l e)
-  is_engine (Listing i) e f z l r g = absurd (r e)
+  is_engine (Ok t) e f z l r g = absurd (z e)
+  is_engine (Err (Engine x)) e f z l r g = g x (sym e) (sym f)
+  is_engine (Err (Loop o)) e f z l r g = absurd (l e)
+  is_engine (Err (Listing i)) e f z l r g = absurd (r e)
 
 -- another name of what stands there
 pub begins_as : {text xs ys : List ℕ} {end : ℕ} → xs ≡ ys → Begins text end xs → Begins text end ys

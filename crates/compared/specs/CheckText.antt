@@ -1,5 +1,5 @@
 -- What the program for M-111 says, of a sheet and a text of another planner's figures. Definitions only.
-use Rattle.std.specs.Prelude.{ℕ, cond, List, [], ◌++◌, map, ltb, length, get_or}
+use Rattle.std.specs.Prelude.{ℕ, cond, List, [], ◌++◌, map, ltb, length, get_or, Ok, Err}
 use Rattle.std.specs.Float.{binary64}
 use Rattle.std.specs.Float.Ieee.{to_bits}
 use Rattle.laws.specs.Floats.{zero_f}
@@ -13,9 +13,8 @@ use Rattle.figures.specs.Figures.{fields}
 use Rattle.lines.specs.Lines.{Rows, rows, bad, figure_lines}
 use Rattle.said.specs.Said.{Says, answer, refusal, bad_line}
 use Rattle.text.specs.SheetText.{rows_lent, rooms}
-use Rattle.checks.specs.Check.{check_rooms, checked}
-use Rattle.checks.specs.declared.verdict.Verdict.{Verdict}
-use Rattle.checks.specs.declared.verdict.Verdict.TheVariants.{Accepted, Engine, Loop, Listing}
+use Rattle.checks.specs.Check.{check_rooms, checked, Verdict}
+use Rattle.checks.specs.declared.verdict.CheckRefusal.TheVariants.{Engine, Loop, Listing}
 
 -- the most lines: one more than a run has rows
 abbrev pub lines_lent : ℕ
@@ -55,10 +54,10 @@ bad_row b ls i = ascii "refused 15 " ++ (place_text i ++ (ascii ": listed " ++ (
 
 -- "accepted, or number, place"
 abbrev pub verdict_text : List ℕ → List (List ℕ) → Verdict → List ℕ
-verdict_text b ls Accepted = ascii "accepted\n"
-verdict_text b ls (Engine x) = listing (refused x)
-verdict_text b ls (Loop o) = loop_text o
-verdict_text b ls (Listing i) = bad_row b ls i
+verdict_text b ls (Ok t) = ascii "accepted\n"
+verdict_text b ls (Err (Engine x)) = listing (refused x)
+verdict_text b ls (Err (Loop o)) = loop_text o
+verdict_text b ls (Err (Listing i)) = bad_row b ls i
 
 -- the verdict on the lines; or the text's first bad line
 abbrev pub with_lines : List ℕ → Rows → Says

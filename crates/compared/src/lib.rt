@@ -8,21 +8,22 @@ ghost use Rattle.settled.specs.Lines.{line_of};
 ghost use Rattle.listing.specs.Pieces.{Tells};
 ghost use Rattle.listing.specs.Put.{Added, Begins};
 ghost use Rattle.figures.specs.Figures.{longest_fields};
-ghost use Rattle.said.specs.Said.{says_of};
+ghost use Rattle.said.specs.Said.{says_of, SaidWithin};
 ghost use Rattle.text.specs.SheetText.{rooms};
 ghost use Rattle.checks.specs.Check.{checked, number_of, place_of};
 ghost use Rattle.compared.specs.CheckText.{place_text, listed_text, run_text, loop_text, bad_row, check_lent, verdict_text, check_text};
 
-use calculate::dogma_calculate;
+use calculate::Outcome;
 use checks::dogma_check;
-use columns::{AttributeRow, ENTRY_WIDTH, OBJECTS, ROW_ATTRIBUTE, ROW_OBJECT, SOURCE_WIDTH};
-use figures::{bits_of, put_fields};
+use columns::{AttributeRow, ENTRY_WIDTH, OBJECTS, ROW_ATTRIBUTE, ROW_OBJECT, ROW_WIDTH};
+use figures::put_fields;
 use given::lines::{LINE_ATTRIBUTE, LINE_HIGH, LINE_LOW, LINE_OBJECT, LineRow};
-use lines::{Read, figure_rows};
+use lines::{BadLine, figure_rows};
 use listing::{put_byte, put_text, put_u32, refusal};
 use numbers::integers::signed;
-use said::{Said, bad_line};
-use text::ROWS;
+use said::{RefusalLine, bad_line};
+use std::num::f64_to_bits_with_nan;
+use text::{ROWS, calculated};
 
 // One line more than a run has rows: a listing that is too long is judged too.
 const LINES: usize = 4097;
@@ -30,20 +31,13 @@ const LINES: usize = 4097;
 // Room for the longest line.
 pub const LINE_BYTES: usize = 256;
 
-// The numbers of refusals that are not the engine's.
+// The numbers that `dogma_check` gives, as C has them, of refusals that are not the engine's.
 const LOOP: u64 = 10;
 
 const LISTING: u64 = 15;
 
-// Number and place.
-#[derive(Clone, Copy)]
-struct Verdicted {
-    number: u64,
-    place: u64,
-}
-
 // The verdict, with room for 4,096 in every list.
-fn judged(sheet: &[u8], listing: &[LineRow]) -> Verdicted
+fn judged(sheet: &[u8], listing: &[LineRow]) -> Outcome
     ensures number { result.number ≡ number_of (checked sheet.now check_lent (map line_of listing.now)) }
     ensures place { result.place ≡ place_of (checked sheet.now check_lent (map line_of listing.now)) }
 {
@@ -57,7 +51,7 @@ fn judged(sheet: &[u8], listing: &[LineRow]) -> Verdicted
     let mut entries = [[0u32; ENTRY_WIDTH]; ROWS];
     let mut entry_values = [0.0; ROWS];
     let mut plain = [[0u32; 2]; ROWS];
-    let answer = dogma_check(
+    dogma_check(
         &mut states,
         &mut collected,
         &mut collected_values,
@@ -70,11 +64,7 @@ fn judged(sheet: &[u8], listing: &[LineRow]) -> Verdicted
         &mut plain,
         sheet,
         listing,
-    );
-    Verdicted {
-        number: answer.number,
-        place: answer.place,
-    }
+    )
 }
 
 // An object's number or a line's.
@@ -102,19 +92,17 @@ fn put_listed(out: &mut [u8], at: usize, listing: &[LineRow], place: u64) -> usi
     ensures added { Added out at result (listed_text listing.now place) }
     ensures within { result ≤ at + longest_fields }
 {
-    let i = place as usize;
-    if i < listing.len() {
-        let line = listing[i];
-        let bits = whole_bits(line[LINE_LOW], line[LINE_HIGH]);
-        return put_fields(
-            out,
-            at,
-            line[LINE_OBJECT],
-            signed(line[LINE_ATTRIBUTE]),
-            bits,
-        );
-    }
-    put_text(out, at, b"no line")
+    let Some(line) = listing.get(place as usize) else {
+        return put_text(out, at, b"no line");
+    };
+    let bits = whole_bits(line[LINE_LOW], line[LINE_HIGH]);
+    put_fields(
+        out,
+        at,
+        line[LINE_OBJECT],
+        signed(line[LINE_ATTRIBUTE]),
+        bits,
+    )
 }
 
 // What a run has there, of what came back.
@@ -136,7 +124,7 @@ fn put_row(
     if (number == 0) & (i < n) {
         let row = rows[i];
         let value = values[i];
-        let bits = bits_of(value);
+        let bits = f64_to_bits_with_nan(value);
         return put_fields(out, at, row[ROW_OBJECT], signed(row[ROW_ATTRIBUTE]), bits);
     }
     put_text(out, at, b"no row")
@@ -148,31 +136,9 @@ fn put_run(out: &mut [u8], at: usize, sheet: &[u8], place: u64) -> usize
     ensures added { Added out at result (run_text (outcome sheet.now rooms) place) }
     ensures within { result ≤ at + longest_fields }
 {
-    let mut states = [[0u32; 2]; OBJECTS];
-    let mut collected = [[0u32; 14]; ROWS];
-    let mut collected_values = [0.0; ROWS];
-    let mut rows = [[0u32; 6]; ROWS];
-    let mut bases = [0.0; ROWS];
+    let mut rows = [[0u32; ROW_WIDTH]; ROWS];
     let mut values = [0.0; ROWS];
-    let mut entries = [[0u32; ENTRY_WIDTH]; ROWS];
-    let mut entry_values = [0.0; ROWS];
-    let mut plain = [[0u32; 2]; ROWS];
-    let mut sources = [[0u32; SOURCE_WIDTH]; ROWS];
-    let mut source_values = [[0.0; 2]; ROWS];
-    let answer = dogma_calculate(
-        &mut states,
-        &mut collected,
-        &mut collected_values,
-        &mut rows,
-        &mut bases,
-        &mut values,
-        &mut entries,
-        &mut entry_values,
-        &mut plain,
-        &mut sources,
-        &mut source_values,
-        sheet,
-    );
+    let answer = calculated(&mut rows, &mut values, sheet);
     put_row(
         out,
         at,
@@ -215,41 +181,33 @@ fn verdict_line(out: &mut [u8], sheet: &[u8], listing: &[LineRow]) -> usize
         Begins out.new result (verdict_text sheet.now ls (checked sheet.now check_lent (map line_of ls))) }
 {
     let verdict = judged(sheet, listing);
-    let number = verdict.number;
     let place = verdict.place;
-    if number == 0 {
-        return put_text(out, 0, b"accepted\n");
+    match verdict.number {
+        0 => put_text(out, 0, b"accepted\n"),
+        LOOP => loop_line(out, place),
+        LISTING => bad_row(out, sheet, listing, place),
+        number => refusal(out, number, place),
     }
-    if number == LOOP {
-        return loop_line(out, place);
-    }
-    if number == LISTING {
-        return bad_row(out, sheet, listing, place);
-    }
-    refusal(out, number, place)
 }
 
 // What the program says, at the front of a lent line.
-pub fn check_text(out: &mut [u8; LINE_BYTES], sheet: &[u8], text: &[u8]) -> Said
+pub fn check_text(
+    out: &mut [u8; LINE_BYTES],
+    sheet: &[u8],
+    text: &[u8],
+) -> Result<usize, RefusalLine>
     requires short { length text.now ≤ 4294967295 }
     ensures says { says_of result out.new ≡ check_text sheet.now text.now }
-    ensures inside { result.end ≤ length out.new }
+    ensures inside { SaidWithin result (length out.new) }
 {
     let mut lines = [[0u32; 4]; LINES];
-    let read = figure_rows(&mut lines, text);
-    match read {
-        Read::Bad(i) => Said {
-            end: bad_line(
-                out,
-                b"listing, line ",
-                i as u32,
-                b": not an object, an attribute and 16 hexadecimal digits\n",
-            ),
-            good: false,
-        },
-        Read::Rows(n) => Said {
-            end: verdict_line(out, sheet, &lines[..n]),
-            good: true,
-        },
+    match figure_rows(&mut lines, text) {
+        Ok(n) => Ok(verdict_line(out, sheet, &lines[..n])),
+        Err(BadLine { line }) => Err(bad_line(
+            out,
+            b"listing, line ",
+            line as u32,
+            b": not an object, an attribute and 16 hexadecimal digits\n",
+        )),
     }
 }

@@ -1,6 +1,5 @@
 -- The marked examples of M-112, over case L, by computation. The files of cases/ are the same.
 use Prim.Native.Nat.{ℕ}
-use Prim.Native.String.{String}
 use mathlib.Core.Path.{◌≡◌, refl}
 use mathlib.Core.List.{List, [], ◌∷◌}
 use lib.ListN.{replicate}

@@ -1,8 +1,9 @@
 -- Records put one after another from the front of a text: what stands there is the definition's text so far; or it does not fit.
-use Prim.Native.Nat.{ℕ, zero, suc, ◌+◌, ◌-◌, ◌≤◌, ◌<◌}
+use Prim.Native.Nat.{ℕ, zero, suc, ◌+◌, ◌≤◌, ◌<◌}
 use native.Mathlib.Nat.{not-suc-le-zero, le_of_suc-le-suc}
 use native.Mathlib.Numerals.{add-one}
 use native.Mathlib.Omega.{arith}
+use Rattle.std.specs.Prelude as code
 use mathlib.Core.Path.{◌≡◌, refl, sym, ap, subst, ◌∙◌}
 use mathlib.Core.List.{List, [], ◌∷◌, ◌++◌, append-nil, append_assoc}
 use lib.Ieee.{Float}
@@ -23,8 +24,6 @@ use Rattle.listing.proofs.Puts.{grows}
 use Rattle.listing.proofs.Lined.{begun}
 use Rattle.csv_text.specs.Csv.{class_of, field, record_text, csv}
 use Rattle.csv_text.specs.Puts.{AddedOr}
-use Rattle.csv_text.specs.declared.Filled.{Filled}
-use Rattle.csv_text.specs.declared.Filled.TheVariants as filled
 use Rattle.csv_text.specs.Labels.{Label, fields_of, header, row_records, records}
 
 -- ---- the text so far
@@ -151,11 +150,11 @@ module _ (ls : List Label) (n : ℕ) (rows : List (List ℕ)) (values : List Flo
         omega (arith, a, c, b, k, so_far_less ls d (next + 1), length-take-le end text w.inside)
 
     -- by what the call said
-    pub row_more : (f : Filled) {r : ℕ} (now : List ℕ) → length now ≡ length text → AddedOr f text now end (row_at next x) → f ≡ filled.To r → Laid long now r (next + 1)
-    row_more f now k a e = let p = subst (λ (g : Filled). AddedOr g text now end (row_at next x)) e a in one_more k p.0 p.1
+    pub row_more : (f : code.Option ℕ) {r : ℕ} (now : List ℕ) → length now ≡ length text → AddedOr f text now end (row_at next x) → f ≡ code.Some r → Laid long now r (next + 1)
+    row_more f now k a e = let p = subst (λ (g : code.Option ℕ). AddedOr g text now end (row_at next x)) e a in one_more k p.0 p.1
 
-    pub row-full : (f : Filled) (now : List ℕ) → length now ≡ length text → AddedOr f text now end (row_at next x) → f ≡ filled.Full → (d : Done) → Shown d n rows values → length now < length (csv (records ls d))
-    row-full f now k a e d s = no_more k (subst (λ (g : Filled). AddedOr g text now end (row_at next x)) e a) d s
+    pub row-full : (f : code.Option ℕ) (now : List ℕ) → length now ≡ length text → AddedOr f text now end (row_at next x) → f ≡ code.None → (d : Done) → Shown d n rows values → length now < length (csv (records ls d))
+    row-full f now k a e d s = no_more k (subst (λ (g : code.Option ℕ). AddedOr g text now end (row_at next x)) e a) d s
 
   -- with all records it is the whole text
   pub all_laid : {long : ℕ} {text : List ℕ} {end next : ℕ} → Laid long text end next → n ≤ next → (d : Done) → Shown d n rows values → Begins text end (csv (records ls d))

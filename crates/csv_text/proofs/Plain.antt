@@ -1,17 +1,15 @@
 -- Numbers stand as they are: they have no byte for whose sake a field is quoted. And what may be written: numbers, and good labels.
+use Rattle.std.specs.Prelude.{None, Option, Some}
 use Prim.Native.Nat.{ℕ, zero, suc, ◌+◌, ◌/◌, ◌%◌}
 use native.Mathlib.Omega.{arith}
 use mathlib.Core.Path.{◌≡◌, refl, sym, ap, ◌∙◌}
 use mathlib.Core.Bool.{Bool, true, false, ◌||◌, true≢false}
-use mathlib.Core.List.{List, [], ◌∷◌, ◌++◌, cons-ne-nil}
+use mathlib.Core.List.{List, [], ◌∷◌, ◌++◌}
 use lib.IntN.{ℤ, pos, negsuc}
-use lib.Ieee.{Float}
 use Rattle.laws.specs.Lists.{some?, every?}
 use Rattle.laws.proofs.Bools.{and_left, and_right}
 use Rattle.rules.specs.Listing.{digits, natural, integer, minus_if, decimals}
-use Rattle.rules.specs.Number.{hundredths_of}
 use Rattle.rules.specs.declared.Hundredths.{Hundredths}
-use Rattle.rules.specs.declared.Hundredths.TheVariants.{Rounded, Star}
 use Rattle.csv_text.specs.Csv.{Class, text, other, class_of, special, quoted_if, field, record_text, Allowed, AllAllowed}
 use Rattle.csv_text.specs.Labels.{allowed}
 use Rattle.csv_text.proofs.Classes.{plain_text, known}
@@ -48,12 +46,12 @@ minus_text : (s : Bool) → AllText (minus_if s)
 minus_text true = (plain_text 45 (omega arith) (omega arith), tt)
 minus_text false = tt
 
-pub decimals_text : (h : Hundredths) → AllText (decimals h)
+pub decimals_text : (h : Option Hundredths) → AllText (decimals h)
 unfolding decimals class_of
-decimals_text Star = (refl, tt)
-decimals_text (Rounded s c) =
-    text_append (minus_if s) _ (minus_text s)
-    (text_append (natural (c / 100)) _ (natural_text (c / 100)) (plain_text 46 (omega arith) (omega arith), (digit_text (c / 10), (digit_text c, tt))))
+decimals_text None = (refl, tt)
+decimals_text (Some h) =
+    text_append (minus_if h.minus) _ (minus_text h.minus)
+    (text_append (natural (h.count / 100)) _ (natural_text (h.count / 100)) (plain_text 46 (omega arith) (omega arith), (digit_text (h.count / 10), (digit_text h.count, tt))))
 
 -- ---- so they are not quoted
 
@@ -66,19 +64,19 @@ unfolding field
 plain-field t a = ap (λ (q : Bool). quoted_if q t) (none_special t a)
 
 -- the bytes of a row's record, piece by piece
-abbrev pub ended : Hundredths → List ℕ
+abbrev pub ended : Option Hundredths → List ℕ
 ended h = decimals h ++ (13 ∷ 10 ∷ [])
 
-abbrev pub labelled : List ℕ → Hundredths → List ℕ
+abbrev pub labelled : List ℕ → Option Hundredths → List ℕ
 labelled l h = field l ++ (44 ∷ ended h)
 
-abbrev pub numbered : ℤ → List ℕ → Hundredths → List ℕ
+abbrev pub numbered : ℤ → List ℕ → Option Hundredths → List ℕ
 numbered i l h = integer i ++ (44 ∷ labelled l h)
 
-abbrev pub row_bytes : ℕ → ℤ → List ℕ → Hundredths → List ℕ
+abbrev pub row_bytes : ℕ → ℤ → List ℕ → Option Hundredths → List ℕ
 row_bytes o i l h = natural o ++ (44 ∷ numbered i l h)
 
-pub row_bytes_lem : (o : ℕ) (i : ℤ) (l : List ℕ) (h : Hundredths) → row_bytes o i l h ≡ record_text (natural o ∷ integer i ∷ l ∷ decimals h ∷ [])
+pub row_bytes_lem : (o : ℕ) (i : ℤ) (l : List ℕ) (h : Option Hundredths) → row_bytes o i l h ≡ record_text (natural o ∷ integer i ∷ l ∷ decimals h ∷ [])
 unfolding record_text
 row_bytes_lem o i l h =
     sym
@@ -87,7 +85,7 @@ row_bytes_lem o i l h =
     ∙ ap (λ (x : List ℕ). natural o ++ (44 ∷ (integer i ++ (44 ∷ (field l ++ (44 ∷ (x ++ (13 ∷ 10 ∷ [])))))))) (plain-field (decimals h) (decimals_text h)))
 
 -- the same, the id told by its bits
-pub row_said : (o : ℕ) (l : List ℕ) (h : Hundredths) {i j : ℤ} → j ≡ i → row_bytes o j l h ≡ record_text (natural o ∷ integer i ∷ l ∷ decimals h ∷ [])
+pub row_said : (o : ℕ) (l : List ℕ) (h : Option Hundredths) {i j : ℤ} → j ≡ i → row_bytes o j l h ≡ record_text (natural o ∷ integer i ∷ l ∷ decimals h ∷ [])
 row_said o l h {i} e = ap (λ (x : ℤ). row_bytes o x l h) e ∙ row_bytes_lem o i l h
 
 -- ---- what may be written
@@ -103,6 +101,6 @@ pub label_allowed : (t : List ℕ) → every? allowed t ≡ true → Allowed t
 label_allowed [] e = tt
 label_allowed (b ∷ t) e = (known b (and_left (allowed b) (every? allowed t) e), label_allowed t (and_right (allowed b) (every? allowed t) e))
 
-pub row-allowed : (o : ℕ) (i : ℤ) (l : List ℕ) (h : Hundredths) → Allowed l → AllAllowed (natural o ∷ integer i ∷ l ∷ decimals h ∷ [])
+pub row-allowed : (o : ℕ) (i : ℤ) (l : List ℕ) (h : Option Hundredths) → Allowed l → AllAllowed (natural o ∷ integer i ∷ l ∷ decimals h ∷ [])
 row-allowed o i l h a =
     (text_allowed (natural o) (natural_text o), (text_allowed (integer i) (integer_text i), (a, (text_allowed (decimals h) (decimals_text h), tt))))

@@ -1,6 +1,6 @@
 -- What holds of every export: a text is of what is done, and reading it by the RFC gives back its records.
 use Prim.Native.Nat.{ℕ, ◌+◌}
-use mathlib.Core.Path.{◌≡◌, refl, sym, ap, subst, ◌∙◌}
+use mathlib.Core.Path.{◌≡◌, refl, sym, ap, ◌∙◌}
 use mathlib.Core.Bool.{Bool, true, false, true≢false}
 use mathlib.Core.List.{List, [], ◌∷◌, cons-ne-nil}
 use mathlib.Core.Option.{Option, none, some}
@@ -16,8 +16,8 @@ use Rattle.rules.specs.Dispatch.{Row}
 use Rattle.rules.specs.Listing.{ascii}
 use Rattle.rules.specs.Number.{hundredths_of}
 use Rattle.rules.specs.Outcome.{Done}
-use Rattle.csv_text.specs.Csv.{class_of, csv, read, Allowed, Writable}
-use Rattle.csv_text.specs.Labels.{first_of, count_of, id_of, bytes_of, allowed, label_good, label_bad, Label, labels_of, text_or, label_of, fields_of, header, row_records, records, Export, text, fitted, labelled, export_of}
+use Rattle.csv_text.specs.Csv.{csv, read, Allowed, Writable}
+use Rattle.csv_text.specs.Labels.{first_of, count_of, id_of, bytes_of, allowed, label_good, label_bad, Label, labels_of, text_or, label_of, row_records, records, text, fitted, labelled, export_of}
 use Rattle.csv_text.proofs.Judging.{all_good}
 use Rattle.csv_text.proofs.Plain.{label_allowed, row-allowed}
 use Rattle.csv_text.proofs.ReadBack.{read_back}

@@ -5,9 +5,9 @@ use mathlib.Core.Bool.{Bool, true, false, true≢false}
 use mathlib.Core.List.{List, [], ◌∷◌, ◌++◌, append-nil, append_assoc, cons-ne-nil}
 use mathlib.Core.Option.{Option, none, some}
 use lib.Seq.{append_snoc}
-use Rattle.laws.specs.Lists.{some?, flat}
+use Rattle.laws.specs.Lists.{some?}
 use Rattle.laws.proofs.Bools.{or_false_left, or_false_right}
-use Rattle.csv_text.specs.Csv.{Class, quote, comma, cr, lf, text, other, class_of, special, twice, doubled, quoted_if, field, record_text, csv, Mode, start, plain, quoted, closed, ending, Step, passes, takes, field_ends, record_ends, wrong, next, read_from, read, before, Allowed, AllAllowed, Writable}
+use Rattle.csv_text.specs.Csv.{Class, quote, comma, cr, lf, text, other, class_of, special, twice, doubled, quoted_if, field, record_text, csv, Mode, start, plain, quoted, closed, Step, passes, takes, field_ends, record_ends, wrong, next, read_from, read, before, Allowed, AllAllowed, Writable}
 
 -- every byte is TEXTDATA
 abbrev pub AllText : List ℕ → Type 0

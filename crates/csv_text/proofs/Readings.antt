@@ -1,7 +1,7 @@
 -- What the reader makes of some texts, by computation: it refuses what the grammar has not.
 use mathlib.Core.Path.{◌≡◌, refl}
-use mathlib.Core.List.{List, [], ◌∷◌}
-use mathlib.Core.Option.{Option, none, some}
+use mathlib.Core.List.{[], ◌∷◌}
+use mathlib.Core.Option.{none, some}
 use Rattle.rules.specs.Listing.{ascii}
 use Rattle.csv_text.specs.Csv.{class_of, doubled, field, record_text, read_from, read, csv}
 

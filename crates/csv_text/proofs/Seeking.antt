@@ -1,20 +1,22 @@
 -- The search among labels, a half at a time, and what it found.
-use Prim.Native.Nat.{ℕ, zero, suc, ◌+◌, ◌-◌, ◌/◌, ◌≤◌, ◌<◌}
+use Prim.Native.Nat.{ℕ, zero, suc, ◌+◌, ◌≤◌, ◌<◌}
 use native.Mathlib.Nat.{not-suc-le-zero, le_of_suc-le-suc}
 use native.Mathlib.Omega.{arith}
-use mathlib.Core.Path.{◌≡◌, refl, sym, ap, subst, ◌∙◌}
-use mathlib.Core.Bool.{Bool, true, false, ◌&&◌}
+use mathlib.Core.Path.{◌≡◌, sym, ap, subst, ◌∙◌}
+use mathlib.Core.Bool.{true, false, ◌&&◌}
 use mathlib.Core.List.{List, [], ◌∷◌, map}
-use mathlib.Core.Option.{Option, none, some}
+use mathlib.Core.Option.{Option, none}
 use lib.Dec.{leb}
 use lib.IntN.{ℤ}
-use lib.ListN.{length, get_or, length-map}
+use lib.ListN.{length, get_or, drop, length-map, length-take}
 use lib.Signed.{lt_z}
 use mir.Syntax.{w32}
 use mir.Val.{SFits, to_z, of_z}
 use mir.Facts.{to_z-of_z}
 use borrow.Author.Tests.{leb-true}
-use Rattle.laws.specs.Lists.{eq_z, every?, ascends, first, span}
+use Rattle.std.specs.List.Sorted.{IsPartitionPoint, IsPartitionedBy}
+use Rattle.std.proofs.lemmas.List.{get_or_default}
+use Rattle.laws.specs.Lists.{eq_z, every?, ascends, first}
 use Rattle.laws.proofs.Ascending.{ascends_head, ascends_tail, ascends-not_descending}
 use Rattle.laws.proofs.Bools.{and_left, and_right}
 use Rattle.laws.proofs.Every.{every_at}
@@ -22,28 +24,20 @@ use Rattle.laws.proofs.First.{map_some, first-at, first-map}
 use Rattle.laws.proofs.Maps.{map_at}
 use Rattle.laws.proofs.Order.{eq_z_true, lt_z_apart}
 use Rattle.laws.proofs.Signs.{tested_same, tested-apart}
-use Rattle.laws.proofs.Search.{Between, Falls, less_than, has_key, between_start, between_end, between_up, between_down, falls_less, lower_found, lower_missing, lower_past}
+use Rattle.laws.proofs.Search.{Between, Falls, less_than, has_key, falls_less, lower_missing, lower_past}
 use Rattle.csv_text.specs.Labels.{id_of, first_of, count_of, bytes_of, allowed, label_good, label_bad, Label, labels_of, text_or, label_of}
-use Rattle.csv_text.specs.Sought.{Lower, FirstNotBelow}
-use Rattle.csv_text.proofs.Judging.{AllGood, all_good}
+use Rattle.csv_text.specs.Sought.{FirstNotBelow}
+use Rattle.csv_text.proofs.Judging.{all_good}
 
 module _ (rows : List (List ℕ)) (a : ℤ) where
-  pub lower_start : Lower rows a 0 (0 + length rows)
-  lower_start f = subst (Between (less_than id_of a) rows [] 0) (let z : length rows ≡ 0 + length rows = omega arith in z) (between_start (less_than id_of a) rows [])
+  -- what the library's search asks, and what it gives
+  pub falls_by : Falls (less_than id_of a) rows [] → IsPartitionedBy (less_than id_of a) rows
+  falls_by f i j d l h e =
+      let P : List ℕ → Type 0 = λ r. less_than id_of a r ≡ true in
+      subst P (get_or_default rows i [] d (omega arith)) (f.before i j l h (subst P (get_or_default rows j d [] h) e))
 
-  module _ {lo left : ℕ} (w : Lower rows a lo (lo + left)) (h : 0 < left) where
-    -- the middle is below: the bound is behind it
-    pub lower_up : lt_z (id_of (get_or rows (lo + left / 2) [])) a ≡ true → Lower rows a (lo + left / 2 + 1) (lo + left / 2 + 1 + (left - left / 2 - 1))
-    lower_up e f =
-        subst (Between (less_than id_of a) rows [] (lo + left / 2 + 1)) (let z : lo + left ≡ lo + left / 2 + 1 + (left - left / 2 - 1) = omega arith in z)
-        (between_up (less_than id_of a) rows [] f (w f) (lo + left / 2) (omega arith) (omega arith) e)
-
-    -- it is not: the bound is not behind it
-    pub lower_down : lt_z (id_of (get_or rows (lo + left / 2) [])) a ≡ false → Lower rows a lo (lo + left / 2)
-    lower_down e f = between_down (less_than id_of a) rows [] f (w f) (lo + left / 2) (omega arith) (omega arith) e
-
-  pub lower_end : {lo left : ℕ} → Lower rows a lo (lo + left) → left ≤ 0 → FirstNotBelow rows a lo
-  lower_end {lo} w h f = between_end (less_than id_of a) rows [] (w f) (omega arith)
+  pub lower_at : {i : ℕ} → i ≤ length rows → IsPartitionPoint (λ r. less_than id_of a r ≡ true) (λ r. less_than id_of a r ≡ false) rows i → Between (less_than id_of a) rows [] i i
+  lower_at h p = record { within = omega arith; inside = h; below = λ k l. p.0 k [] (omega arith) l; above = λ k l m. p.1 k [] l m }
 
 -- what was found for the bits of an id was found for the id
 pub lower_own : (rows : List (List ℕ)) (a : ℤ) {i : ℕ} → SFits w32 a → FirstNotBelow rows (to_z w32 (of_z w32 a)) i → FirstNotBelow rows a i
@@ -71,9 +65,6 @@ module _ (bytes : List ℕ) (rows : List (List ℕ)) (G : label_bad bytes rows �
   module _ {i : ℕ} (w : FirstNotBelow rows a i) where
     bound : Between (less_than id_of a) rows [] i i
     bound = w (falls_less id_of rows [] a (ascends-not_descending (map id_of rows) (all_good bytes rows G).rising))
-
-    pub label_found : i < length rows → eq_z (id_of (get_or rows i [])) a ≡ true → bytes_of bytes (get_or rows i []) ≡ label_of (labels_of bytes rows) a
-    label_found h e = sym (by_row (lower_found id_of rows [] a (ascends-not_descending (map id_of rows) (all_good bytes rows G).rising) bound h e))
 
     pub label_missing : eq_z (id_of (get_or rows i [])) a ≡ false → [] ≡ label_of (labels_of bytes rows) a
     label_missing e = sym (by_row (lower_missing id_of rows [] a (ascends-not_descending (map id_of rows) (all_good bytes rows G).rising) bound e))
@@ -107,32 +98,14 @@ module _ (bytes : List ℕ) (rows : List (List ℕ)) (G : label_bad bytes rows �
     pub label_allowed : every? allowed (bytes_of bytes r) ≡ true
     label_allowed = and_right (leb (first_of r + count_of r) (length bytes)) (every? allowed (bytes_of bytes r)) (and_right (leb (count_of r) 64) _ good)
 
-  -- ---- what is given for it
+    pub short_bytes : length (bytes_of bytes r) ≤ 64
+    short_bytes = omega (arith, label_short, length-take (count_of r) (drop (first_of r) bytes))
 
-  -- a part of the bytes: the label's, inside them, and short
-  abbrev PartOf : ℕ → ℕ → Type 0
-  PartOf f c = (span f c bytes ≡ label_of (labels_of bytes rows) a) × ((f + c ≤ length bytes) × (c ≤ 64))
+  -- ---- by the id as it was read
 
-  nothing : [] ≡ label_of (labels_of bytes rows) a → PartOf 0 0
-  nothing e = (e, (omega arith, omega arith))
+  module _ {i : ℕ} {x : ℤ} (p : SFits w32 x) (q : SFits w32 a) (e : x ≡ to_z w32 (get_or (get_or rows i []) 0 0)) where
+    pub told_label : i < length rows → of_z w32 x ≡ of_z w32 a → bytes_of bytes (get_or rows i []) ≡ label_of (labels_of bytes rows) a
+    told_label h s = label_at h (ap (λ (z : ℤ). eq_z z a) (sym e) ∙ tested_same x a p q s)
 
-  module _ {i : ℕ} (w : FirstNotBelow rows a i) where
-    pub part_past : length rows ≤ i → PartOf 0 0
-    part_past h = nothing (label_past w h)
-
-    module _ {x : ℤ} (p : SFits w32 x) (q : SFits w32 a) (e : x ≡ to_z w32 (get_or (get_or rows i []) 0 0)) where
-      pub part_other : (of_z w32 x ≡ of_z w32 a → ⊥) → PartOf 0 0
-      part_other n = nothing (label_missing w (ap (λ (z : ℤ). eq_z z a) (sym e) ∙ tested-apart x a p q n))
-
-      pub part_found : i < length rows → of_z w32 x ≡ of_z w32 a → {f c : ℕ} → (f ≡ first_of (get_or rows i [])) → (c ≡ count_of (get_or rows i [])) → PartOf f c
-      part_found h s {f} {c} k l =
-          (rw (k, l) (label_found w h (ap (λ (z : ℤ). eq_z z a) (sym e) ∙ tested_same x a p q s)), (rw (k, l) (label_inside h), rw l (label_short h)))
-
-  pub part_told
-      : {i : ℕ} → i < length rows → {x : ℤ} → SFits w32 x → SFits w32 a → x ≡ to_z w32 (get_or (get_or rows i []) 0 0) → of_z w32 x ≡ of_z w32 a
-      → {f c : ℕ} → f ≡ first_of (get_or rows i []) → c ≡ count_of (get_or rows i []) → PartOf f c
-  part_told h {x} p q e s k l = (rw (k, l) (label_at h (ap (λ (z : ℤ). eq_z z a) (sym e) ∙ tested_same x a p q s)), (rw (k, l) (label_inside h), rw l (label_short h)))
-
-  -- what was found for the bits of an id is its own
-  pub part_own : (f c : ℕ) → SFits w32 a → (span f c bytes ≡ label_of (labels_of bytes rows) (to_z w32 (of_z w32 a))) × ((f + c ≤ length bytes) × (c ≤ 64)) → PartOf f c
-  part_own f c q p = subst (λ (z : ℤ). (span f c bytes ≡ label_of (labels_of bytes rows) z) × ((f + c ≤ length bytes) × (c ≤ 64))) (to_z-of_z q) p
+    pub other_label : FirstNotBelow rows a i → (of_z w32 x ≡ of_z w32 a → ⊥) → [] ≡ label_of (labels_of bytes rows) a
+    other_label w n = label_missing w (ap (λ (z : ℤ). eq_z z a) (sym e) ∙ tested-apart x a p q n)

@@ -1,6 +1,5 @@
 -- The scan for a special byte, and a field put piece by piece.
 use Prim.Native.Nat.{ℕ, ◌+◌, ◌*◌, ◌≤◌, ◌<◌}
-use native.Mathlib.Nat.{add-zero}
 use native.Mathlib.Omega.{arith}
 use mathlib.Core.Path.{◌≡◌, refl, sym, ap, ◌∙◌}
 use mathlib.Core.Bool.{Bool, true, false, ◌||◌}
@@ -9,8 +8,8 @@ use lib.ListN.{length, take, get_or}
 use lib.Seq.{take_all}
 use Rattle.laws.specs.Lists.{some?}
 use Rattle.laws.proofs.Every.{some_next}
-use Rattle.listing.specs.Put.{Put, put, puts}
-use Rattle.listing.proofs.Puts.{after, renamed, ends, as_long}
+use Rattle.listing.specs.Put.{put, puts}
+use Rattle.listing.proofs.Puts.{after, renamed, as_long}
 use Rattle.csv_text.specs.Csv.{class_of, special, twice, doubled, quoted_if, field}
 use Rattle.csv_text.proofs.Classes.{doubled-next}
 

@@ -10,7 +10,7 @@ use Rattle.rules.specs.Dispatch.{Row}
 use Rattle.rules.specs.Listing.{ascii, natural, integer, decimals}
 use Rattle.rules.specs.Number.{hundredths_of}
 use Rattle.rules.specs.Outcome.{Done}
-use Rattle.rules.specs.declared.Answer.TheVariants.{Refused}
+use Rattle.rules.specs.Answer.{Refused}
 use Rattle.rules.specs.declared.Refusal.{Refusal}
 use Rattle.csv_text.specs.Csv.{csv}
 

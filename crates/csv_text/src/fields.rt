@@ -31,11 +31,8 @@ fn any_special(text: &[u8]) -> bool
     ensures defined { result ≡ some? (λ b. special (class_of b)) text.now }
 {
     let mut found = false;
-    let mut i = 0;
-    while i < text.len() {
-        let own = is_special(text[i]);
-        found = found | own;
-        i += 1;
+    for b in text {
+        found |= is_special(*b);
     }
     found
 }
@@ -60,11 +57,8 @@ fn put_doubled(out: &mut [u8], at: usize, text: &[u8]) -> usize
     ensures within { result ≤ at + 2 * length text.now }
 {
     let mut end = at;
-    let mut i = 0;
-    while i < text.len() {
-        let b = text[i];
-        end = put_twice(out, end, b);
-        i += 1;
+    for b in text {
+        end = put_twice(out, end, *b);
     }
     end
 }

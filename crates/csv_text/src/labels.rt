@@ -1,9 +1,9 @@
 // Lent labels: the first bad one, and the one of an attribute.
 ghost use Rattle.std.specs.Prelude.{◌≡◌, true, [], ◌+◌, ◌≤◌, ◌<◌, length, get_or};
 ghost use Rattle.std.proofs.Math.Option.{none};
-ghost use Rattle.laws.specs.Lists.{every?, span};
+ghost use Rattle.laws.specs.Lists.{every?};
 ghost use Rattle.csv_text.specs.Labels as rule;
-ghost use Rattle.csv_text.specs.Labels.{id_of, label_bad, labels_of, label_of};
+ghost use Rattle.csv_text.specs.Labels.{id_of, first_of, count_of, label_bad, labels_of, label_of};
 ghost use Rattle.csv_text.specs.Puts.{bad_label, id_before};
 ghost use Rattle.csv_text.specs.Sought.{FirstNotBelow};
 
@@ -27,17 +27,9 @@ pub const LABEL_COUNT: usize = 2;
 const LABEL_MOST: usize = 64;
 
 // The first bad label of a table.
-#[derive(Clone, Copy)]
-pub enum Table {
-    Good,
-    Bad(usize),
-}
-
-// A part of the lent bytes.
-#[derive(Clone, Copy)]
-pub struct Part {
-    pub first: usize,
-    pub count: usize,
+#[derive(Clone, Copy, Debug, PartialEq, Eq)]
+pub struct BadLabel {
+    pub label: usize,
 }
 
 // Whether a label may have this byte: printable ASCII, CR or LF.
@@ -52,11 +44,8 @@ fn all_allowed(text: &[u8]) -> bool
     ensures defined { result ≡ every? rule.allowed text.now }
 {
     let mut good = true;
-    let mut i = 0;
-    while i < text.len() {
-        let own = is_allowed(text[i]);
-        good = good & own;
-        i += 1;
+    for b in text {
+        good &= is_allowed(*b);
     }
     good
 }
@@ -95,97 +84,81 @@ fn stands(labels: &[LabelRow], i: usize) -> bool
     before < own
 }
 
-// The first bad label.
-pub fn bad_label(labels: &[LabelRow], bytes: &[u8]) -> Table
+// Whether all labels are good; or the first that is bad.
+pub fn check_labels(labels: &[LabelRow], bytes: &[u8]) -> Result<(), BadLabel>
     ensures defined { bad_label result ≡ label_bad bytes.now labels.now }
 {
     let clean = all_allowed(bytes);
-    let mut i = 0;
-    while i < labels.len() {
+    for i in 0..labels.len() {
         let after = stands(labels, i);
         let good = after & label_good(labels[i], bytes, clean);
         if !good {
-            return Table::Bad(i);
+            return Err(BadLabel { label: i });
         }
-        i += 1;
     }
-    Table::Good
+    Ok(())
 }
 
-// The first label whose id is not below the one sought: of what is left a half at a time.
+// The first label whose id is not below the one sought.
 fn lower(labels: &[LabelRow], id: i32) -> usize
     ensures inside { result ≤ length labels.now }
     ensures defined { FirstNotBelow labels.now id result }
 {
-    let mut low = 0;
-    let mut left = labels.len();
-    while 0 < left {
-        let half = left / 2;
-        let own = signed(labels[low + half][LABEL_ID]);
-        if own < id {
-            low = low + half + 1;
-            left = left - half - 1;
-        } else {
-            left = half;
-        }
-    }
-    low
+    labels.partition_point(|label| signed(label[LABEL_ID]) < id)
 }
 
-// Where the bytes of an attribute's label lie; none where it has no label.
-pub fn part_of(labels: &[LabelRow], bytes: &[u8], id: i32) -> Part
+// A label's bytes.
+fn bytes_of(label: LabelRow, bytes: &[u8]) -> &[u8]
+    requires inside { first_of label + count_of label ≤ length bytes.now }
+    ensures span { result.now ≡ rule.bytes_of bytes.now label }
+{
+    let first = index(label[LABEL_FIRST]);
+    let end = first + index(label[LABEL_COUNT]);
+    &bytes[first..end]
+}
+
+// An attribute's label; empty where it has none.
+pub fn label_of<'a>(labels: &[LabelRow], bytes: &'a [u8], id: i32) -> &'a [u8]
     requires good { label_bad bytes.now labels.now ≡ none }
-    ensures the_label { let ls = labels_of bytes.now labels.now in
-        span result.first result.count bytes.now ≡ label_of ls id }
-    ensures inside { result.first + result.count ≤ length bytes.now }
-    ensures short { result.count ≤ 64 }
+    ensures the_label { result.now ≡ label_of (labels_of bytes.now labels.now) id }
+    ensures short { length result.now ≤ 64 }
 {
     let at = lower(labels, id);
     if at < labels.len() {
         let label = labels[at];
         let own = signed(label[LABEL_ID]);
         if own == id {
-            return Part {
-                first: index(label[LABEL_FIRST]),
-                count: index(label[LABEL_COUNT]),
-            };
+            return bytes_of(label, bytes);
         }
-        return Part { first: 0, count: 0 };
     }
-    Part { first: 0, count: 0 }
+    &[]
 }
 
 // The places of labels by their ids, told to the look-ups: of no promise.
 pub fn tell(places: &mut AttributePlaces, labels: &[LabelRow]) {
-    let mut i = 0;
-    while i < labels.len() {
-        let id = signed(labels[i][LABEL_ID]);
-        let at = attribute_slot(id);
-        let place = (i % 65536) as u16;
-        places[at] = place;
-        i += 1;
+    for (i, label) in labels.iter().enumerate() {
+        places[attribute_slot(signed(label[LABEL_ID]))] = (i % 65536) as u16;
     }
 }
 
-// The same as `part_of`: the place that was told is tried first, and tested.
-pub fn part_at(labels: &[LabelRow], places: &AttributePlaces, bytes: &[u8], id: i32) -> Part
+// The same as `label_of`: the place that was told is tried first, and tested.
+pub fn label_at<'a>(
+    labels: &[LabelRow],
+    places: &AttributePlaces,
+    bytes: &'a [u8],
+    id: i32,
+) -> &'a [u8]
     requires good { label_bad bytes.now labels.now ≡ none }
-    ensures the_label { let ls = labels_of bytes.now labels.now in
-        span result.first result.count bytes.now ≡ label_of ls id }
-    ensures inside { result.first + result.count ≤ length bytes.now }
-    ensures short { result.count ≤ 64 }
+    ensures the_label { result.now ≡ label_of (labels_of bytes.now labels.now) id }
+    ensures short { length result.now ≤ 64 }
 {
     let told = place_of(places[attribute_slot(id)]);
-    if labels.len() <= told {
-        return part_of(labels, bytes, id);
+    if told < labels.len() {
+        let label = labels[told];
+        let own = signed(label[LABEL_ID]);
+        if own == id {
+            return bytes_of(label, bytes);
+        }
     }
-    let label = labels[told];
-    let own = signed(label[LABEL_ID]);
-    if own == id {
-        return Part {
-            first: index(label[LABEL_FIRST]),
-            count: index(label[LABEL_COUNT]),
-        };
-    }
-    part_of(labels, bytes, id)
+    label_of(labels, bytes, id)
 }

@@ -1,21 +1,22 @@
 // A run's rows as comma-separated text by RFC 4180, with lent labels for the attributes.
 #![tactic(auto)]
 
-ghost use Rattle.std.specs.Prelude.{◌≡◌, ◌≤◌, length, get_or, replicate};
+ghost use Rattle.std.specs.Prelude.{◌≡◌, ◌≤◌, length, get_or, IfErr};
 ghost use Rattle.std.proofs.Math.Option.{none};
-ghost use Rattle.clear.specs.Ends.{ClearedFrom};
 ghost use Rattle.rules.specs.Answer.{Res, ok};
 ghost use Rattle.rules.specs.Bytes as B;
 ghost use Rattle.rules.specs.Outcome.{Done};
 ghost use Rattle.listing.specs.Pieces.{Shown, Tells};
+ghost use Rattle.csv_text.specs.declared.ExportRefusal.TheVariants.{Label};
 ghost use Rattle.csv_text.specs.Csv.{record_text, csv};
 ghost use Rattle.csv_text.specs.Labels.{label_bad, labels_of, fields_of, records, export_of};
-ghost use Rattle.csv_text.specs.Puts.{AddedOr, BeginsOr, Gives};
+ghost use Rattle.csv_text.specs.Puts.{AddedOr, BeginsOr, Puts, Gives, IsRefused, number_in, place_in, told_of};
 
+use clear::zero_from;
 use columns::{ATTRIBUTE_SLOTS, AttributePlaces, AttributeRow, ROW_ATTRIBUTE, ROW_OBJECT};
 use fields::put_record;
-use labels::{LabelRow, Table, bad_label, part_at, tell};
-use listing::{put_text, zero_bytes};
+use labels::{BadLabel, LabelRow, check_labels, label_at, tell};
+use listing::put_text;
 use numbers::integers::signed;
 
 // Room for the longest record: 10 + 11 + 130 + 16 bytes, three commas, CR and LF.
@@ -24,37 +25,62 @@ const LINE_BYTES: usize = 172;
 // The header record.
 const HEADER_BYTES: usize = 30;
 
-// The numbers of the refusals, and the place of a text that is longer than the bytes lent: list 8.
+// The numbers of the refusals, as C has them, and the place of a text that is longer than the bytes lent: list 8.
 const LABEL: u64 = 16;
 
 const ROOM: u64 = 7;
 
 const TEXT: u64 = 8;
 
-// Where a text ends; or it does not fit.
-#[derive(Clone, Copy)]
-enum Filled {
-    To(usize),
+// Why there is no text: the engine's refusal by its number and place, the first bad label, or more text than bytes lent.
+#[derive(Clone, Copy, Debug, PartialEq, Eq)]
+pub enum ExportRefusal {
+    Engine { number: u64, place: u64 },
+    Label(usize),
     Full,
 }
 
-// Number and place as document 01 has them; how many bytes the text has.
-#[derive(Clone, Copy)]
-pub struct Told {
-    pub number: u64,
-    pub place: u64,
-    pub length: u64,
+impl From<BadLabel> for ExportRefusal {
+    ghost from_gives = { λ b e. e ≡ Label b.label };
+
+    fn from(bad: BadLabel) -> ExportRefusal {
+        ExportRefusal::Label(bad.label)
+    }
+}
+
+impl ExportRefusal {
+    // The number that document 01 has for it.
+    pub fn number(self) -> u64
+        ensures defined { result ≡ number_in self }
+    {
+        match self {
+            ExportRefusal::Engine { number, .. } => number,
+            ExportRefusal::Label(_) => LABEL,
+            ExportRefusal::Full => ROOM,
+        }
+    }
+
+    // And its place.
+    pub fn place(self) -> u64
+        ensures defined { result ≡ place_in self }
+    {
+        match self {
+            ExportRefusal::Engine { place, .. } => place,
+            ExportRefusal::Label(label) => label as u64,
+            ExportRefusal::Full => TEXT,
+        }
+    }
 }
 
 // Bytes at a place of a text, where they fit.
-fn put_fitting(text: &mut [u8], at: usize, bytes: &[u8]) -> Filled
+fn put_fitting(text: &mut [u8], at: usize, bytes: &[u8]) -> Option<usize>
     requires inside { at ≤ length text.old }
     ensures added { AddedOr result text.old text.new at bytes.now }
 {
     if text.len() - at < bytes.len() {
-        return Filled::Full;
+        return None;
     }
-    Filled::To(put_text(text, at, bytes))
+    Some(put_text(text, at, bytes))
 }
 
 // The record of a row at a place of a text, where it fits; a line is lent to lay it out.
@@ -67,7 +93,7 @@ fn put_row(
     labels: &[LabelRow],
     places: &AttributePlaces,
     label_bytes: &[u8],
-) -> Filled
+) -> Option<usize>
     requires inside { at ≤ length text.old }
     requires line { 172 ≤ length line.old }
     requires good { label_bad label_bytes.now labels.now ≡ none }
@@ -76,10 +102,8 @@ fn put_row(
         AddedOr result text.old text.new at (record_text fields) }
 {
     let id = signed(row[ROW_ATTRIBUTE]);
-    let part = part_at(labels, places, label_bytes, id);
-    let first = part.first;
-    let end = first + part.count;
-    let long = put_record(line, row[ROW_OBJECT], id, &label_bytes[first..end], value);
+    let label = label_at(labels, places, label_bytes, id);
+    let long = put_record(line, row[ROW_OBJECT], id, label, value);
     put_fitting(text, at, &line[..long])
 }
 
@@ -91,7 +115,7 @@ fn put_records(
     n: usize,
     labels: &[LabelRow],
     label_bytes: &[u8],
-) -> Filled
+) -> Option<usize>
     requires counted { (n ≤ length rows.now) × (n ≤ length values.now) }
     requires good { label_bad label_bytes.now labels.now ≡ none }
     ensures the_records { let ls = labels_of label_bytes.now labels.now in
@@ -99,17 +123,16 @@ fn put_records(
         → BeginsOr result text.new (csv (records ls d))) }
 {
     if text.len() < HEADER_BYTES {
-        return Filled::Full;
+        return None;
     }
     let mut places = [0u16; ATTRIBUTE_SLOTS];
     tell(&mut places, labels);
     let mut line = [0u8; LINE_BYTES];
     let mut end = put_text(text, 0, b"object,attribute,label,value\r\n");
-    let mut next = 0;
-    while next < n {
+    for next in 0..n {
         let row = rows[next];
         let value = values[next];
-        let put = put_row(
+        end = put_row(
             text,
             &mut line,
             end,
@@ -118,68 +141,36 @@ fn put_records(
             labels,
             &places,
             label_bytes,
-        );
-        match put {
-            Filled::Full => {
-                return Filled::Full;
-            }
-            Filled::To(e) => {
-                end = e;
-            }
-        }
-        next += 1;
+        )?;
     }
-    Filled::To(end)
+    Some(end)
 }
 
-// A refusal: all bytes are zero.
-fn refused(text: &mut [u8], number: u64, place: u64) -> Told
-    ensures answer { result ≡ record { number = number; place = place; length = 0 } }
-    ensures zeros { text.new ≡ replicate (length text.old) 0 }
-{
-    zero_bytes(text, 0);
-    Told {
-        number,
-        place,
-        length: 0,
-    }
-}
-
-// Done: zeros behind the text.
-fn done(text: &mut [u8], end: usize) -> Told
-    ensures answer { result ≡ record { number = 0; place = 0; length = end } }
-    ensures cleared { ClearedFrom text 0 end }
-{
-    zero_bytes(text, end);
-    Told {
-        number: 0,
-        place: 0,
-        length: end as u64,
-    }
-}
-
-// The text of n rows with good labels, or ROOM.
-fn rows_text(
+// The text of a run's rows; or why there is none, and then the bytes are anything. Number 0 is n rows, another the engine's refusal.
+fn put_export(
     text: &mut [u8],
     rows: &[AttributeRow],
     values: &[f64],
     n: usize,
+    number: u64,
+    place: u64,
     labels: &[LabelRow],
     label_bytes: &[u8],
-) -> Told
+) -> Result<usize, ExportRefusal>
     requires counted { (n ≤ length rows.now) × (n ≤ length values.now) }
-    requires good { label_bad label_bytes.now labels.now ≡ none }
-    ensures defined { (d : Done) → Shown d n rows.now values.now
-        → Gives text result (export_of (ok d) labels.now label_bytes.now) }
+    ensures defined { (o : Res Done) → Tells o number place n rows.now values.now
+        → Puts result text (export_of o labels.now label_bytes.now) }
+    ensures refused { (o : Res Done) → Tells o number place n rows.now values.now → IfErr result IsRefused }
 {
-    let put = put_records(text, rows, values, n, labels, label_bytes);
-    match put {
-        Filled::Full => refused(text, ROOM, TEXT),
-        Filled::To(end) => done(text, end),
+    if number != 0 {
+        return Err(ExportRefusal::Engine { number, place });
     }
+    check_labels(labels, label_bytes)?;
+    put_records(text, rows, values, n, labels, label_bytes).ok_or(ExportRefusal::Full)
 }
 
-// The text of what came back of a run, or the refusal: number 0 is n rows, another the engine's refusal.
+// The text of what came back of a run, and zeros behind it; or the refusal, and then all is zero: number 0 is n rows, another the
+// engine's refusal.
 pub fn export_text(
     text: &mut [u8],
     rows: &[AttributeRow],
@@ -189,19 +180,15 @@ pub fn export_text(
     place: u64,
     labels: &[LabelRow],
     label_bytes: &[u8],
-) -> Told
+) -> Result<usize, ExportRefusal>
     requires counted { (n ≤ length rows.now) × (n ≤ length values.now) }
     ensures defined { (o : Res Done) → Tells o number place n rows.now values.now
-        → Gives text result (export_of o labels.now label_bytes.now) }
+        → Gives text (told_of result) (export_of o labels.now label_bytes.now) }
+    ensures refused { (o : Res Done) → Tells o number place n rows.now values.now → IfErr result IsRefused }
 {
-    if number != 0 {
-        return refused(text, number, place);
-    }
-    let table = bad_label(labels, label_bytes);
-    match table {
-        Table::Bad(i) => refused(text, LABEL, i as u64),
-        Table::Good => rows_text(text, rows, values, n, labels, label_bytes),
-    }
+    let made = put_export(text, rows, values, n, number, place, labels, label_bytes);
+    zero_from(text, 0, made.unwrap_or(0));
+    made
 }
 
 pub mod fields;

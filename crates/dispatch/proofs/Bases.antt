@@ -1,13 +1,11 @@
--- Base attributes counted object by object; and a scan of rows.
-use Prim.Native.Nat.{ℕ, ◌+◌, ◌*◌, ◌≤◌, ◌<◌}
+-- Base attributes counted object by object.
+use Prim.Native.Nat.{ℕ, ◌+◌, ◌≤◌, ◌<◌}
 use native.Mathlib.Omega.{arith}
 use mathlib.Core.Path.{◌≡◌, refl, sym, ap, ◌∙◌}
-use mathlib.Core.Bool.{Bool, true, false, ◌||◌}
-use mathlib.Core.List.{List, [], ◌++◌, map}
-use lib.ListN.{length, get_or, take, length-map, length-append}
-use lib.Seq.{length-take-le, get_or-take, take_all}
-use Rattle.laws.specs.Lists.{some?, flat}
-use Rattle.laws.proofs.Every.{some_next, some_by}
+use mathlib.Core.List.{List, ◌++◌, map}
+use lib.ListN.{length, take, length-map, length-append}
+use lib.Seq.{take_all}
+use Rattle.laws.specs.Lists.{flat}
 use Rattle.laws.proofs.Flat.{flat-next}
 use Rattle.laws.proofs.Spans.{span_length}
 use Rattle.rules.specs.Bytes.{count_of}
@@ -38,17 +36,3 @@ module _ (b : List ℕ) (pairs : List (List ℕ)) (S : SoundFit b pairs) where
   pub base_all : (i : ℕ) → count_of pairs 6 ≤ i → (t : ℕ) → t ≡ length (keys_to (fit_of b pairs) i) → t ≡ length (base_keys (fit_of b pairs))
   unfolding base_keys
   base_all i h t s = s ∙ ap (λ (l : List Item). length (flat (keys_of (fit_of b pairs)) l)) (take_all i (fit_of b pairs).objects (rw (objects_length b pairs) h))
-
--- ---- a scan
-
-module _ {A : Type 0} (p : A → Bool) (xs : List A) (d : A) where
-  pub scan_next : (k : ℕ) → k < length xs → some? p (take k xs) ≡ false → p (get_or xs k d) ≡ false → some? p (take (k + 1) xs) ≡ false
-  scan_next k h e f = some_next p xs k d h ∙ ap (λ (t : Bool). t || p (get_or xs k d)) e ∙ f
-
-  pub scan_here : (n k : ℕ) → k < n → n ≤ length xs → p (get_or xs k d) ≡ true → true ≡ some? p (take n xs)
-  scan_here n k h l e = sym (some_by p (take n xs) k d (rw (length-take-le n xs l) h) (ap p (get_or-take n xs k d h) ∙ e))
-
-  pub scan_end : (n k : ℕ) → k ≤ n → n ≤ k → some? p (take k xs) ≡ false → false ≡ some? p (take n xs)
-  scan_end n k h l e =
-      let same : n ≡ k = omega arith in
-      sym (ap (λ (m : ℕ). some? p (take m xs)) same ∙ e)

@@ -1,28 +1,27 @@
 -- How many keys are known after hits: the rows of all objects, each with its own ids.
 use Prim.Native.Nat.{ℕ, zero, suc, ◌+◌, ◌≤◌, ◌<◌}
-use native.Mathlib.Nat.{add-zero, zero-add, not-suc-le-zero}
+use native.Mathlib.Nat.{add-zero}
 use native.Mathlib.Omega.{arith}
-use mathlib.Core.Path.{◌≡◌, refl, sym, ap, subst, ◌∙◌}
-use mathlib.Core.Bool.{Bool, true, false, not, ◌&&◌, ◌||◌, cond}
+use mathlib.Core.Path.{◌≡◌, refl, sym, ap, ◌∙◌}
+use mathlib.Core.Bool.{Bool, true, false, ◌&&◌, ◌||◌, cond}
 use mathlib.Core.Logic.{◌⊎◌, inl, inr}
 use mathlib.Core.List.{List, [], ◌∷◌, map}
 use lib.Dec.{eqb, ltb}
 use lib.IntN.{ℤ}
 use lib.ListN.{length, length-map}
 use borrow.Author.Tests.{eqb-true, eq-eqb, ne_eqb, ltb-true}
-use Rattle.laws.specs.Lists.{eq_z, keep, put, some?, every?, flat, from, ascends, insert, insert_all, total}
+use Rattle.laws.specs.Lists.{eq_z, keep, put, some?, every?, from, ascends, insert, insert_all, total}
 use Rattle.laws.proofs.Bools.{true_or_false, same_test, both_ways, and_left, and_right}
 use Rattle.laws.proofs.Maps.{map_same, map-map}
-use Rattle.laws.proofs.Every.{some_map, some_flat, some_same}
+use Rattle.laws.proofs.Every.{some_map, some_flat}
 use Rattle.laws.proofs.Flat.{flat-length}
 use Rattle.laws.proofs.From.{table_same, table_of}
-use Rattle.laws.proofs.Order.{eq_z_true, eq_z_refl}
+use Rattle.laws.proofs.Order.{eq_z_true}
 use Rattle.laws.proofs.Inserts.{insert_member, insert-length, insert_there, ascends-insert}
 use Rattle.rules.specs.Sheet.{Fit, bases_of}
 use Rattle.rules.specs.Item.{object, no_item}
 use Rattle.rules.specs.Dispatch.{Key, same_key, base_keys}
 use Rattle.rules.specs.declared.Item.{Item}
-use Rattle.rules.specs.declared.BaseAttribute.{BaseAttribute}
 use Rattle.dispatch.proofs.Rooms.{joined, after}
 
 eqb_sym : (a b : ℕ) → eqb a b ≡ eqb b a

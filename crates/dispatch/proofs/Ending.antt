@@ -1,14 +1,15 @@
 -- The three ways that dispatch ends.
-use Prim.Native.Nat.{ℕ, ◌+◌, ◌≤◌, ◌<◌, ◌^◌}
+use Prim.Native.Nat.{ℕ, ◌≤◌, ◌<◌, ◌^◌}
 use native.Mathlib.Omega.{arith}
-use mathlib.Core.Path.{◌≡◌, refl, sym, ap, subst, ◌∙◌}
-use mathlib.Core.Bool.{Bool, not, ◌&&◌, cond}
-use mathlib.Core.List.{List, [], ◌∷◌, ◌++◌, map}
-use mathlib.Core.Option.{Option, none, some}
+use mathlib.Core.Path.{◌≡◌, sym, ap, subst, ◌∙◌}
+use mathlib.Core.Bool.{not, ◌&&◌, cond}
+use mathlib.Core.List.{List, ◌++◌, map}
+use mathlib.Core.Option.{none, some}
+use Rattle.std.specs.Prelude.{Option, Some, None}
 use lib.Dec.{eqb}
 use lib.Ieee.{Float}
-use lib.ListN.{length, get_or, take, drop, length-map}
-use lib.Seq.{take_at, take_all}
+use lib.ListN.{length, get_or, take, drop}
+use lib.Seq.{take_all}
 use Rattle.laws.specs.Lists.{some?}
 use Rattle.laws.specs.Columns.{Col}
 use Rattle.rules.specs.Bytes.{count_of}
@@ -21,8 +22,6 @@ use Rattle.info.proofs.Elements.{objects_length}
 use Rattle.info.proofs.Sheets.{numbered}
 use Rattle.hits.specs.Strikes.{Strike, arrivals, Segmented}
 use Rattle.hits.proofs.Cutting.{parts_length}
-use Rattle.rows.specs.declared.rows.Laid.{Laid}
-use Rattle.rows.specs.declared.rows.Laid.TheVariants.{Rows, Full}
 use Rattle.rows.specs.Effects.{Listing}
 use Rattle.rows.specs.Laying.{entries_of}
 use Rattle.rows.specs.Parts.{hits_to, Parts, Parting, rows_to, ListsLaid, AllLaid}
@@ -62,31 +61,31 @@ module _ (k : Book) (fit : List ℕ) (pairs : List (List ℕ)) (S : SoundFit fit
     abbrev all : List Row
     all = rows_to k (fit_of fit pairs) es parts objects
 
-    module _ (room : ℕ) (based : length (base_keys (fit_of fit pairs)) ≤ room) (r : Laid) (rows₀ rows' : List (List ℕ)) (bases₀ bases' : List Float) (entries' : List (List ℕ)) (values₀ values' : List Float)
+    module _ (room : ℕ) (based : length (base_keys (fit_of fit pairs)) ≤ room) (r : Option ℕ) (rows₀ rows' : List (List ℕ)) (bases₀ bases' : List Float) (entries' : List (List ℕ)) (values₀ values' : List Float)
         (A : AllLaid r room (hits_to parts objects) all rows₀ rows' bases₀ bases' entries entries' values₀ values') where
-      answer : (q : Laid) → r ≡ q → AllLaid q room (hits_to parts objects) all rows₀ rows' bases₀ bases' entries entries' values₀ values'
-      answer q e = subst (λ (x : Laid). AllLaid x room (hits_to parts objects) all rows₀ rows' bases₀ bases' entries entries' values₀ values') e A
+      answer : (q : Option ℕ) → r ≡ q → AllLaid q room (hits_to parts objects) all rows₀ rows' bases₀ bases' entries entries' values₀ values'
+      answer q e = subst (λ (x : Option ℕ). AllLaid x room (hits_to parts objects) all rows₀ rows' bases₀ bases' entries entries' values₀ values') e A
 
-      pub ending_full : r ≡ Full → full room room3 k (fit_of fit pairs) es ≡ some 2
-      ending_full e = full_rows k (fit_of fit pairs) objects (objects_length fit pairs) (numbered fit pairs) (bases_ascend fit pairs S) es room3 room based (answer Full e)
+      pub ending_full : r ≡ None → full room room3 k (fit_of fit pairs) es ≡ some 2
+      ending_full e = full_rows k (fit_of fit pairs) objects (objects_length fit pairs) (numbered fit pairs) (bases_ascend fit pairs S) es room3 room based (answer None e)
 
-      module _ {m : ℕ} (e : r ≡ Rows m) where
+      module _ {m : ℕ} (e : r ≡ Some m) where
         pub ending_inside : room ≤ length rows₀ → length rows' ≡ length rows₀ → m ≤ length rows'
         ending_inside h l =
-            let X = answer (Rows m) e in
+            let X = answer (Some m) e in
             omega (arith, X.0, X.1)
 
         pub ending_past : {n : ℕ} {c : List (List ℕ)} {v : List Float} → Collection es n c v objects → room3 < used → (l : ℕ)
             → l ≡ cond (eqb m room && not (some? (is_row (get_or past 0 0) (get_or past 1 0)) (take m rows'))) 2 3 → full room room3 k (fit_of fit pairs) es ≡ some l
         ending_past C h l q =
-            let X = answer (Rows m) e in
+            let X = answer (Some m) e in
             let over : room3 < length hs = rw G.count at h in
             full_list k (fit_of fit pairs) objects (objects_length fit pairs) (numbered fit pairs) (bases_ascend fit pairs S) es room3 (bases_narrow fit pairs) C.held.narrow room based over m l X.0 X.1 X.3.rows (G.left over) q
 
         pub ending_done : length entries ≡ length entries₀ → used ≤ room3 → (full room room3 k (fit_of fit pairs) es ≡ none) × (m ≡ length (rows k (fit_of fit pairs) es)) × (used ≡ length (entries_of (rows k (fit_of fit pairs) es)))
             × ListsLaid (rows k (fit_of fit pairs) es) rows₀ rows' bases₀ bases' entries₀ entries' values₀ values' × (m ≤ room)
         ending_done z h =
-            let X = answer (Rows m) e in
+            let X = answer (Some m) e in
             let l : length hs ≤ room3 = rw G.count at h in
             let same : all ≡ rows k (fit_of fit pairs) es = rows_are k (fit_of fit pairs) objects (objects_length fit pairs) (numbered fit pairs) (bases_ascend fit pairs S) es room3 l in
             let count : length (entries_of all) ≡ length (take room3 hs) = X.2 ∙ parts_length k (fit_of fit pairs) (numbered fit pairs) es objects room3 (objects_length fit pairs) in

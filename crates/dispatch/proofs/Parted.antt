@@ -3,48 +3,47 @@ use Prim.Native.Nat.{ℕ, zero, suc, ◌+◌, ◌≤◌, ◌<◌, ◌^◌}
 use native.Mathlib.Nat.{zero-add}
 use native.Mathlib.Omega.{arith}
 use mathlib.Core.Path.{◌≡◌, refl, sym, ap, subst, ◌∙◌}
-use mathlib.Core.Bool.{Bool, true, false, not, ◌&&◌, ◌||◌, cond}
-use mathlib.Core.List.{List, [], ◌∷◌, ◌++◌, map}
-use mathlib.Core.Option.{Option, none, some}
+use mathlib.Core.Bool.{Bool, true, not, ◌&&◌, ◌||◌, cond}
+use mathlib.Core.List.{List, [], ◌∷◌, map}
+use mathlib.Core.Option.{none, some}
 use lib.Dec.{eqb, ltb}
 use lib.IntN.{ℤ}
 use lib.Ieee.{Float}
 use lib.ListN.{length, get_or, take, drop, length-map}
-use lib.Seq.{length-take-le, get_or-take, take_at, take_all}
+use lib.Seq.{length-take-le, get_or-take, take_at}
 use mir.Syntax.{w32}
-use mir.Val.{SFits, of_z}
+use mir.Val.{SFits}
 use borrow.Author.Tests.{eq-eqb, ne_eqb, ltb-true}
-use Rattle.laws.specs.Lists.{eq_z, keep, some?, every?, flat, from, ascends, insert, insert_all, total}
-use Rattle.laws.specs.Columns.{laid, Col}
+use Rattle.laws.specs.Lists.{eq_z, keep, some?, every?, flat, from, ascends, insert_all, total}
+use Rattle.laws.specs.Columns.{Col}
 use Rattle.laws.specs.Floats.{zero_f}
 use Rattle.laws.proofs.Bools.{and_left, and_right}
 use Rattle.laws.proofs.Maps.{map_same, map-map, map-take, map_at, map_itself}
 use Rattle.laws.proofs.Keep.{keep-map, every_kept}
 use Rattle.laws.proofs.Every.{every_at, every_by, every_map, every_weaker, every_take, every_drop, some_map, some_flat}
 use Rattle.laws.proofs.Flat.{flat_map, flat-length}
-use Rattle.laws.proofs.From.{table_of, table_same}
+use Rattle.laws.proofs.From.{table_of}
 use Rattle.laws.proofs.Order.{eq_z_sym}
 use Rattle.laws.proofs.Signs.{eq_z-bits}
 use Rattle.laws.proofs.Inserts.{insert_all_every}
 use Rattle.rules.specs.Bytes.{bits, signed, u32_at, count_of, record_at}
 use Rattle.rules.specs.Sheet.{Book, Fit, fit_of, base_from, bases_of}
 use Rattle.rules.specs.Item.{object, no_item}
-use Rattle.rules.specs.Dispatch.{Row, Key, same_key, base_keys, hit_keys, full_at, hits_on, ids_of, row_of, rows}
+use Rattle.rules.specs.Dispatch.{Row, Key, same_key, base_keys, hit_keys, ids_of, row_of, rows}
 use Rattle.rules.specs.Columns.{rows_numbers}
-use Rattle.rules.specs.declared.Item.{Item}
 use Rattle.rules.specs.declared.Pass2Effect.{Pass2Effect}
 use Rattle.info.specs.Stands.{effect_at, numbered_at}
 use Rattle.info.proofs.Narrow.{signed_narrow}
 use Rattle.hits.specs.Strikes.{Strike, strike, Listed, Listing, arrivals, effects_on, key_of, key_numbers, Segmented}
 use Rattle.hits.proofs.Gathering.{inside?, inside_take}
 use Rattle.hits.proofs.Numbering.{arrivals-inside, arrivals_keys, arrivals_listed}
-use Rattle.hits.proofs.Cutting.{parts_length, parts_few, parts_numbered, parts_hits, parts_placed, parts_ended}
+use Rattle.hits.proofs.Cutting.{parts_few, parts_numbered, parts_hits, parts_placed, parts_ended}
 use Rattle.rows.specs.Tallies.{narrow?}
-use Rattle.rows.specs.Entries.{Collected, row_for, rows_for}
+use Rattle.rows.specs.Entries.{row_for, rows_for}
 use Rattle.rows.proofs.Defined.{rows_defined}
 use Rattle.rows.proofs.Bounds.{narrow_fits, fits_narrow}
 use Rattle.rows.specs.Effects.{Effects}
-use Rattle.rows.specs.Parts.{hits_to, Parts, Parting, part_rows, rows_to}
+use Rattle.rows.specs.Parts.{Parts, Parting, part_rows, rows_to}
 use Rattle.rows.proofs.Owned.{numbers_length}
 use Rattle.dispatch.specs.Keyed.{is_row}
 use Rattle.dispatch.specs.Whole.{Collection, Collecting, full}

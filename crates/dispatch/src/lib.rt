@@ -15,18 +15,19 @@ use columns::{AttributePlaces, AttributeRow, CollectedRow, EntryRow, OBJECTS, Ta
 use hits::places::set_hits;
 use room::full_at;
 use rows::object_lists::all_lists;
-use rows::rows::{HINTS, Laid};
+use rows::rows::HINTS;
+use rules::Refusal;
 
 pub mod room;
 
-// How many rows and entries there are; or the list that is full first.
+// How many rows and entries there are.
 #[derive(Clone, Copy)]
-pub enum Dispatched {
-    Lists(usize, usize),
-    Full(u32),
+pub struct DispatchedCounts {
+    pub rows: usize,
+    pub entries: usize,
 }
 
-// The rows and entries of n collected effects. Where a list is full, the columns may hold anything.
+// The rows and entries of n collected effects, or ROOM of the list that is full first. After a refusal the columns may hold anything.
 pub fn dispatch(
     rows: &mut [AttributeRow],
     bases: &mut [f64],
@@ -41,7 +42,7 @@ pub fn dispatch(
     n: usize,
     room: usize,
     room_entries: usize,
-) -> Dispatched
+) -> Result<DispatchedCounts, Refusal>
     requires sound_book { SoundBook book.now pairs.now }
     requires sound_fit { SoundFit fit.now pairs.now }
     requires collected_effects { Collecting n collected.now collected_values.now (count_of pairs.now 6) }
@@ -64,7 +65,7 @@ pub fn dispatch(
         room_entries,
     );
     let mut hints = [0u16; HINTS];
-    let laid = all_lists(
+    let k = all_lists(
         rows,
         bases,
         entries,
@@ -78,13 +79,14 @@ pub fn dispatch(
         pairs,
         places,
         room,
-    );
-    let Laid::Rows(k) = laid else {
-        return Dispatched::Full(2);
-    };
+    )
+    .ok_or(Refusal::Room(2))?;
     if room_entries < used {
         let list = full_at(rows, past, k, room);
-        return Dispatched::Full(list);
+        return Err(Refusal::Room(list));
     }
-    Dispatched::Lists(k, used)
+    Ok(DispatchedCounts {
+        rows: k,
+        entries: used,
+    })
 }

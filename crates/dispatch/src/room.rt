@@ -21,12 +21,10 @@ pub fn base_total(fit: &[u8], pairs: &TablePairs) -> usize
 {
     let objects = count_of(pairs, TABLE_OBJECTS);
     let mut total: usize = 0;
-    let mut i = 0;
-    while i < objects {
+    for i in 0..objects {
         let o = object(fit, pairs, i);
         let attributes = index(o.attributes);
         total += attributes;
-        i += 1;
     }
     total
 }
@@ -36,15 +34,7 @@ fn has_row(rows: &[AttributeRow], n: usize, object: u32, attribute: u32) -> bool
     requires inside { n ≤ length rows.now }
     ensures defined { result ≡ some? (is_row object attribute) (take n rows.now) }
 {
-    let mut k = 0;
-    while k < n {
-        let row = rows[k];
-        if (row[ROW_OBJECT] == object) & (row[ROW_ATTRIBUTE] == attribute) {
-            return true;
-        }
-        k += 1;
-    }
-    false
+    rows[..n].iter().any(|row| row[ROW_OBJECT] == object && row[ROW_ATTRIBUTE] == attribute)
 }
 
 // The list that the hit past the room of entries finds full, where n rows stand: it takes its row first.
@@ -53,12 +43,9 @@ pub fn full_at(rows: &[AttributeRow], past: HitKey, n: usize, room: usize) -> u3
     ensures the_list { let there = some? (is_row (get_or past 0 0) (get_or past 1 0)) (take n rows.now) in
         result ≡ cond (eqb n room && not there) 2 3 }
 {
-    if n != room {
-        return 3;
+    if n == room && !has_row(rows, n, past[KEY_OBJECT], past[KEY_ATTRIBUTE]) {
+        2
+    } else {
+        3
     }
-    let there = has_row(rows, n, past[KEY_OBJECT], past[KEY_ATTRIBUTE]);
-    if there {
-        return 3;
-    }
-    2
 }

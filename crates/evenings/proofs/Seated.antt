@@ -2,27 +2,26 @@
 use Prim.Native.Nat.{ℕ, zero, suc, ◌+◌, ◌-◌, ◌≤◌, ◌<◌, min}
 use native.Mathlib.Omega.{arith}
 use mathlib.Core.Path.{◌≡◌, refl, sym, ap, ◌∙◌, subst}
-use mathlib.Core.Bool.{Bool, true, false, ◌&&◌}
-use mathlib.Core.List.{List, [], ◌∷◌, ◌++◌, map}
+use mathlib.Core.Bool.{Bool, true, false}
+use mathlib.Core.List.{List, [], ◌∷◌}
 use mathlib.Core.Logic.{◌⊎◌, inl, inr}
-use mathlib.Core.Option.{Option, none, some}
+use mathlib.Core.Option.{none}
 use lib.Dec.{leb, ltb, eqb}
 use lib.Ieee.{Float}
-use lib.ListN.{length, get_or, set, replicate, length-set}
+use lib.ListN.{length, get_or, replicate}
 use lib.Seq.{get_or-set_same, get_or-set_other}
-use borrow.Author.Tests.{ltb-true, ltb-false, leb-true, leb-false, eqb-true, eqb-false, eq-eqb, ne_eqb}
+use borrow.Author.Tests.{ltb-true, ltb-false, leb-true, leb-false, eqb-true, eqb-false}
 use Rattle.laws.specs.Columns.{within}
 use Rattle.laws.specs.Floats.{zero_f}
 use Rattle.laws.specs.Lists.{every?, from, span}
-use Rattle.laws.proofs.Bools.{and_left, and_right, true_or_false}
+use Rattle.laws.proofs.Bools.{and_left, and_right}
 use Rattle.laws.proofs.Every.{every_at}
 use Rattle.laws.proofs.From.{from_at, from-length}
 use Rattle.laws.proofs.Within.{within-length, within_span, within-apart}
-use Rattle.rules.specs.Columns.{Counts}
 use Rattle.rules.specs.Outcome.{Lent}
-use Rattle.rules.specs.Pool.{first_of, length_of, stretch_of, first_at, length_at, pool_rooms, pool_bad}
-use Rattle.promises.specs.Pilots.{Pool, Told, lengths_of, pool_place, PilotMeets, RowOf, part_of, pilot_result, KeptOutside}
-use Rattle.promises.specs.PoolRows.{IsList, Seated, Astray, leaving, sharing, NoReason}
+use Rattle.rules.specs.Pool.{first_of, length_of, stretch_of, first_at, length_at, pool_bad}
+use Rattle.promises.specs.Pilots.{Pool, Told, lengths_of, PilotMeets, RowOf, pilot_result}
+use Rattle.promises.specs.PoolRows.{IsList, Astray, leaving, sharing}
 use Rattle.promises.specs.Result.{Result}
 use Rattle.promises.proofs.Pilots.{pilot_outside, pilot_apart}
 use Rattle.promises.proofs.PoolRows.{none_pool}
@@ -30,7 +29,7 @@ use Rattle.free_table.specs.declared.Stretch.{Stretch}
 use Rattle.free_table.specs.Table.{empty}
 use Rattle.seats.specs.declared.Seat.{Seat}
 use Rattle.seats.specs.Tiling.{end_of, holds, one, how_many}
-use Rattle.seats.specs.Seats.{Hall, free_of, seat_of, seats_of, same_five, same_pair, five, Seated as Answer, Done, Table, Pilot, Length, Pool as NoRun, Given, refused, with_seat, number, admit, leave}
+use Rattle.seats.specs.Seats.{Hall, seat_of, seats_of, same_five, same_pair, five, Seated as Answer, Done, Table, Pilot, Length, Pool as NoRun, Given, number, admit, leave}
 use Rattle.seats.proofs.Tiles.{in_by, each_row}
 use Rattle.seats.proofs.Good.{Good, good_by, seats_long, seat-at, rows_of, seat-row, seat_end}
 use Rattle.seats.proofs.Reached.{Sound, admit_sound, leave_sound}

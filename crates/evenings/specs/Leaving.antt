@@ -1,5 +1,5 @@
 -- What an admission and a leaving give back, and what a leaving does to the pool's rows. 02, M-107. Definitions only.
-use Rattle.std.specs.Prelude.{ℕ, min, ◌≡◌, List, [], Float, length, set, replicate}
+use Rattle.std.specs.Prelude.{ℕ, min, ◌≡◌, List, Float, length, set, replicate, Result}
 use Rattle.std.specs.Borrow.{MutBor}
 use denote.Triple.Both.{Both}
 use Rattle.columns.specs.Lending.{LentColumn}
@@ -9,8 +9,9 @@ use Rattle.promises.specs.Pilots.{Pool}
 use Rattle.free_table.specs.declared.Stretch.{Stretch}
 use Rattle.seats.specs.declared.Seat.{Seat}
 use Rattle.seats.specs.declared.Left.{Left}
-use Rattle.seats.specs.Seats.{Hall, Seated, Done, Table, Pilot, Length, Pool as NoRun, Given, seat_of, admit, leave}
-use Rattle.seats.specs.Told.{told, told_left, roomed}
+use Rattle.seats.specs.declared.SeatRefusal.{SeatRefusal}
+use Rattle.seats.specs.Seats.{Hall, Seated, Done, Table, Pilot, Length, Pool as NoRun, seat_of, admit, leave}
+use Rattle.seats.specs.Told.{told, left_answered, roomed}
 
 -- what dogma_admit gives back, of the hall h
 pub record AdmitMeets (h : Hall) (p w : ℕ) (r : Seat) (table : List Stretch) (seats : List (List (List ℕ))) : Type 0 where
@@ -91,8 +92,8 @@ pub record LeaveMeets (h : Hall) (p : ℕ) (before after : Pool) (r : Seat) (tab
   pub by_pool : after ≡ left_pool (leave h p).answer (seat_of h.seats p) p before
 
 -- the same of the table's first seventeen places, before the table is stored
-pub record LeavesSeats (room : ℕ) (h : Hall) (p : ℕ) (before after : Pool) (r : Left) (seats : List (List (List ℕ))) : Type 0 where
-  pub by_left : r ≡ told_left (roomed room h (leave h p)) (seat_of h.seats p)
+pub record LeavesSeats (room : ℕ) (h : Hall) (p : ℕ) (before after : Pool) (r : Result Left SeatRefusal) (seats : List (List (List ℕ))) : Type 0 where
+  pub by_left : r ≡ left_answered (roomed room h (leave h p)) (seat_of h.seats p)
   pub by_seats : seats ≡ (roomed room h (leave h p)).hall.seats
   pub by_pool : after ≡ left_pool (roomed room h (leave h p)).answer (seat_of h.seats p) p before
   pub pilots : length h.seats ≡ 16

@@ -5,6 +5,7 @@ ghost use Rattle.std.specs.Prelude.{◌≤◌, length};
 
 use exports::{TEXT_BYTES, export_text};
 use program::{arg_count, complain, read_file, say};
+use said::RefusalLine;
 
 // The longest text of labels that is read: 4,096 lines of 80 bytes.
 const LABELS_BYTES: usize = 327680;
@@ -14,26 +15,19 @@ fn say_export(rt: &HostRuntime, sheet: &[u8], labels: &[u8])
     requires short { length labels.now ≤ 327680 }
 {
     let mut text = [0u8; TEXT_BYTES];
-    let said = export_text(&mut text, sheet, labels);
-    let end = said.end;
-    say(rt, &rt.stderr(), &text[..end], said.good);
+    match export_text(&mut text, sheet, labels) {
+        Ok(end) => say(rt, &rt.stderr(), &text[..end]),
+        Err(RefusalLine { end }) => complain(&rt.stderr(), &text[..end]),
+    }
 }
 
 // The labels read, and then the export.
 fn with_labels(rt: &HostRuntime, sheet: &[u8]) {
     let mut labels = [0u8; LABELS_BYTES];
-    let file = read_file(&mut labels, rt, &rt.stderr(), 2);
-    if file.failed {
+    let too_long = b"export: the labels have more than 327,680 bytes\n";
+    let Some(n) = read_file(&mut labels, rt, &rt.stderr(), 2, too_long) else {
         return;
-    }
-    if file.more {
-        complain(
-            &rt.stderr(),
-            b"export: the labels have more than 327,680 bytes\n",
-        );
-        return;
-    }
-    let n = file.bytes;
+    };
     say_export(rt, sheet, &labels[..n]);
 }
 
@@ -43,17 +37,9 @@ fn main(rt: HostRuntime) {
         return;
     }
     let mut sheet = [0u8; 65536];
-    let file = read_file(&mut sheet, &rt, &rt.stderr(), 1);
-    if file.failed {
+    let too_long = b"export: the sheet has more than 65,536 bytes\n";
+    let Some(n) = read_file(&mut sheet, &rt, &rt.stderr(), 1, too_long) else {
         return;
-    }
-    if file.more {
-        complain(
-            &rt.stderr(),
-            b"export: the sheet has more than 65,536 bytes\n",
-        );
-        return;
-    }
-    let n = file.bytes;
+    };
     with_labels(&rt, &sheet[..n]);
 }

@@ -16,20 +16,19 @@ use Rattle.laws.proofs.Laid.{column_length}
 use Rattle.laws.proofs.Maps.{map_itself}
 use Rattle.rules.specs.Answer.{Res, ok, refused, number, place}
 use Rattle.rules.specs.Listing.{ascii, listing}
-use Rattle.rules.specs.declared.Answer.TheVariants.{Refused}
+use Rattle.rules.specs.Answer.{Refused}
 use Rattle.rules.specs.declared.Refusal.{Refusal}
 use Rattle.rules.specs.declared.Refusal.TheVariants as refusal_is
-use Rattle.rules.specs.Outcome.{Lent, Done, outcome}
-use Rattle.promises.specs.Result.{Result}
+use Rattle.rules.specs.Outcome.{Done}
 use Rattle.listing.specs.Put.{Begins}
 use Rattle.listing.proofs.Told.{no_number}
 use Rattle.csv_text.specs.Csv.{csv}
 use Rattle.csv_text.specs.Labels.{Export, text, engine, label, full, id_of, label_good, stands_after, bad_from, label_bad, labels_of, records, fitted, labelled, export_of, number_of, place_of, text_of}
-use Rattle.csv_text.specs.declared.Told.{Told}
-use Rattle.spreadsheet.specs.Exports.{ExportedAs}
+use Rattle.csv_text.specs.Puts.{Told, IsRefused, number_in}
+use Rattle.csv_text.specs.declared.ExportRefusal.{ExportRefusal}
+use Rattle.csv_text.specs.declared.ExportRefusal.TheVariants as export_refusal
 use Rattle.lines.specs.Lines.{Rows, label_lines}
 use Rattle.said.specs.Said.{Says, answer, refusal, bad_line}
-use Rattle.text.specs.SheetText.{rooms}
 use Rattle.exports.specs.ExportText.{labels_lent, export_says, with_labels, export_text}
 
 -- ---- a text is no longer than the bytes lent
@@ -47,21 +46,6 @@ pub fits : (o : Res Done) (ls : List (List ℕ)) (bytes : List ℕ) (n : ℕ) �
 unfolding export_of
 fits (refused x) ls bytes n = omega arith
 fits (ok d) ls bytes n = labelled-fits d (csv (records (labels_of bytes ls) d)) n (label_bad bytes ls)
-
--- ---- the columns that were lent are those of the rooms
-
-module _ (b : List ℕ) (l : Lent) (ls : List (List ℕ)) (bytes out now : List ℕ) (long : ℕ) (r : Result) (e : l ≡ rooms)
-    (x : ExportedAs (export_of (outcome b l) ls bytes (length out)) b l out now long r) where
-  of_rooms : export_of (outcome b l) ls bytes (length out) ≡ export_of (outcome b rooms) ls bytes (length out)
-  of_rooms = ap (λ (k : Lent). export_of (outcome b k) ls bytes (length out)) e
-
-  pub gives : (◌≡◌ {A = Told} (record { number = r.number; place = r.place; length = long })
-      (record { number = number_of (export_of (outcome b rooms) ls bytes (length out)); place = place_of (export_of (outcome b rooms) ls bytes (length out)); length = length (text_of (export_of (outcome b rooms) ls bytes (length out))) }))
-      × (now ≡ column (λ y. y) 0 (text_of (export_of (outcome b rooms) ls bytes (length out))) (length out))
-  gives = (
-    rw (x.by_number, x.by_place, x.by_length, of_rooms) refl,
-    x.by_text ∙ ap (λ (z : Export). column (λ y. y) 0 (text_of z) (length out)) of_rooms,
-  )
 
 -- ---- what is said
 
@@ -86,6 +70,11 @@ no_label (refusal_is.Other p) e = omega (arith, e)
 no_label (refusal_is.Room p) e = omega (arith, e)
 no_label (refusal_is.Number p) e = omega (arith, e)
 no_label (refusal_is.Depth p) e = omega (arith, e)
+
+pub not_label : (why : ExportRefusal) → IsRefused why → ((i : ℕ) → why ≡ export_refusal.Label i → ⊥) → number_in why ≡ 16 → ⊥
+not_label (export_refusal.Engine n p) (y, a, b) h e = no_label y (sym a ∙ e)
+not_label (export_refusal.Label i) r h e = h i refl
+not_label export_refusal.Full r h e = omega (arith, e)
 
 pub says_label : (x : Export) {now : List ℕ} {end n : ℕ} → number_of x ≡ 16 → n ≡ place_of x + 1
     → Begins now end (bad_line (ascii "labels, line ") n (ascii ": over 64 bytes, a byte that is not printable, or an id that does not ascend\n")) → refusal (take end now) ≡ export_says x

@@ -1,14 +1,13 @@
 -- Lines of figures, one after another from the front of a text.
-use Prim.Native.Nat.{ℕ, zero, suc, ◌+◌, ◌-◌, ◌*◌, ◌^◌, ◌≤◌, ◌<◌}
+use Prim.Native.Nat.{ℕ, zero, suc, ◌+◌, ◌-◌, ◌*◌, ◌≤◌, ◌<◌}
 use native.Mathlib.Nat.{not-suc-le-zero, le_of_suc-le-suc, pow-le-pow_right}
 use native.Mathlib.Numerals.{add-one}
 use native.Mathlib.Omega.{arith}
-use mathlib.Core.Path.{◌≡◌, refl, sym, ap, subst, ◌∙◌}
+use mathlib.Core.Path.{◌≡◌, refl, sym, ap, ◌∙◌}
 use mathlib.Core.Bool.{Bool, true, false}
 use mathlib.Core.List.{List, [], ◌∷◌, ◌++◌, append_assoc, append-nil}
-use lib.Dec.{T, ltb}
-use lib.Ieee.{Float, nan, inf, fin, ne, eq, binary64, fits, to_bits}
-use lib.Ieee.Compare.{differs_from_itself}
+use lib.Dec.{ltb}
+use lib.Ieee.{Float, binary64, to_bits}
 use lib.IntN.{ℤ}
 use lib.ListN.{length, take, get_or}
 use mir.Syntax.{w32}
@@ -21,19 +20,13 @@ use Rattle.rules.specs.Columns.{value_list}
 use Rattle.rules.specs.Dispatch.{Row}
 use Rattle.rules.specs.Listing.{natural, integer, listing}
 use Rattle.rules.specs.Outcome.{Done}
-use Rattle.rules.specs.declared.Answer.TheVariants.{Refused}
+use Rattle.rules.specs.Answer.{Refused}
 use Rattle.rules.specs.declared.Refusal.{Refusal}
 use Rattle.listing.specs.Pieces.{Shown, Tells}
 use Rattle.listing.specs.Put.{put, puts, Begins}
-use Rattle.listing.proofs.Puts.{grows, as_long}
+use Rattle.listing.proofs.Puts.{grows}
 use Rattle.listing.proofs.Told.{no_number}
 use Rattle.figures.specs.Figures.{longest, bits_text, fields, figure, figures, figured, figures_text}
-
--- ---- the bits of a float
-
-pub bits_of_nan : (x : Float) → ne x x ≡ true → 9221120237041090560 ≡ to_bits binary64 x
-unfolding to_bits
-bits_of_nan x h = rw (differs_from_itself x (subst T (sym h) tt)) refl
 
 -- 64 bits have sixteen digits
 module _ (n k : ℕ) (f : IsDigitCount 16 16 n k) (h : n < 18446744073709551616) where

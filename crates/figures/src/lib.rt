@@ -2,8 +2,6 @@
 #![tactic(auto)]
 
 ghost use Rattle.std.specs.Prelude.{◌≡◌, ◌+◌, ◌*◌, ◌≤◌, length};
-ghost use Rattle.std.specs.Float.{binary64};
-ghost use Rattle.std.specs.Float.Ieee.{to_bits};
 ghost use Rattle.rules.specs.Answer.{Res, ok};
 ghost use Rattle.rules.specs.Dispatch.{Row};
 ghost use Rattle.rules.specs.Outcome.{Done};
@@ -15,16 +13,7 @@ ghost use Rattle.figures.specs.Figures.{longest, longest_fields, bits_text, fiel
 use columns::{AttributeRow, ROW_ATTRIBUTE, ROW_OBJECT};
 use listing::{put_byte, put_integer, put_text, put_u32, refusal};
 use numbers::integers::signed;
-
-// A float's 64 bits.
-pub fn bits_of(x: f64) -> u64
-    ensures defined { result ≡ to_bits binary64 x }
-{
-    if x != x {
-        return 0x7ff8_0000_0000_0000;
-    }
-    f64::to_bits(x)
-}
+use std::num::f64_to_bits_with_nan;
 
 // 64 bits as hexadecimal digits.
 fn put_bits(out: &mut [u8], at: usize, bits: u64) -> usize
@@ -56,7 +45,7 @@ fn figure(out: &mut [u8], at: usize, object: u32, id: i32, value: f64) -> usize
     ensures added { (row : Row) → row.object ≡ object → row.id ≡ id → Added out at result (rule.figure row value) }
     ensures within { result ≤ at + longest }
 {
-    let bits = bits_of(value);
+    let bits = f64_to_bits_with_nan(value);
     let line_end = put_fields(out, at, object, id, bits);
     put_byte(out, line_end, b'\n')
 }
@@ -68,12 +57,10 @@ fn rows_figured(out: &mut [u8], rows: &[AttributeRow], values: &[f64], n: usize)
     ensures the_lines { (d : Done) → Shown d n rows.now values.now → Begins out.new result (figures_text (ok d)) }
 {
     let mut end = 0;
-    let mut next = 0;
-    while next < n {
+    for next in 0..n {
         let row = rows[next];
         let value = values[next];
         end = figure(out, end, row[ROW_OBJECT], signed(row[ROW_ATTRIBUTE]), value);
-        next += 1;
     }
     end
 }

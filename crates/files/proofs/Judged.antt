@@ -15,10 +15,11 @@ use Rattle.rules.specs.Files.{five_pairs, pairs_in, standing, book_header_good, 
 use Rattle.rules.specs.Sheet.{book_of, fit_of}
 use Rattle.rules.specs.Shape.{first_bad, objects_good, bases_good, buffs_good, asks_good, book_bad, fit_bad}
 use Rattle.info.specs.Sound.{HeldBook, HeldFit, SoundBook, SoundFit}
-use Rattle.shape.specs.Shaped.{shaped_of}
-use Rattle.shape.specs.declared.Shaped.{Shaped}
-use Rattle.shape.specs.declared.Shaped.TheVariants.{Sound, Bad}
-use Rattle.shape.proofs.Shapes.{bad_said, sound_said}
+use Rattle.std.specs.Prelude.{Ok, Err, MatchResult}
+use Rattle.std.specs.Result.{IsErrAnd}
+use Rattle.shape.specs.Shaped.{Shaped, bad_table, shaped_of}
+use Rattle.shape.specs.declared.BadTable.{BadTable}
+use Rattle.shape.proofs.Shapes.{bad_said, sound_said, plus20_said}
 use Rattle.files.specs.Read.{pairs_read, bad_book_by}
 use Rattle.files.proofs.Following.{next}
 
@@ -120,7 +121,7 @@ module _ (k : List ℕ) (p : List (List ℕ)) where
   unfolding bad_book_by
   book_by e = ap (λ (t : Bool). elim t [ false ↦ some 0 | true ↦ book_bad (book_of k p) ]) e
 
-  pub header_bad : book_header_good k p ≡ false → Bad 0 ≡ shaped_of (bad_book_by k p)
+  pub header_bad : book_header_good k p ≡ false → Err (bad_table 0) ≡ shaped_of (bad_book_by k p)
   header_bad e = sym (ap shaped_of (book_by e))
 
   pub header_good_lem : {r : Shaped} → book_header_good k p ≡ true → r ≡ shaped_of (book_bad (book_of k p)) → r ≡ shaped_of (bad_book_by k p)
@@ -141,15 +142,14 @@ module _ (f : List ℕ) (p : List (List ℕ)) where
   unfolding bad_fit
   fit_by e = ap (λ (t : Bool). elim t [ false ↦ some 0 | true ↦ fit_bad (fit_of f p) ]) e
 
-  pub fit_header_bad : fit_header_good f p ≡ false → Bad 20 ≡ shaped_of (plus20 (bad_fit f p))
+  pub fit_header_bad : fit_header_good f p ≡ false → Err (bad_table 20) ≡ shaped_of (plus20 (bad_fit f p))
   fit_header_bad e = sym (ap (λ (o : Option ℕ). shaped_of (plus20 o)) (fit_by e))
 
   module _ (good : fit_header_good f p ≡ true) {r : Shaped} (h : r ≡ shaped_of (fit_bad (fit_of f p))) where
-    pub fit_bad_lem : {t : ℕ} → r ≡ Bad t → Bad (t + 20) ≡ shaped_of (plus20 (bad_fit f p))
-    fit_bad_lem e = sym (ap (λ (o : Option ℕ). shaped_of (plus20 o)) (fit_by good ∙ bad_said (fit_bad (fit_of f p)) (sym e ∙ h)))
-
-    pub fit_sound : r ≡ Sound → Sound ≡ shaped_of (plus20 (bad_fit f p))
-    fit_sound e = sym (ap (λ (o : Option ℕ). shaped_of (plus20 o)) (fit_by good ∙ sound_said (fit_bad (fit_of f p)) (sym e ∙ h)))
+    -- the verdict v with 20 more
+    pub fit_told : {v : Shaped} (Q : BadTable → BadTable → Type 0) → ((e x : BadTable) → Q e x → x ≡ bad_table (e.table + 20))
+        → MatchResult r (λ s. v ≡ Ok s) (λ e. IsErrAnd v (Q e)) → v ≡ shaped_of (plus20 (bad_fit f p))
+    fit_told Q same m = plus20_said (fit_bad (fit_of f p)) h Q same m ∙ sym (ap (λ (o : Option ℕ). shaped_of (plus20 o)) (fit_by good))
 
   fit_header : (t : Bool) → fit_header_good f p ≡ t → bad_fit f p ≡ none → t ≡ true
   fit_header true e n = refl
@@ -212,10 +212,10 @@ module _ (k f : List ℕ) where
     own_fit n = ap (bad_fit f) e ∙ read_fit k f (long_book n)
 
     module _ {r : Shaped} (h : r ≡ shaped_of (bad_book_by k p)) where
-      pub book_bad_lem : {t : ℕ} → r ≡ Bad t → Bad t ≡ shaped_of (bad_files k f)
+      pub book_bad_lem : {e : BadTable} → r ≡ Err e → Err e ≡ shaped_of (bad_files k f)
       book_bad_lem b = sym (ap shaped_of (files_by (sym own_book ∙ bad_said (bad_book_by k p) (sym b ∙ h))))
 
-      pub book_sound : {v : Shaped} → r ≡ Sound → v ≡ shaped_of (plus20 (bad_fit f p)) → v ≡ shaped_of (bad_files k f)
+      pub book_sound : {v : Shaped} → r ≡ Ok tt → v ≡ shaped_of (plus20 (bad_fit f p)) → v ≡ shaped_of (bad_files k f)
       book_sound s w =
           let n = sym own_book ∙ sound_said (bad_book_by k p) (sym s ∙ h) in
           w ∙ ap (λ (o : Option ℕ). shaped_of (plus20 o)) (own_fit n) ∙ sym (ap shaped_of (files_by n))

@@ -1,8 +1,11 @@
 // A lent table of free stretches: its first seventeen, by value and back.
 #![tactic(auto)]
 
-ghost use Rattle.std.specs.Prelude.{◌≡◌, ◌≤◌, length};
+ghost use Rattle.std.specs.Prelude.{◌≡◌, ◌+◌, ◌≤◌, length};
 ghost use Rattle.free_table.specs.Table.{loaded, stored};
+
+// Sixteen pilots leave at most so many gaps.
+pub const FREE: usize = 17;
 
 #[repr(C)]
 #[derive(Clone, Copy)]
@@ -11,32 +14,37 @@ pub struct Stretch {
     pub length: u32,
 }
 
-// The first seventeen, or empty ones where there are fewer.
-pub fn load(table: &[Stretch]) -> [Stretch; 17]
-    ensures defined { result ≡ loaded table.now }
-{
-    if 17 <= table.len() {
-        [
-            table[0], table[1], table[2], table[3], table[4], table[5], table[6], table[7],
-            table[8], table[9], table[10], table[11], table[12], table[13], table[14], table[15],
-            table[16],
-        ]
-    } else {
-        [Stretch {
-            start: 0,
-            length: 0,
-        }; 17]
+impl Stretch {
+    // The row past its last.
+    pub fn end(self) -> usize
+        ensures defined { result ≡ self.start + self.length }
+    {
+        self.start as usize + self.length as usize
     }
 }
 
+pub const EMPTY: Stretch = Stretch {
+    start: 0,
+    length: 0,
+};
+
+pub type FreeTable = [Stretch; FREE];
+
+// The first seventeen, or empty ones where there are fewer.
+pub fn load(table: &[Stretch]) -> FreeTable
+    ensures defined { result ≡ loaded table.now }
+{
+    let mut t = [EMPTY; FREE];
+    if FREE <= table.len() {
+        t.copy_from_slice(&table[..FREE]);
+    }
+    t
+}
+
 // The first seventeen become t.
-pub fn store(table: &mut [Stretch], t: [Stretch; 17])
+pub fn store(table: &mut [Stretch], t: FreeTable)
     requires room { 17 ≤ length table.old }
     ensures defined { table.new ≡ stored table.old t }
 {
-    let mut i = 0;
-    while i < 17 {
-        table[i] = t[i];
-        i += 1;
-    }
+    table[..FREE].copy_from_slice(&t);
 }

@@ -1,4 +1,5 @@
 -- An entry more: what its source rows and its values make of a pile.
+use Rattle.std.specs.Prelude.{None, Some}
 use Prim.Native.Nat.{ℕ, zero, suc, ◌-◌, ◌<◌, min}
 use native.Mathlib.Omega.{arith}
 use mathlib.Core.Path.{◌≡◌, refl, sym, ap, ◌∙◌}
@@ -19,16 +20,17 @@ use Rattle.rules.specs.declared.EffectOperator.{EffectOperator}
 use Rattle.rules.specs.declared.EffectOperator.TheVariants.{PreAssign, PreMul, PreDiv, ModAdd, ModSub, PostMul, PostDiv, PostPercent, PostAssign}
 use Rattle.rules.specs.declared.Refusal.{Refusal}
 use Rattle.rules.specs.declared.Refusal.TheVariants.{Number}
-use Rattle.rules.specs.declared.Step.TheVariants.{Finite, NotFinite}
 use Rattle.rules.specs.declared.Source.{Source}
 use Rattle.operate.specs.Held as bucket
+use Rattle.operate.specs.declared.Running.{Running}
+use Rattle.operate.specs.declared.buckets.Bucket.{Bucket}
 use Rattle.operate.specs.SoFar.{RunningOf, copies_from, with_copies}
 use Rattle.operate.proofs.Snocs.{kept, step_good, bind_good}
-use Rattle.sources.specs.declared.Noted.TheVariants.{At, Refused}
+use Rattle.sources.specs.declared.SourceCounts.{SourceCounts}
+use Rattle.std.specs.Prelude.{Ok, Err}
 use Rattle.sources.specs.Keeping.{NotedAs, notes, penalised_notes}
 use Rattle.sources.proofs.Copying.{went, ended}
 use Rattle.gather.specs.declared.Pile.{Pile}
-use Rattle.gather.specs.declared.Stop.TheVariants.{No, Because}
 use Rattle.gather.specs.Piles.{PileOf, PiledAs, entered, entered_count}
 use Rattle.gather.proofs.Copies.{copies_split}
 
@@ -68,41 +70,37 @@ module _ (w : World) (counts : List ℕ) (s₀ : List (List ℕ)) (f₀ : List (
 
   module _ (e : Effect) (v x : Float) where
     -- its source rows were refused
-    pub penalised_stops : (y : Refusal) (r : Pile) → NotedAs counts w.room s₀ f₀ i (penalised_notes w i row e v g.mem) (Refused y) s' f' → r.stop ≡ Because y
-        → PiledAs counts w.room s₀ f₀ i high op found (penalised w i row e v x g) r s' f'
-    penalised_stops y r n q = rw (penalised_split w i row e v x g inside, ended counts w.room s₀ f₀ i s' f' (penalised_notes w i row e v g.mem) n) q
+    pub penalised_stops : (y : Refusal) → NotedAs counts w.room s₀ f₀ i (penalised_notes w i row e v g.mem) (Err y) s' f'
+        → PiledAs counts w.room s₀ f₀ i high op found (penalised w i row e v x g) (Err y) s' f'
+    penalised_stops y n = rw (penalised_split w i row e v x g inside, ended counts w.room s₀ f₀ i s' f' (penalised_notes w i row e v g.mem) n) refl
 
-    pub penalised_goes : (own used : ℕ) (r q : Pile) → NotedAs counts w.room s₀ f₀ i (penalised_notes w i row e v g.mem) (At own used) s' f'
-        → p.stop ≡ No → q.stop ≡ p.stop → q.running ≡ p.running
-        → bucket.Gathered (with_copies (lt x zero_f) (copies_from x p.own (yes1 w.recording) (min e.quantity 8)) g.values).positive q.positive
-        → bucket.Gathered (with_copies (lt x zero_f) (copies_from x p.own (yes1 w.recording) (min e.quantity 8)) g.values).negative q.negative
-        → r.own ≡ own → r.used ≡ used → r.stop ≡ q.stop → r.running ≡ q.running → r.positive ≡ q.positive → r.negative ≡ q.negative
-        → PiledAs counts w.room s₀ f₀ i high op found (penalised w i row e v x g) r s' f'
-    penalised_goes own used r q n a b c d m o₁ u₁ t₁ r₁ p₁ n₁ =
+    pub penalised_goes : (now : SourceCounts) (q : Pile) → NotedAs counts w.room s₀ f₀ i (penalised_notes w i row e v g.mem) (Ok now) s' f' → q.running ≡ p.running
+        → bucket.Gathered (with_copies (lt x zero_f) (copies_from x p.counts.own (yes1 w.recording) (min e.quantity 8)) g.values).positive q.positive
+        → bucket.Gathered (with_copies (lt x zero_f) (copies_from x p.counts.own (yes1 w.recording) (min e.quantity 8)) g.values).negative q.negative
+        → PiledAs counts w.room s₀ f₀ i high op found (penalised w i row e v x g) (Ok (record { running = q.running; positive = q.positive; negative = q.negative; counts = now })) s' f'
+    penalised_goes now q n c d m =
         let t = went counts w.room s₀ f₀ i s' f' (penalised_notes w i row e v g.mem) n in
         rw (penalised_split w i row e v x g inside, t.is) (
-          t₁ ∙ b ∙ a,
-          record {
-            keeping = rw (o₁, u₁) t.keeping;
-            running = rw (r₁, c, same_plain (lt x zero_f) (copies_from x (length (own_sources i g.mem)) (yes1 w.recording) (min e.quantity 8)) g.values) k.running;
-            positive = rw (p₁, sym k.keeping.mine) d;
-            negative = rw (n₁, sym k.keeping.mine) m;
-          },
+        record {
+          keeping = t.keeping;
+          running = rw (c, same_plain (lt x zero_f) (copies_from x (length (own_sources i g.mem)) (yes1 w.recording) (min e.quantity 8)) g.values) k.running;
+          positive = rw (sym k.keeping.mine) d;
+          negative = rw (sym k.keeping.mine) m;
+        }
         )
 
   -- a source row, and values that the pile then holds
   module _ (r : Source) (vs : Values) where
-    pub note_stops : (y : Refusal) (q : Pile) → NotedAs counts w.room s₀ f₀ i (note w i row r g.mem) (Refused y) s' f' → q.stop ≡ Because y
-        → PiledAs counts w.room s₀ f₀ i high op found (note w i row r g.mem >>= λ m. ok (record { mem = m; values = vs })) q s' f'
-    note_stops y q n e = rw (ended counts w.room s₀ f₀ i s' f' (note w i row r g.mem) n) e
+    pub note_stops : (y : Refusal) → NotedAs counts w.room s₀ f₀ i (note w i row r g.mem) (Err y) s' f'
+        → PiledAs counts w.room s₀ f₀ i high op found (note w i row r g.mem >>= λ m. ok (record { mem = m; values = vs })) (Err y) s' f'
+    note_stops y n = rw (ended counts w.room s₀ f₀ i s' f' (note w i row r g.mem) n) refl
 
-    pub note_goes : (own used : ℕ) (q : Pile) → NotedAs counts w.room s₀ f₀ i (note w i row r g.mem) (At own used) s' f'
-        → q.stop ≡ No → q.own ≡ own → q.used ≡ used
-        → RunningOf high op found vs.unpenalized q.running → bucket.Gathered vs.positive q.positive → bucket.Gathered vs.negative q.negative
-        → PiledAs counts w.room s₀ f₀ i high op found (note w i row r g.mem >>= λ m. ok (record { mem = m; values = vs })) q s' f'
-    note_goes own used q n a b c d e f =
+    pub note_goes : (now : SourceCounts) (u : Running) (a b : Bucket) → NotedAs counts w.room s₀ f₀ i (note w i row r g.mem) (Ok now) s' f'
+        → RunningOf high op found vs.unpenalized u → bucket.Gathered vs.positive a → bucket.Gathered vs.negative b
+        → PiledAs counts w.room s₀ f₀ i high op found (note w i row r g.mem >>= λ m. ok (record { mem = m; values = vs })) (Ok (record { running = u; positive = a; negative = b; counts = now })) s' f'
+    note_goes now u a b n d e f =
         let t = went counts w.room s₀ f₀ i s' f' (note w i row r g.mem) n in
-        rw t.is (a, record { keeping = rw (b, c) t.keeping; running = d; positive = e; negative = f })
+        rw t.is (record { keeping = t.keeping; running = d; positive = e; negative = f })
 
 -- with a value of any quantity the copies stay
 pub stack_positive : (x : Float) (q : ℕ) (g : Values) → (with_stack x q g).positive ≡ g.positive
@@ -115,15 +113,15 @@ stack_negative x (suc n) g = refl
 
 -- an entry that runs: what its simplified value says
 module _ (w : World) (i : ℕ) (row : Row) (e : Effect) (v : Float) (g : Gathered) where
-  pub not_finite : simplified e.operator v ≡ NotFinite → entered w i row true e v g ≡ refused (Number row.object)
+  pub not_finite : simplified e.operator v ≡ None → entered w i row true e v g ≡ refused (Number row.object)
   unfolding entered contribute number_at
   not_finite h = rw h refl
 
-  pub with_penalty_lem : (x : Float) → simplified e.operator v ≡ Finite x → e.penalty && has_penalty e.operator ≡ true → entered w i row true e v g ≡ penalised w i row e v x g
+  pub with_penalty_lem : (x : Float) → simplified e.operator v ≡ Some x → e.penalty && has_penalty e.operator ≡ true → entered w i row true e v g ≡ penalised w i row e v x g
   unfolding entered contribute number_at
   with_penalty_lem x h p = rw h (rw p refl)
 
-  pub without_penalty : (x : Float) → simplified e.operator v ≡ Finite x → e.penalty && has_penalty e.operator ≡ false → entered w i row true e v g ≡ unpenalised w i row e v x g
+  pub without_penalty : (x : Float) → simplified e.operator v ≡ Some x → e.penalty && has_penalty e.operator ≡ false → entered w i row true e v g ≡ unpenalised w i row e v x g
   unfolding entered contribute number_at
   without_penalty x h p = rw h (rw p refl)
 
@@ -140,7 +138,7 @@ neg-finite (inf s) h = absurd h
 neg-finite (fin s m e) h = tt
 
 -- what an operator makes of a finite strength is finite, or nothing
-pub finite_of : (op : EffectOperator) (v x : Float) → T (finite v) → simplified op v ≡ Finite x → T (finite x)
+pub finite_of : (op : EffectOperator) (v x : Float) → T (finite v) → simplified op v ≡ Some x → T (finite x)
 unfolding simplified
 finite_of PreAssign v x h e = kept h e
 finite_of PreMul v x h e = step_good _ e

@@ -1,5 +1,5 @@
 -- The definition's copies are notes, and then copies among the values.
-use Prim.Native.Nat.{ℕ, zero, suc, ◌+◌, ◌*◌, ◌<◌, ◌^◌, min}
+use Prim.Native.Nat.{ℕ, zero, suc, ◌+◌, ◌<◌, ◌^◌, min}
 use native.Mathlib.Omega.{arith}
 use mathlib.Core.Path.{◌≡◌, refl, sym, ap, ◌∙◌}
 use mathlib.Core.Bool.{Bool, true, false}
@@ -75,11 +75,6 @@ module _ (w : World) (i : ℕ) (row : Row) (r : Source) (x : Float) where
           same a =
               ap (λ (k : ℕ). ok (record { mem = a; values = with_copies (lt x zero_f) (copies_from x k (yes1 w.recording) n) (next g m).values })) (f m refl).0
               ∙ ap (λ (v : Values). ok (record { mem = a; values = v })) (one_then (lt x zero_f) (record { value = x; source = length (own_sources i g.mem) }) (copies_from x (length (own_sources i g.mem) + yes1 w.recording) (yes1 w.recording) n) g.values)
-
--- copies have 32 bits where their source rows have
-pub step_few : (t : Bool) (own copies : ℕ) {step : ℕ} → step ≡ yes1 t → own + more_of t copies < 2 ^ 32 → own + copies * step < 2 ^ 32
-step_few true own copies e h = rw e (omega (arith, h))
-step_few false own copies e h = rw e (omega (arith, h))
 
 -- the copies that are weighed are no more than the source rows
 pub few_copies : (t : Bool) (q own : ℕ) {n a : ℕ} → n ≡ min q 8 → a ≡ own + more_of t (min q 9) → a < 2 ^ 32 → own + more_of t n < 2 ^ 32

@@ -1,7 +1,7 @@
 // What one operator gathers of a row's entries, entry by entry (pass_3.rs).
 #![tactic(auto)]
 
-ghost use Rattle.std.specs.Prelude.{◌≡◌, true, false, ◌+◌, ◌≤◌, ◌<◌, ◌^◌, min, T, Float, length};
+ghost use Rattle.std.specs.Prelude.{◌≡◌, true, false, ◌+◌, ◌≤◌, ◌<◌, ◌^◌, min, T, Float, IfOk, length};
 ghost use Rattle.std.specs.Float.Ieee.{lt};
 ghost use Rattle.laws.specs.Floats.{finite, zero_f};
 ghost use Rattle.rules.specs.Columns.{yes1};
@@ -11,35 +11,26 @@ ghost use Rattle.rules.specs.Value as values;
 ghost use Rattle.operate.specs.SoFar.{RunningOf, copies_from, with_copies};
 ghost use Rattle.sources.specs.Keeping.{more_of};
 ghost use Rattle.gather.specs.Piles.{whole, entered, entered_count};
-ghost use Rattle.gather.specs.Adds.{piled, EightsAt, PileBegins, CopiesGive, EntryGives, PenalisedGives, PlainGives, IdleGives};
+ghost use Rattle.gather.specs.Adds.{piled, tried, EightsAt, PileBegins, CopiesGive, EntryGives, PenalisedGives, PlainGives, IdleGives};
 
 use columns::{CopySources, CopyValues, SourceFloats, SourceRow};
+use numbers::integers::flag;
 use numbers::{less, simplified};
 use operate::buckets::Bucket;
 use operate::{Running, more, put_copies, start};
 use reading::entries::has_penalty;
-use rules::{Effect, EffectOperator, Refusal, Step};
+use rules::{Effect, EffectOperator, Refusal};
 use sources::notes::{kept, note, note_penalised};
 use sources::rows::to_source;
-use sources::{Noted, Recording};
+use sources::{Recording, SourceCounts};
 
-// Why nothing more is gathered.
-#[derive(Clone, Copy)]
-pub enum Stop {
-    No,
-    Because(Refusal),
-}
-
-// What an operator has gathered: what its unpenalised values have made of the value that it found, the penalised copies,
-// how many source rows the row has and how many there are of all rows.
+// What an operator has gathered: what its unpenalised values have made of the value that it found, the penalised copies, and how many source rows there are.
 #[derive(Clone, Copy)]
 pub struct Pile {
     pub running: Running,
     pub positive: Bucket,
     pub negative: Bucket,
-    pub own: u32,
-    pub used: u32,
-    pub stop: Stop,
+    pub counts: SourceCounts,
 }
 
 // The same while it grows: the copies lie in columns of eight that are lent, and how many were put in stands here.
@@ -48,55 +39,19 @@ pub struct Growing {
     pub running: Running,
     pub positive: usize,
     pub negative: usize,
-    pub own: u32,
-    pub used: u32,
-    pub stop: Stop,
+    pub counts: SourceCounts,
 }
 
 // Nothing is gathered yet.
-pub fn empty(value: f64, own: u32, used: u32) -> Growing
-    ensures defined { PileBegins value own used result nothing }
-    ensures counted { (result.own ≡ own) × (result.used ≡ used) × (result.stop ≡ Stop.No) }
+pub fn empty(value: f64, counts: SourceCounts) -> Growing
+    ensures defined { PileBegins value counts result nothing }
+    ensures counted { result.counts ≡ counts }
 {
     Growing {
         running: start(value),
         positive: 0,
         negative: 0,
-        own,
-        used,
-        stop: Stop::No,
-    }
-}
-
-// The same, stopped.
-pub fn stopped(p: Growing, y: Refusal) -> Growing
-    ensures stopped { (result.own ≡ p.own) × (result.used ≡ p.used) × (result.stop ≡ Stop.Because y) }
-{
-    let running = p.running;
-    Growing {
-        running,
-        positive: p.positive,
-        negative: p.negative,
-        own: p.own,
-        used: p.used,
-        stop: Stop::Because(y),
-    }
-}
-
-// The source rows are so many now.
-pub fn counted(p: Growing, own: u32, used: u32) -> Growing
-    ensures counted { (result.own ≡ own) × (result.used ≡ used) × (result.stop ≡ p.stop) × (result.running ≡ p.running)
-        × (result.positive ≡ p.positive) × (result.negative ≡ p.negative) }
-{
-    let running = p.running;
-    let stop = p.stop;
-    Growing {
-        running,
-        positive: p.positive,
-        negative: p.negative,
-        own,
-        used,
-        stop,
+        counts,
     }
 }
 
@@ -104,28 +59,12 @@ pub fn counted(p: Growing, own: u32, used: u32) -> Growing
 fn with_value(p: Growing, high: bool, operator: EffectOperator, x: f64, quantity: u32) -> Growing
     ensures defined { (v : Float) (g : Values) → T (finite x) → RunningOf high operator v g.unpenalized p.running
         → RunningOf high operator v (with_stack x quantity g).unpenalized result.running }
-    ensures kept { (result.own ≡ p.own) × (result.used ≡ p.used) × (result.stop ≡ p.stop) × (result.positive ≡ p.positive) × (result.negative ≡ p.negative) }
+    ensures kept { (result.counts ≡ p.counts) × (result.positive ≡ p.positive) × (result.negative ≡ p.negative) }
 {
-    let running = p.running;
-    let stop = p.stop;
     Growing {
-        running: more(running, high, operator, x, quantity),
-        positive: p.positive,
-        negative: p.negative,
-        own: p.own,
-        used: p.used,
-        stop,
+        running: more(p.running, high, operator, x, quantity),
+        ..p
     }
-}
-
-// How far apart the source rows of copies are.
-fn step_of(recording: bool) -> u32
-    ensures defined { result ≡ yes1 recording }
-{
-    if recording {
-        return 1;
-    }
-    0
 }
 
 // So many copies of a penalised value more, whose source rows follow those that the row has; 0.0 of either sign is among the positive ones.
@@ -139,47 +78,37 @@ fn with_copies(
     x: f64,
     copies: u32,
 ) -> Growing
-    requires few { p.own + more_of recording copies < 2 ^ 32 }
+    requires few { p.counts.own + more_of recording copies < 2 ^ 32 }
     requires eights { EightsAt positives positive_sources negatives negative_sources }
     ensures defined { let pile = piled positives positive_sources negatives negative_sources p result in
-        CopiesGive pile x (with_copies (lt x zero_f) (copies_from x p.own (yes1 recording) copies)) }
-    ensures kept { (result.own ≡ p.own) × (result.used ≡ p.used) × (result.stop ≡ p.stop) × (result.running ≡ p.running) }
+        CopiesGive pile x (with_copies (lt x zero_f) (copies_from x p.counts.own (yes1 recording) copies)) }
+    ensures kept { (result.counts ≡ p.counts) × (result.running ≡ p.running) }
     ensures eights { EightsAt positives.exit positive_sources.exit negatives.exit negative_sources.exit }
 {
-    let running = p.running;
-    let mut positive = p.positive;
-    let mut negative = p.negative;
-    let stop = p.stop;
-    let step = step_of(recording);
+    let own = p.counts.own;
+    let step = flag(recording);
     if less(x, 0.0) {
-        negative = put_copies(
+        let negative = put_copies(
             negatives,
             negative_sources,
-            negative,
+            p.negative,
             x,
-            p.own,
+            own,
             step,
             copies,
         );
-    } else {
-        positive = put_copies(
-            positives,
-            positive_sources,
-            positive,
-            x,
-            p.own,
-            step,
-            copies,
-        );
+        return Growing { negative, ..p };
     }
-    Growing {
-        running,
-        positive,
-        negative,
-        own: p.own,
-        used: p.used,
-        stop,
-    }
+    let positive = put_copies(
+        positives,
+        positive_sources,
+        p.positive,
+        x,
+        own,
+        step,
+        copies,
+    );
+    Growing { positive, ..p }
 }
 
 // A penalised entry by its strength, and by x, its simplified value.
@@ -196,31 +125,26 @@ fn add_penalised(
     strength: f64,
     x: f64,
     p: Growing,
-) -> Growing
-    requires roomy { (run.room ≤ length sources.old) × (run.room ≤ length floats.old) × (p.own ≤ p.used) }
+) -> Result<Growing, Refusal>
+    requires roomy { (run.room ≤ length sources.old) × (run.room ≤ length floats.old) × (p.counts.own ≤ p.counts.used) }
     requires eights { EightsAt positives positive_sources negatives negative_sources }
-    ensures defined { let pile = piled positives positive_sources negatives negative_sources p result in
+    ensures defined { let pile = tried positives positive_sources negatives negative_sources p result in
         PenalisedGives run first x pile sources floats (min e.quantity 9) (λ w i row. values.penalised w i row e strength x) }
-    ensures counted { result.own ≤ result.used }
+    ensures counted { IfOk result (λ q. q.counts.own ≤ q.counts.used) }
     ensures eights { EightsAt positives.exit positive_sources.exit negatives.exit negative_sources.exit }
 {
-    let noted = note_penalised(sources, floats, run, first, e, strength, p.own, p.used);
-    match noted {
-        Noted::At(own, used) => {
-            let q = with_copies(
-                positives,
-                positive_sources,
-                negatives,
-                negative_sources,
-                p,
-                run.recording,
-                x,
-                kept(e.quantity),
-            );
-            counted(q, own, used)
-        }
-        Noted::Refused(y) => stopped(p, y),
-    }
+    let counts = note_penalised(sources, floats, run, first, e, strength, p.counts)?;
+    let q = with_copies(
+        positives,
+        positive_sources,
+        negatives,
+        negative_sources,
+        p,
+        run.recording,
+        x,
+        kept(e.quantity),
+    );
+    Ok(Growing { counts, ..q })
 }
 
 // An unpenalised entry by its strength, and by x, its simplified value.
@@ -234,22 +158,15 @@ fn add_plain(
     strength: f64,
     x: f64,
     p: Growing,
-) -> Growing
-    requires roomy { (run.room ≤ length sources.old) × (run.room ≤ length floats.old) × (p.own ≤ p.used) }
+) -> Result<Growing, Refusal>
+    requires roomy { (run.room ≤ length sources.old) × (run.room ≤ length floats.old) × (p.counts.own ≤ p.counts.used) }
     ensures defined { PlainGives run first high e x p result sources floats 1 (λ w i row. values.unpenalised w i row e strength x) }
-    ensures counted { result.own ≤ result.used }
+    ensures counted { IfOk result (λ q. q.counts.own ≤ q.counts.used) }
 {
-    let quantity = e.quantity;
-    let operator = e.operator;
-    let s = to_source(e, strength, true, quantity, false);
-    let noted = note(sources, floats, run, first, s, p.own, p.used);
-    match noted {
-        Noted::At(own, used) => {
-            let q = with_value(p, high, operator, x, quantity);
-            counted(q, own, used)
-        }
-        Noted::Refused(y) => stopped(p, y),
-    }
+    let s = to_source(e, strength, true, e.quantity, false);
+    let counts = note(sources, floats, run, first, s, p.counts)?;
+    let q = with_value(p, high, e.operator, x, e.quantity);
+    Ok(Growing { counts, ..q })
 }
 
 // An entry that does not run leaves a source row.
@@ -261,17 +178,14 @@ fn add_idle(
     e: Effect,
     strength: f64,
     p: Growing,
-) -> Growing
-    requires roomy { (run.room ≤ length sources.old) × (run.room ≤ length floats.old) × (p.own ≤ p.used) }
+) -> Result<Growing, Refusal>
+    requires roomy { (run.room ≤ length sources.old) × (run.room ≤ length floats.old) × (p.counts.own ≤ p.counts.used) }
     ensures defined { IdleGives run first p result sources floats 1 (λ w i row. entered w i row false e strength) }
-    ensures counted { result.own ≤ result.used }
+    ensures counted { IfOk result (λ q. q.counts.own ≤ q.counts.used) }
 {
     let s = to_source(e, strength, false, e.quantity, false);
-    let noted = note(sources, floats, run, first, s, p.own, p.used);
-    match noted {
-        Noted::At(own, used) => counted(p, own, used),
-        Noted::Refused(y) => stopped(p, y),
-    }
+    let counts = note(sources, floats, run, first, s, p.counts)?;
+    Ok(Growing { counts, ..p })
 }
 
 // An entry that runs, by its strength: its simplified value must be finite, or the object has the refusal.
@@ -289,38 +203,34 @@ fn add_running(
     e: Effect,
     strength: f64,
     p: Growing,
-) -> Growing
-    requires roomy { (run.room ≤ length sources.old) × (run.room ≤ length floats.old) × (p.own ≤ p.used) }
+) -> Result<Growing, Refusal>
+    requires roomy { (run.room ≤ length sources.old) × (run.room ≤ length floats.old) × (p.counts.own ≤ p.counts.used) }
     requires eights { EightsAt positives positive_sources negatives negative_sources }
-    ensures defined { let pile = piled positives positive_sources negatives negative_sources p result in
+    ensures defined { let pile = tried positives positive_sources negatives negative_sources p result in
         EntryGives run first object high e strength pile sources floats (entered_count true e) (λ w i row. entered w i row true e strength) }
-    ensures counted { result.own ≤ result.used }
+    ensures counted { IfOk result (λ q. q.counts.own ≤ q.counts.used) }
     ensures eights { EightsAt positives.exit positive_sources.exit negatives.exit negative_sources.exit }
 {
-    let operator = e.operator;
-    let step = simplified(operator, strength);
-    match step {
-        Step::Finite(x) => {
-            if e.penalty & has_penalty(operator) {
-                return add_penalised(
-                    positives,
-                    positive_sources,
-                    negatives,
-                    negative_sources,
-                    sources,
-                    floats,
-                    run,
-                    first,
-                    e,
-                    strength,
-                    x,
-                    p,
-                );
-            }
-            add_plain(sources, floats, run, first, high, e, strength, x, p)
-        }
-        Step::NotFinite => stopped(p, Refusal::Number(object)),
+    let Some(x) = simplified(e.operator, strength) else {
+        return Err(Refusal::Number(object));
+    };
+    if e.penalty & has_penalty(e.operator) {
+        return add_penalised(
+            positives,
+            positive_sources,
+            negatives,
+            negative_sources,
+            sources,
+            floats,
+            run,
+            first,
+            e,
+            strength,
+            x,
+            p,
+        );
     }
+    add_plain(sources, floats, run, first, high, e, strength, x, p)
 }
 
 // An entry by its strength, which runs or does not.
@@ -339,12 +249,12 @@ pub fn add_entry(
     e: Effect,
     strength: f64,
     p: Growing,
-) -> Growing
-    requires roomy { (run.room ≤ length sources.old) × (run.room ≤ length floats.old) × (p.own ≤ p.used) }
+) -> Result<Growing, Refusal>
+    requires roomy { (run.room ≤ length sources.old) × (run.room ≤ length floats.old) × (p.counts.own ≤ p.counts.used) }
     requires eights { EightsAt positives positive_sources negatives negative_sources }
-    ensures defined { let pile = piled positives positive_sources negatives negative_sources p result in
+    ensures defined { let pile = tried positives positive_sources negatives negative_sources p result in
         EntryGives run first object high e strength pile sources floats (entered_count runs e) (λ w i row. entered w i row runs e strength) }
-    ensures counted { result.own ≤ result.used }
+    ensures counted { IfOk result (λ q. q.counts.own ≤ q.counts.used) }
     ensures eights { EightsAt positives.exit positive_sources.exit negatives.exit negative_sources.exit }
 {
     if runs {
@@ -377,10 +287,8 @@ pub fn grown(
 ) -> Pile
     ensures defined { result ≡ whole positives positive_sources negatives negative_sources p }
 {
-    let running = p.running;
-    let stop = p.stop;
     Pile {
-        running,
+        running: p.running,
         positive: Bucket {
             values: positives,
             sources: positive_sources,
@@ -391,8 +299,6 @@ pub fn grown(
             sources: negative_sources,
             count: p.negative,
         },
-        own: p.own,
-        used: p.used,
-        stop,
+        counts: p.counts,
     }
 }

@@ -1,23 +1,22 @@
 -- The first bad line, by its key or by its value.
-use Prim.Native.Nat.{ℕ, zero, suc, ◌≤◌}
+use Rattle.laws.specs.Options.{option_of}
+use Rattle.std.specs.Prelude.{None, Some}
+use Rattle.std.specs.Prelude as code
+use Prim.Native.Nat.{ℕ, zero, suc}
 use native.Mathlib.Omega.{arith}
 use mathlib.Core.Path.{◌≡◌, refl, sym, ap, subst, ◌∙◌}
 use mathlib.Core.Bool.{Bool, true, false, cond}
 use mathlib.Core.List.{List, [], ◌∷◌, ◌++◌, map}
 use mathlib.Core.Option.{Option, none, some}
 use lib.Dec.{T}
-use lib.Ieee.{Float, nan, binary64, of_bits}
-use lib.ListN.{length, get_or, drop, length-map}
+use lib.Ieee.{Float, binary64, of_bits}
+use lib.ListN.{length, length-map}
 use Rattle.laws.specs.Columns.{Col}
 use Rattle.laws.specs.Floats.{finite}
 use Rattle.laws.proofs.Maps.{map-map}
 use Rattle.laws.proofs.Scans.{drop_end}
 use Rattle.rules.specs.Dispatch.{Key, same_key}
-use Rattle.rules.specs.Value.{World}
 use Rattle.promises.specs.NoMemory.{key_of}
-use Rattle.reading.specs.Held.{RowsHeld, placed}
-use Rattle.reading.specs.declared.rows.Found.{Found}
-use Rattle.reading.specs.declared.rows.Found.TheVariants.{At, Nothing}
 use Rattle.memory.specs.Holding.{Tables}
 use Rattle.memory.specs.Memory.{value_column, AllFinite}
 use Rattle.settled.specs.Lines.{Line, line_of, value_in, values_of, finite_only, first_other, first_wrong, first_bad}
@@ -58,8 +57,8 @@ values_finite (l ∷ ls) zero x e = only-finite (of_bits binary64 l.bits) x e
 values_finite (l ∷ ls) (suc j) x e = values_finite ls j x e
 
 module _ {t : Tables} {v : List Float} (h : Awaits t v) (ls : List (List ℕ)) where
-  abbrev Keyed : Found → Type 0
-  Keyed r = placed r ≡ first_other 0 (map key_in ls) (map key_of h.world.rows)
+  abbrev Keyed : code.Option ℕ → Type 0
+  Keyed r = option_of r ≡ first_other 0 (map key_in ls) (map key_of h.world.rows)
 
   other_key : first_other 0 (map (λ (l : Line). l.key) (map line_of ls)) (map key_of h.world.rows) ≡ first_other 0 (map key_in ls) (map key_of h.world.rows)
   other_key = ap (λ (ks : List Key). first_other 0 ks (map key_of h.world.rows)) (keys_are ls)
@@ -98,6 +97,6 @@ module _ {t : Tables} {v : List Float} (h : Awaits t v) (ls : List (List ℕ)) w
       pub value_bad : {o : Option ℕ} → o ≡ first_wrong h.world (values_of (map line_of ls)) 0 h.world.rows → o ≡ first_bad h.world (map line_of ls)
       value_bad q = q ∙ sym (bad_key none e)
 
-      pub all_laid : (r : Found) (v'' : List Float) → KeptUnlessAs r v' v'' → LaidUnless r ls v''
-      all_laid (At i) v'' k = tt
-      all_laid Nothing v'' k = k ∙ whole
+      pub all_laid : (r : code.Option ℕ) (v'' : List Float) → KeptUnlessAs r v' v'' → LaidUnless r ls v''
+      all_laid (Some i) v'' k = tt
+      all_laid None v'' k = k ∙ whole

@@ -3,8 +3,8 @@ use Prim.Native.Nat.{ℕ, ◌<◌}
 use native.Mathlib.Decide.{ℕ_discrete}
 use native.Mathlib.Omega.{arith}
 use mathlib.Core.Path.{◌≡◌, refl, sym, ap, subst, ◌∙◌}
-use mathlib.Core.Bool.{true, false}
-use mathlib.Core.List.{List, [], ◌∷◌}
+use mathlib.Core.Bool.{true}
+use mathlib.Core.List.{List}
 use mathlib.Core.Option
 use mathlib.Core.Option.{Option, none, some}
 use lib.Dec.{T}
@@ -22,7 +22,7 @@ use Rattle.rules.specs.declared.Refusal.{Refusal}
 use Rattle.rules.specs.declared.Refusal.TheVariants.{Depth}
 use Rattle.rules.proofs.Results.{apart}
 use Rattle.promises.specs.NoMemory.{key_at, Needs, NoLoop}
-use Rattle.promises.proofs.NoMemoryGoes.{Goes, stops, goes, Second, second}
+use Rattle.promises.proofs.NoMemoryGoes.{Goes, stops, goes, second}
 use Rattle.promises.proofs.NoMemorySteps as first
 use Rattle.promises.proofs.NoMemorySteps.{Each, calculate_goes}
 use Rattle.promises.proofs.Ranks.{found_at, each_of}

@@ -1,4 +1,5 @@
 -- Values read off the listing, and whether entries that do not run have a strength by it.
+use Rattle.std.specs.Prelude.{None, Some}
 use Prim.Native.Nat.{ℕ, zero, suc, ◌+◌, ◌≤◌, ◌<◌}
 use native.Mathlib.Omega.{arith}
 use mathlib.Core.Path.{◌≡◌, refl, sym, ap, subst, ◌∙◌}
@@ -7,7 +8,7 @@ use mathlib.Core.List.{List, [], ◌∷◌}
 use mathlib.Core.Option
 use mathlib.Core.Option.{Option, none, some}
 use lib.Dec.{T}
-use lib.Ieee.{Float, nan, inf, fin, eq, mul, binary64}
+use lib.Ieee.{Float, nan, inf, fin, eq, mul}
 use lib.Ieee.Bits.{is_true}
 use lib.IntN.{ℤ}
 use lib.ListN.{length, get_or, drop}
@@ -26,23 +27,21 @@ use Rattle.rules.specs.Value.{World, Mem, Read, Found, find_row, state_of, resis
 use Rattle.rules.specs.Fresh.{unrecorded}
 use Rattle.rules.specs.declared.Effect.{Effect}
 use Rattle.rules.specs.declared.EffectCategory.{EffectCategory}
-use Rattle.rules.specs.declared.OptionalId.{OptionalId}
-use Rattle.rules.specs.declared.OptionalId.TheVariants.{Absent, Given}
+use Rattle.rules.specs.Ids.{OptionalId}
 use Rattle.rules.specs.declared.Origin.{Origin}
 use Rattle.rules.specs.declared.Origin.TheVariants as origin
-use Rattle.rules.specs.declared.Step.{Step}
-use Rattle.rules.specs.declared.Step.TheVariants.{Finite, NotFinite}
+use Rattle.rules.specs.Number.{Step}
 use Rattle.info.proofs.Defaults.{defaults_finite}
 use Rattle.reading.specs.Held.{index_of, is_running, Sourced, EntryHeld}
 use Rattle.memory.specs.Holding.{Tables, Good}
-use Rattle.memory.specs.Memory.{value_column}
 use Rattle.memory.specs.Steps.{row_at, no_entry}
 use Rattle.memory.proofs.Nanned.{shown_at}
 use Rattle.memory.proofs.Nanned.{shown_length as shown-long}
 use Rattle.memory.proofs.Readings.{at_row, nowhere}
 use Rattle.settled.specs.Given.{listed_reader, idle, idles}
 use Rattle.settled.proofs.Accepted.{listed_is, listed_default}
-use Rattle.given.specs.Judging.{Judged, looks, float_in, is_number, held_up, is_ok}
+use Rattle.std.specs.Option.{is_some}
+use Rattle.given.specs.Judging.{Judged, looks, float_in, held_up, is_ok}
 use Rattle.given.proofs.Beside.{listed_none}
 
 -- ---- a value as it is listed
@@ -93,13 +92,13 @@ module _ {t : Tables} {v : List Float} (h : Judged t v) (o : ℕ) (a : ℤ) wher
 
 -- ---- no number times anything, and anything times no number
 
-nan-times : (x : Float) → is_number (times nan x) ≡ false
+nan-times : (x : Float) → is_some (times nan x) ≡ false
 unfolding mul step
 nan-times nan = refl
 nan-times (inf s) = refl
 nan-times (fin s m e) = refl
 
-times-nan : (x : Float) → is_number (times x nan) ≡ false
+times-nan : (x : Float) → is_some (times x nan) ≡ false
 unfolding mul step
 times-nan nan = refl
 times-nan (inf s) = refl
@@ -107,10 +106,6 @@ times-nan (fin s m e) = refl
 
 nan-apart : eq nan nan ≡ false
 nan-apart = eq_self nan
-
--- what a step says, by its product with the resistance
-pub is_held : (s s' : Step) (x y z : Float) → s ≡ times x y → y ≡ z → s ≡ s' → is_number s' ≡ is_number (times x z)
-is_held s s' x y z e p q = ap is_number (sym q ∙ e ∙ ap (times x) p)
 
 -- ---- an entry that does not run
 
@@ -127,21 +122,21 @@ module _ {t : Tables} {v : List Float} (h : Judged t v) (i : ℕ) (row : Row) wh
   unfolding number_at resisted
   read_held o a res = by (listed_reader w h.values o a) refl res
     where
-      stepped : (s : Step) → is_number s ≡ is_ok {A = Unit {0}} ((number_at row.object s >>= λ z. ok (record { value = z; mem = m })) >>= λ (q : Read). ok tt)
-      stepped (Finite x) = refl
-      stepped NotFinite = refl
+      stepped : (s : Step) → is_some s ≡ is_ok {A = Unit {0}} ((number_at row.object s >>= λ z. ok (record { value = z; mem = m })) >>= λ (q : Read). ok tt)
+      stepped (Some x) = refl
+      stepped None = refl
 
       against : (u : Float) (y : Res Float)
-          → is_number (times u (float_in y)) ≡ is_ok {A = Unit {0}} (((y >>= λ z. ok (record { value = z; mem = m })) >>= λ (q : Read). number_at row.object (times u q.value) >>= λ z. ok (record { value = z; mem = q.mem })) >>= λ (q : Read). ok tt)
+          → is_some (times u (float_in y)) ≡ is_ok {A = Unit {0}} (((y >>= λ z. ok (record { value = z; mem = m })) >>= λ (q : Read). number_at row.object (times u q.value) >>= λ z. ok (record { value = z; mem = q.mem })) >>= λ (q : Read). ok tt)
       against u (ok z) = stepped (times u z)
       against u (refused y) = times-nan u
 
       by : (x : Res Float) → listed_reader w h.values o a ≡ x → (res : OptionalId)
           → held_up w h.values res (float_in x) ≡ is_ok {A = Unit {0}} ((x >>= λ z. ok (record { value = z; mem = m })) >>= λ q. resisted (unrecorded w) i row (looks w h.values) res q >>= λ s. ok tt)
-      by (refused y) e Absent = nan-apart
-      by (refused y) e (Given b) = nan-times (float_in (listed_reader w h.values 0 b))
-      by (ok u) e Absent = eq_self u ∙ ap not (finite-not-nan u (is_true (finite u) (listed_number h o a u e)))
-      by (ok u) e (Given b) = against u (listed_reader w h.values 0 b)
+      by (refused y) e None = nan-apart
+      by (refused y) e (Some b) = nan-times (float_in (listed_reader w h.values 0 b))
+      by (ok u) e None = eq_self u ∙ ap not (finite-not-nan u (is_true (finite u) (listed_number h o a u e)))
+      by (ok u) e (Some b) = against u (listed_reader w h.values 0 b)
 
   abbrev strong : Effect → Origin → Bool
   strong e g = is_ok (idle (unrecorded h.world) (looks h.world h.values) i row e g (blank h.world.rows))
@@ -226,13 +221,7 @@ module _ {t : Tables} {v : List Float} (h : Judged t v) (i : ℕ) (inside : i < 
   pub counted : count ≡ length (row_at h.world i).entries
   counted = b ∙ (h.told.row i within).count
 
-  pub placed-inside : first + count ≤ length t.entries
-  placed-inside = let r = h.told.row i within in omega (arith, a, b, r.first, r.count, r.inside.0)
-
   module _ (k : ℕ) (l : k < count) where
-    pub place_inside : (first + k < length t.entries) × (first + k < length t.values)
-    place_inside = let r = h.told.row i within in (omega (arith, l, a, b, r.first, r.count, r.inside.0), omega (arith, l, a, b, r.first, r.count, r.inside.1))
-
     pub its_entry : EntryHeld (get_or (row_at h.world i).entries k no_entry) (get_or t.entries (first + k) []) (get_or t.values (first + k) nan)
     its_entry =
         subst (λ (n : ℕ). EntryHeld (get_or (row_at h.world i).entries k no_entry) (get_or t.entries (n + k) []) (get_or t.values (n + k) nan)) (sym (a ∙ (h.told.row i within).first))

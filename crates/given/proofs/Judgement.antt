@@ -1,19 +1,18 @@
 -- While a listing is judged the columns are ready for one row's calculation, and its answer is the row's value over the listing.
+use Rattle.std.specs.Prelude.{Result, Ok, Err}
 use Prim.Native.Nat.{ℕ, zero, suc, ◌<◌, zero-le}
 use native.Mathlib.Decide.{ℕ_discrete}
 use native.Mathlib.Omega.{arith}
 use mathlib.Core.Path.{◌≡◌, refl, sym, ap, subst, ◌∙◌}
-use mathlib.Core.Bool.{true, false}
+use mathlib.Core.Bool.{false}
 use mathlib.Core.List.{List, [], ◌∷◌, map}
 use mathlib.Core.Option.{Option, none, some}
-use lib.Dec.{T}
-use lib.Ieee.{Float, nan, eq}
+use lib.Ieee.{Float, nan, eq, binary64, of_bits}
 use lib.ListN.{length, get_or, set, length-set}
 use lib.Seq.{get_or-set_same, get_or-set_other}
-use Rattle.laws.specs.Floats.{finite}
+use Rattle.rules.specs.declared.Refusal.{Refusal}
 use Rattle.rules.specs.Answer.{Res, ok, refused}
-use Rattle.rules.specs.Outcome.{blank}
-use Rattle.rules.specs.Value.{World, Mem, Read, value_of}
+use Rattle.rules.specs.Value.{Mem, Read, value_of}
 use Rattle.rules.specs.Fresh.{unrecorded}
 use Rattle.sources.proofs.Planning.{some_none}
 use Rattle.memory.specs.Memory.{value_column, AllFinite}
@@ -21,16 +20,19 @@ use Rattle.memory.specs.Steps.{row_at}
 use Rattle.memory.specs.Holding.{Tables, Tells, Holds, Ready}
 use Rattle.memory.specs.Answers.{Returns}
 use Rattle.memory.specs.declared.apply.Got.{Got}
-use Rattle.memory.specs.declared.apply.Got.TheVariants as got
 use Rattle.memory.proofs.Holdings.{met, missed}
-use Rattle.memory.proofs.Nanned.{valued}
 use Rattle.memory.proofs.Nanned.{shown_length as shown-long}
 use Rattle.memory.proofs.Readings.{its_row, starting}
-use Rattle.values.specs.Starting.{Untouched}
+use Rattle.reading.specs.Bare.{Bare}
 use Rattle.values.proofs.Settling.{settled_meets}
 use Rattle.values.proofs.PreparedBlankLaws.{own_none, held-at-first}
 use Rattle.given.specs.Judging.{off, Judged, calculated_from, GotIs, RestoredAs}
 use Rattle.given.proofs.Beside.{own_calculation, taken_out, both, neither, put_back}
+
+-- the bits of `f64::NAN`
+pub nan_bits : of_bits binary64 9221120237041090560 ≡ nan
+unfolding of_bits
+nan_bits = refl
 
 -- a value taken out, in the column
 set_none : (vs : List (Option Float)) (i : ℕ) → set (value_column vs) i nan ≡ value_column (set vs i none)
@@ -103,35 +105,35 @@ module _ {t : Tables} {v : List Float} (h : Judged t v) (i : ℕ) (inside : i < 
         none_at (o ∷ us) (suc k) = none_at us k
 
     module _ (v' : List Float) (s' : List (List ℕ)) (f' : List (List Float)) where
-      abbrev Answers : Got → Type 0
+      abbrev Answers : Result Got Refusal → Type 0
       Answers r = Returns (unrecorded h.world) s f (value_of (unrecorded h.world) 1 (row_at h.world i).object (row_at h.world i).id mem) r v' s' f'
 
-      pub is-given : (r : Got) → Answers r → GotIs (calculated_from h.world h.values i) r
-      is-given (got.Value y used) k =
-          let q = met (unrecorded h.world) s f v' s' f' _ y used k in
+      pub is-given : (r : Result Got Refusal) → Answers r → GotIs (calculated_from h.world h.values i) r
+      is-given (Ok g) k =
+          let q = met (unrecorded h.world) s f v' s' f' _ g.value g.used k in
           let b = both h.world h.values h.free i inside_values (its_row h.told.held i within) mem (taken_out h.world h.values h.free i inside_values (its_row h.told.held i within)) q.read (sym asked ∙ q.is) in
-          subst (λ (x : Res Read). GotIs x (got.Value y used)) (sym b.is) (q.value ∙ b.value, q.number)
-      is-given (got.Refused z) k = by (calculated_from h.world h.values i) refl
+          subst (λ (x : Res Read). GotIs x (Ok g)) (sym b.is) (q.value ∙ b.value, q.number)
+      is-given (Err z) k = by (calculated_from h.world h.values i) refl
         where
-          by : (x : Res Read) → calculated_from h.world h.values i ≡ x → GotIs x (got.Refused z)
+          by : (x : Res Read) → calculated_from h.world h.values i ≡ x → GotIs x (Err z)
           by (refused y) e = tt
           by (ok q) e =
               neither h.world h.values h.free i inside_values (its_row h.told.held i within) mem (taken_out h.world h.values h.free i inside_values (its_row h.told.held i within)) z
               (sym asked ∙ missed (unrecorded h.world) s f v' s' f' _ z k) q e
 
       -- the listed value put back
-      pub is_kept : (r : Got) → Answers r → RestoredAs r v (set v' i (get_or v i nan))
-      is_kept (got.Refused z) k = tt
-      is_kept (got.Value y used) k =
-          let q = met (unrecorded h.world) s f v' s' f' _ y used k in
+      pub is_kept : (r : Result Got Refusal) → Answers r → RestoredAs r v (set v' i (get_or v i nan))
+      is_kept (Err z) k = tt
+      is_kept (Ok g) k =
+          let q = met (unrecorded h.world) s f v' s' f' _ g.value g.used k in
           let b = both h.world h.values h.free i inside_values (its_row h.told.held i within) mem (taken_out h.world h.values h.free i inside_values (its_row h.told.held i within)) q.read (sym asked ∙ q.is) in
           ap (λ (l : List Float). set l i (get_or v i nan)) q.holds.values ∙ ap (λ (l : List Float). set (value_column q.read.mem.values) i (get_or l i nan)) h.column
           ∙ put_back h.world h.values h.free i inside_values (its_row h.told.held i within) q.read.mem.values b.rest ∙ sym h.column
 
   -- nothing is asked of a row that nothing touches: its value is its base
-  pub base_given : Untouched t.rows t.limits i 1 → GotIs (calculated_from h.world h.values i) (got.Value (get_or t.bases i nan) 0)
+  pub base_given : Bare t.rows t.limits i → GotIs (calculated_from h.world h.values i) (Ok (record { value = get_or t.bases i nan; used = 0 }))
   unfolding eq
   base_given u =
       let none_there : eq (get_or (set v i nan) i nan) (get_or (set v i nan) i nan) ≡ false = ap (λ (x : Float). eq x x) (get_or-set_same v i nan nan column_inside) in
-      is-given nan [] [] refl (set (set v i nan) i (get_or t.bases i nan)) [] [] (got.Value (get_or t.bases i nan) 0)
-      (settled_meets (ready nan [] [] refl) i inside none_there 1 u)
+      is-given nan [] [] refl (set (set v i nan) i (get_or t.bases i nan)) [] [] (Ok (record { value = get_or t.bases i nan; used = 0 }))
+      (settled_meets (ready nan [] [] refl) i inside none_there 1 (record { empty = u.empty; free = u.free; deep = λ z. absurd (omega (arith, z)) }))

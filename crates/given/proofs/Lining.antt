@@ -1,23 +1,23 @@
 -- Lines beside rows, key by key, and lines' values as numbers or NaN.
-use Prim.Native.Nat.{ℕ, zero, suc, ◌+◌, ◌*◌, ◌≤◌, ◌<◌}
+use Prim.Native.Nat.{ℕ, suc, ◌+◌, ◌*◌, ◌≤◌, ◌<◌}
 use native.Mathlib.Numerals.{add-one}
 use native.Mathlib.Omega.{arith}
-use mathlib.Core.Path.{◌≡◌, refl, sym, ap, ap₂, subst, ◌∙◌}
+use mathlib.Core.Path.{◌≡◌, refl, sym, ap, ap₂, ◌∙◌}
 use mathlib.Core.Bool.{Bool, true, false, not, ◌&&◌, cond}
-use mathlib.Core.List.{List, [], ◌∷◌, ◌++◌, map}
+use mathlib.Core.List.{List, [], ◌∷◌, map}
 use mathlib.Core.Option
 use mathlib.Core.Option.{Option, none, some}
 use borrow.Author.Tests.{eqb-true, eq-eqb}
 use lib.Dec.{eqb}
 use lib.Ieee.{Float, nan, binary64, of_bits}
 use lib.IntN.{ℤ}
-use lib.ListN.{length, get_or, drop, take, length-map}
+use lib.ListN.{length, get_or, drop, length-map}
 use mir.Facts.{to_z-of_z}
 use mir.Syntax.{w32}
 use mir.Val.{to_z, of_z, SFits}
 use Rattle.laws.specs.Floats.{finite}
 use Rattle.laws.specs.Lists.{eq_z}
-use Rattle.laws.proofs.Bools.{both_ways, not-not, same_test}
+use Rattle.laws.proofs.Bools.{not-not, same_test}
 use Rattle.laws.proofs.Maps.{map_at}
 use Rattle.laws.proofs.Order.{eq_z_true, eq_z_same}
 use Rattle.laws.proofs.Scans.{drop-step, drop_end}
@@ -42,17 +42,6 @@ same_id : (x : ℕ) (a : ℤ) → of_z w32 (to_z w32 x) ≡ x → SFits w32 a �
 same_id x a back s =
     same_test (eqb x (of_z w32 a)) (eq_z (to_z w32 x) a) (λ e. eq_z_same (to_z w32 x) a (ap (to_z w32) (eqb-true x (of_z w32 a) e) ∙ to_z-of_z s))
     (λ e. eq-eqb x (of_z w32 a) (sym back ∙ ap (of_z w32) (eq_z_true (to_z w32 x) a e)))
-
--- what the code's tests say of a key
-pub apart_keys : (a b : ℕ) (t : Bool) → (a ≡ b → ⊥) → false ≡ eqb a b && t
-apart_keys a b t n = sym (ap (λ (s : Bool). s && t) (by (eqb a b) refl))
-  where
-    by : (s : Bool) → eqb a b ≡ s → s ≡ false
-    by true e = absurd (n (eqb-true a b e))
-    by false e = refl
-
-pub alike_keys : (a b x y p q : ℕ) → a ≡ b → p ≡ x → q ≡ y → eqb p q ≡ eqb a b && eqb x y
-alike_keys a b x y p q e g h = ap₂ eqb g h ∙ ap (λ (s : Bool). s && eqb x y) (sym (eq-eqb a b e))
 
 module _ {rs : List Row} {c : List (List ℕ)} (H : RowsHeld rs c) (ls : List (List ℕ)) where
   abbrev keys : List Key

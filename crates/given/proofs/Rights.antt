@@ -1,31 +1,30 @@
 -- Whether a listed value is right, by its parts; and the first that is not.
+use Rattle.std.specs.Prelude.{Ok, Err}
 use Prim.Native.Nat.{ℕ, suc, ◌+◌, ◌≤◌, ◌<◌}
 use native.Mathlib.Numerals.{add-one}
-use native.Mathlib.Omega.{arith}
 use mathlib.Core.Path.{◌≡◌, refl, sym, ap, subst, ◌∙◌}
 use mathlib.Core.Bool.{Bool, true, false, not, ◌&&◌}
-use mathlib.Core.List.{List, [], ◌∷◌}
+use mathlib.Core.List.{List, ◌∷◌}
 use mathlib.Core.Option.{Option, none, some}
 use borrow.Author.Tests.{eqb-true, eq-eqb}
 use lib.Dec.{T, eqb}
-use lib.Ieee.{Float, nan, inf, fin, ne, eq, is_nan, binary64, of_bits, to_bits, fits}
+use lib.Ieee.{Float, nan, inf, fin, eq, is_nan, binary64, of_bits, to_bits, fits}
 use lib.Ieee.Bits.{of_bits-to_bits}
 use lib.ListN.{length, get_or, drop}
 use Rattle.laws.specs.Floats.{finite}
 use Rattle.laws.proofs.Bools.{both_ways, not-not, same_test, and_false_right, and_true_right}
+use Rattle.laws.proofs.Nans.{nan?, eq_self}
 use Rattle.laws.proofs.Scans.{drop-step, drop_end}
 use Rattle.rules.specs.Answer.{Res, ok, refused, ◌>>=◌}
 use Rattle.rules.specs.Dispatch.{Row}
 use Rattle.rules.specs.Outcome.{blank}
-use Rattle.rules.specs.Value.{World, Read, calculate}
+use Rattle.rules.specs.Value.{World, Read}
 use Rattle.rules.specs.Fresh.{unrecorded}
 use Rattle.rules.specs.declared.Refusal.{Refusal}
 use Rattle.reading.specs.Held.{no_row}
 use Rattle.memory.specs.Holding.{Tables}
 use Rattle.memory.specs.Memory.{value_column}
 use Rattle.memory.specs.Steps.{row_at}
-use Rattle.memory.specs.declared.apply.Got.{Got}
-use Rattle.memory.specs.declared.apply.Got.TheVariants as got
 use Rattle.memory.proofs.Nanned.{valued, unvalued}
 use Rattle.settled.specs.Given.{idles, where_recorded, given}
 use Rattle.settled.specs.Lines.{same_float, is_given, first_wrong}
@@ -46,7 +45,7 @@ bits_same x y f g =
     (λ e. float_same x y (sym (of_bits-to_bits binary64 x (subst T (sym f) tt)) ∙ ap (of_bits binary64) (eqb-true (to_bits binary64 x) (to_bits binary64 y) e) ∙ of_bits-to_bits binary64 y (subst T (sym g) tt)))
     (λ e. eq-eqb (to_bits binary64 x) (to_bits binary64 y) (ap (to_bits binary64) (same_float_lem x y e)))
 
-pub got_number : (x : Res Read) (y : Float) (used : ℕ) → GotIs x (got.Value y used) → T (finite y)
+pub got_number : (x : Res Read) (y : Float) (used : ℕ) → GotIs x (Ok (record { value = y; used = used })) → T (finite y)
 got_number (ok q) y used h = h.1
 got_number (refused z) y used h = absurd h
 
@@ -57,6 +56,16 @@ kept_any false v v' e = tt
 pub kept_true : (b : Bool) (v v' : List Float) → not b ≡ false → KeptIfAs b v v' → v' ≡ v
 kept_true true v v' z k = k
 kept_true false v v' z k = both_ways refl z
+
+-- the code's test for a number
+pub not_nan : (x : Float) → eq x x ≡ not (is_nan x)
+unfolding is_nan
+not_nan x = eq_self x ∙ ap not (same x)
+  where
+    same : (x : Float) → nan? x ≡ is_nan x
+    same nan = refl
+    same (inf s) = refl
+    same (fin s m e) = refl
 
 -- the same column under another name
 abbrev pub with_column : {t : Tables} {v v' : List Float} → Judged t v → v' ≡ v → Judged t v'
@@ -78,30 +87,25 @@ module _ {t : Tables} {v : List Float} (h : Judged t v) (i : ℕ) where
   shown : here ≡ get_or (value_column h.values) i nan
   shown = ap (λ (l : List Float). get_or l i nan) h.column
 
-  is_self : ne here here ≡ false → eq here here ≡ true
-  unfolding ne
-  is_self e = sym (not-not (eq here here)) ∙ ap not e
+  self_test : {b : Bool} → is_nan here ≡ b → eq here here ≡ not b
+  self_test e = not_nan here ∙ ap not e
 
-  not_self : ne here here ≡ true → eq here here ≡ false
-  unfolding ne
-  not_self e = sym (not-not (eq here here)) ∙ ap not e
+  pub listed_here : is_nan (get_or v i nan) ≡ false → get_or h.values i none ≡ some (get_or v i nan)
+  listed_here e = valued h.values i (sym (ap (λ (x : Float). eq x x) shown) ∙ self_test e) ∙ ap some (sym shown)
 
-  pub listed_here : ne (get_or v i nan) (get_or v i nan) ≡ false → get_or h.values i none ≡ some (get_or v i nan)
-  listed_here e = valued h.values i (sym (ap (λ (x : Float). eq x x) shown) ∙ is_self e) ∙ ap some (sym shown)
-
-  pub listed_number : ne (get_or v i nan) (get_or v i nan) ≡ false → T (finite (get_or v i nan))
+  pub listed_number : is_nan (get_or v i nan) ≡ false → T (finite (get_or v i nan))
   listed_number e = h.numbers i (get_or v i nan) (listed_here e)
 
   -- a line without a value
-  pub not_listed : ne (get_or v i nan) (get_or v i nan) ≡ true → false ≡ is_given (given h.world h.values i (row_at h.world i)) (get_or h.values i none)
-  not_listed e = no_value (given h.world h.values i (row_at h.world i)) ∙ ap (is_given (given h.world h.values i (row_at h.world i))) (sym (unvalued h.values i h.numbers (sym (ap (λ (x : Float). eq x x) shown) ∙ not_self e)))
+  pub not_listed : is_nan (get_or v i nan) ≡ true → false ≡ is_given (given h.world h.values i (row_at h.world i)) (get_or h.values i none)
+  not_listed e = no_value (given h.world h.values i (row_at h.world i)) ∙ ap (is_given (given h.world h.values i (row_at h.world i))) (sym (unvalued h.values i h.numbers (sym (ap (λ (x : Float). eq x x) shown) ∙ self_test e)))
 
   -- the rules give nothing
-  pub nothing-given : (z : Refusal) → GotIs (calculated_from h.world h.values i) (got.Refused z) → false ≡ is_given (given h.world h.values i (row_at h.world i)) (get_or h.values i none)
+  pub nothing-given : (z : Refusal) → GotIs (calculated_from h.world h.values i) (Err z) → false ≡ is_given (given h.world h.values i (row_at h.world i)) (get_or h.values i none)
   unfolding given
   nothing-given z k = by (calculated_from h.world h.values i) k
     where
-      by : (x : Res Read) → GotIs x (got.Refused z)
+      by : (x : Res Read) → GotIs x (Err z)
           → false ≡ is_given (x >>= λ r. where_recorded h.world.recording (idles (unrecorded h.world) (looks h.world h.values) i (row_at h.world i) (row_at h.world i).entries (blank h.world.rows)) >>= λ s. ok r.value) (get_or h.values i none)
       by (ok q) k = absurd k
       by (refused y) k = refl
@@ -110,12 +114,12 @@ module _ {t : Tables} {v : List Float} (h : Judged t v) (i : ℕ) where
   abbrev quiet : Res (Unit {0})
   quiet = idles (unrecorded h.world) (looks h.world h.values) i (row_at h.world i) (row_at h.world i).entries (blank h.world.rows)
 
-  module _ (y : Float) (used : ℕ) (k : GotIs (calculated_from h.world h.values i) (got.Value y used)) (e : ne (get_or v i nan) (get_or v i nan) ≡ false) where
+  module _ (y : Float) (used : ℕ) (k : GotIs (calculated_from h.world h.values i) (Ok (record { value = y; used = used }))) (e : is_nan (get_or v i nan) ≡ false) where
     by_parts : is_given (given h.world h.values i (row_at h.world i)) (get_or h.values i none) ≡ is_ok (where_recorded h.world.recording quiet) && same_float y here
     unfolding given
     by_parts = ap (is_given (given h.world h.values i (row_at h.world i))) (listed_here e) ∙ by (calculated_from h.world h.values i) (where_recorded h.world.recording quiet) k
       where
-        by : (x : Res Read) (s : Res (Unit {0})) → GotIs x (got.Value y used) → is_given (x >>= λ r. s >>= λ u. ok r.value) (some here) ≡ is_ok s && same_float y here
+        by : (x : Res Read) (s : Res (Unit {0})) → GotIs x (Ok (record { value = y; used = used })) → is_given (x >>= λ r. s >>= λ u. ok r.value) (some here) ≡ is_ok s && same_float y here
         by (ok q) (ok u) k = ap (λ (z : Float). same_float z here) (sym k.0)
         by (ok q) (refused z) k = refl
         by (refused z) s k = absurd k

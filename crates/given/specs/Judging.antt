@@ -1,29 +1,26 @@
 -- What the columns hold while a listing is judged, and what a line's value is held against. Definitions only.
-use Rattle.std.specs.Prelude.{ℕ, ◌+◌, ◌*◌, ◌≡◌, Bool, true, false, List, [], map, T, Float, length, get_or}
+use Rattle.std.specs.Prelude.{ℕ, ◌+◌, ◌*◌, ◌≡◌, Bool, true, false, List, [], map, T, Float, length, get_or, None, Some, Result, Ok, Err}
 use Rattle.std.proofs.Math.Option
 use Rattle.std.proofs.Math.Option.{Option}
+use Rattle.std.specs.Option.{is_some}
 use Rattle.std.specs.Float.{nan, binary64}
 use Rattle.std.specs.Float.Ieee.{eq, of_bits}
-use Rattle.columns.specs.Lending.{Column, LentColumn}
+use Rattle.columns.specs.Lending.{LentColumn}
+use Rattle.rules.specs.declared.Refusal.{Refusal}
 use Rattle.rules.specs.Answer.{Res, ok, refused}
 use Rattle.laws.specs.Floats.{finite}
 use Rattle.rules.specs.Number.{times}
 use Rattle.rules.specs.Outcome.{blank}
 use Rattle.rules.specs.Value.{World, Read, Reader, calculate}
 use Rattle.rules.specs.Fresh.{unrecorded, forgetful}
-use Rattle.rules.specs.declared.OptionalId.{OptionalId}
-use Rattle.rules.specs.declared.OptionalId.TheVariants.{Absent, Given}
-use Rattle.rules.specs.declared.Step.{Step}
-use Rattle.rules.specs.declared.Step.TheVariants.{Finite, NotFinite}
+use Rattle.rules.specs.Ids.{OptionalId}
 use Rattle.promises.specs.NoMemory.{NoLoop}
 use Rattle.sources.specs.declared.Recording.{Recording}
 use Rattle.memory.specs.Holding.{Tables, Tells}
 use Rattle.memory.specs.Memory.{value_column, AllFinite}
 use Rattle.memory.specs.Steps.{row_at}
 use Rattle.memory.specs.declared.apply.Got.{Got}
-use Rattle.memory.specs.declared.apply.Got.TheVariants as got
-use Rattle.reading.specs.declared.rows.Found.{Found}
-use Rattle.reading.specs.declared.rows.Found.TheVariants.{At, Nothing}
+use Rattle.std.specs.Prelude as code
 use Rattle.rules.specs.Dispatch.{Key}
 use Rattle.settled.specs.Given.{listed_reader}
 use Rattle.settled.specs.Lines.{line_of, finite_only}
@@ -72,18 +69,18 @@ abbrev pub calculated_from : World → List (Option Float) → ℕ → Res Read
 calculated_from w vs i = calculate (unrecorded w) (looks w vs) i (row_at w i) (blank w.rows)
 
 -- an answer has that value, a number, or there is none
-abbrev pub GotIs : Res Read → Got → Type 0
-GotIs (ok q) (got.Value x used) = (x ≡ q.value) × T (finite x)
-GotIs (ok q) (got.Refused z) = ⊥
-GotIs (refused y) (got.Value x used) = ⊥
-GotIs (refused y) (got.Refused z) = Unit {0}
+abbrev pub GotIs : Res Read → Result Got Refusal → Type 0
+GotIs (ok q) (Ok g) = (g.value ≡ q.value) × T (finite g.value)
+GotIs (ok q) (Err z) = ⊥
+GotIs (refused y) (Ok g) = ⊥
+GotIs (refused y) (Err z) = Unit {0}
 
 -- with a value the column is as it was; after a refusal it may hold anything
-abbrev pub RestoredAs : Got → List Float → List Float → Type 0
-RestoredAs (got.Value x used) v v' = v' ≡ v
-RestoredAs (got.Refused z) v v' = Unit {0}
+abbrev pub RestoredAs : Result Got Refusal → List Float → List Float → Type 0
+RestoredAs (Ok g) v v' = v' ≡ v
+RestoredAs (Err z) v v' = Unit {0}
 
-abbrev pub Restored : Got → LentColumn Float → Type 0
+abbrev pub Restored : Result Got Refusal → LentColumn Float → Type 0
 Restored r v = RestoredAs r v.entry.now v.exit.now
 
 -- the same of a test, and of a search for what is wrong
@@ -95,15 +92,15 @@ abbrev pub KeptIf : Bool → LentColumn Float → Type 0
 KeptIf r v = KeptIfAs r v.entry.now v.exit.now
 
 -- where no line is bad the column has the listed values
-abbrev pub LaidUnless : Found → List (List ℕ) → List Float → Type 0
-LaidUnless Nothing ls v = v ≡ map shown_in ls
-LaidUnless (At i) ls v = Unit {0}
+abbrev pub LaidUnless : code.Option ℕ → List (List ℕ) → List Float → Type 0
+LaidUnless None ls v = v ≡ map shown_in ls
+LaidUnless (Some i) ls v = Unit {0}
 
-abbrev pub KeptUnlessAs : Found → List Float → List Float → Type 0
-KeptUnlessAs Nothing v v' = v' ≡ v
-KeptUnlessAs (At i) v v' = Unit {0}
+abbrev pub KeptUnlessAs : code.Option ℕ → List Float → List Float → Type 0
+KeptUnlessAs None v v' = v' ≡ v
+KeptUnlessAs (Some i) v v' = Unit {0}
 
-abbrev pub KeptUnless : Found → LentColumn Float → Type 0
+abbrev pub KeptUnless : code.Option ℕ → LentColumn Float → Type 0
 KeptUnless r v = KeptUnlessAs r v.entry.now v.exit.now
 
 -- a value, or NaN where there is none
@@ -111,14 +108,10 @@ abbrev pub float_in : Res Float → Float
 float_in (ok v) = v
 float_in (refused y) = nan
 
-abbrev pub is_number : Step → Bool
-is_number (Finite x) = true
-is_number NotFinite = false
-
 -- a strength that is there stands against the ship's resistance, where one is named
 abbrev pub held_up : World → List (Option Float) → OptionalId → Float → Bool
-held_up w vs Absent v = eq v v
-held_up w vs (Given a) v = is_number (times v (float_in (listed_reader w vs 0 a)))
+held_up w vs None v = eq v v
+held_up w vs (Some a) v = is_some (times v (float_in (listed_reader w vs 0 a)))
 
 abbrev pub is_ok : {A : Type 0} → Res A → Bool
 is_ok (ok a) = true

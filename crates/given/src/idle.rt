@@ -5,210 +5,81 @@ ghost use Rattle.rules.specs.Fresh.{unrecorded};
 ghost use Rattle.rules.specs.Outcome.{blank};
 ghost use Rattle.memory.specs.Holding.{Good};
 ghost use Rattle.memory.specs.Steps.{row_at};
-ghost use Rattle.pass_3.specs.Calls.{lent, read};
 ghost use Rattle.settled.specs.Given.{listed_reader, idle, idles};
+ghost use Rattle.memory.specs.Holding.{tables_of};
 ghost use Rattle.given.specs.Judging.{Judged, float_in, held_up, is_ok, looks};
 
-use columns::{
-    AttributeRow, EntryRow, Limits, ROW_ENTRY_COUNT, ROW_FIRST_ENTRY, States, Stretches, TablePairs,
-};
+use columns::{ROW_ENTRY_COUNT, ROW_FIRST_ENTRY};
 use info::little_endian::index;
 use info::look_ups::get_dogma_attribute;
+use memory::ReadColumns;
 use numbers::product;
 use reading::entries::{entry_at, is_running};
-use reading::rows::Found;
 use reading::stretches::find;
-use rules::{Effect, OptionalId, Origin, Step};
+use rules::{Effect, Origin};
 
 // A value as it is listed: an absent attribute's default, NaN where its line has none.
-fn listed_value(
-    values: &[f64],
-    book: &[u8],
-    pairs: &TablePairs,
-    states: &States,
-    stretches: &Stretches,
-    limits: &Limits,
-    rows: &[AttributeRow],
-    bases: &[f64],
-    entries: &[EntryRow],
-    entry_values: &[f64],
-    object: u32,
-    attribute: i32,
-) -> f64
-    requires judged { let t = lent book pairs states stretches limits rows bases entries entry_values in
-        Judged t values.now }
+fn listed_value(values: &[f64], columns: &ReadColumns, object: u32, attribute: i32) -> f64
+    requires judged { Judged (tables_of columns.now) values.now }
     requires an_object { object < 1024 }
-    ensures defined { let t = read book pairs states stretches limits rows bases entries entry_values in
-        ((h : Judged t values.now) → result ≡ float_in (listed_reader h.world h.values object attribute)) }
+    ensures defined { (h : Judged (tables_of columns.now) values.now) → result ≡ float_in (listed_reader h.world h.values object attribute) }
 {
-    let found = find(rows, stretches, object, attribute);
-    match found {
-        Found::At(row) => values[row],
-        Found::Nothing => {
-            let record = get_dogma_attribute(book, pairs, attribute);
-            record.default_value
-        }
+    match find(columns.rows, columns.stretches, object, attribute) {
+        Some(row) => values[row],
+        None => get_dogma_attribute(columns.book, columns.pairs, attribute).default_value,
     }
 }
 
 // Whether a strength that is read stands against the ship's resistance, where one is named.
-fn is_held(
-    values: &[f64],
-    book: &[u8],
-    pairs: &TablePairs,
-    states: &States,
-    stretches: &Stretches,
-    limits: &Limits,
-    rows: &[AttributeRow],
-    bases: &[f64],
-    entries: &[EntryRow],
-    entry_values: &[f64],
-    resistance: OptionalId,
-    v: f64,
-) -> bool
-    requires judged { let t = lent book pairs states stretches limits rows bases entries entry_values in
-        Judged t values.now }
-    ensures defined { let t = read book pairs states stretches limits rows bases entries entry_values in
-        ((h : Judged t values.now) → result ≡ held_up h.world h.values resistance v) }
+fn is_held(values: &[f64], columns: &ReadColumns, resistance: Option<i32>, v: f64) -> bool
+    requires judged { Judged (tables_of columns.now) values.now }
+    ensures defined { (h : Judged (tables_of columns.now) values.now) → result ≡ held_up h.world h.values resistance v }
 {
     match resistance {
-        OptionalId::Absent => v == v,
-        OptionalId::Given(attribute) => {
-            let q = listed_value(
-                values,
-                book,
-                pairs,
-                states,
-                stretches,
-                limits,
-                rows,
-                bases,
-                entries,
-                entry_values,
-                0,
-                attribute,
-            );
-            let step = product(v, q);
-            match step {
-                Step::Finite(_) => true,
-                Step::NotFinite => false,
-            }
+        None => !v.is_nan(),
+        Some(attribute) => {
+            let q = listed_value(values, columns, 0, attribute);
+            product(v, q).is_some()
         }
     }
 }
 
 // Whether an entry has a strength by the listing, if it does not run.
-fn has_strength(
-    values: &[f64],
-    book: &[u8],
-    pairs: &TablePairs,
-    states: &States,
-    stretches: &Stretches,
-    limits: &Limits,
-    rows: &[AttributeRow],
-    bases: &[f64],
-    entries: &[EntryRow],
-    entry_values: &[f64],
-    e: Effect,
-) -> bool
-    requires judged { let t = lent book pairs states stretches limits rows bases entries entry_values in
-        Judged t values.now }
+fn has_strength(values: &[f64], columns: &ReadColumns, e: Effect) -> bool
+    requires judged { Judged (tables_of columns.now) values.now }
     requires good { Good e }
-    ensures defined { let t = read book pairs states stretches limits rows bases entries entry_values in
-        ((h : Judged t values.now) (i : ℕ) (row : Row)
-        → result ≡ is_ok (idle (unrecorded h.world) (looks h.world h.values) i row e e.origin (blank h.world.rows))) }
+    ensures defined { (h : Judged (tables_of columns.now) values.now) (i : ℕ) (row : Row)
+        → result ≡ is_ok (idle (unrecorded h.world) (looks h.world h.values) i row e e.origin (blank h.world.rows)) }
 {
-    let origin = e.origin;
-    let resistance = e.resistance;
-    let runs = is_running(states, origin);
-    if runs {
+    if is_running(columns.states, e.origin) {
         return true;
     }
-    match origin {
-        Origin::Buff {
-            buff_id: _,
-            value: _,
-        } => true,
+    match e.origin {
+        Origin::Buff { .. } => true,
         Origin::Effect {
-            effect_id: _,
             source,
-            source_category: _,
             attribute_id,
+            ..
         } => {
-            let v = listed_value(
-                values,
-                book,
-                pairs,
-                states,
-                stretches,
-                limits,
-                rows,
-                bases,
-                entries,
-                entry_values,
-                source,
-                attribute_id,
-            );
-            is_held(
-                values,
-                book,
-                pairs,
-                states,
-                stretches,
-                limits,
-                rows,
-                bases,
-                entries,
-                entry_values,
-                resistance,
-                v,
-            )
+            let v = listed_value(values, columns, source, attribute_id);
+            is_held(values, columns, e.resistance, v)
         }
     }
 }
 
 // Whether each entry of a row that does not run has a strength by the listing.
-pub fn idles_have_strength(
-    values: &[f64],
-    book: &[u8],
-    pairs: &TablePairs,
-    states: &States,
-    stretches: &Stretches,
-    limits: &Limits,
-    rows: &[AttributeRow],
-    bases: &[f64],
-    entries: &[EntryRow],
-    entry_values: &[f64],
-    row: usize,
-) -> bool
-    requires judged { let t = lent book pairs states stretches limits rows bases entries entry_values in
-        Judged t values.now }
-    requires within { row < length rows.now }
-    ensures defined { let t = read book pairs states stretches limits rows bases entries entry_values in
-        ((h : Judged t values.now)
+pub fn idles_have_strength(values: &[f64], columns: &ReadColumns, row: usize) -> bool
+    requires judged { Judged (tables_of columns.now) values.now }
+    requires within { row < length columns.now.rows.now }
+    ensures defined { (h : Judged (tables_of columns.now) values.now)
         → result ≡ is_ok (idles (unrecorded h.world) (looks h.world h.values) row (row_at h.world row)
-        (row_at h.world row).entries (blank h.world.rows))) }
+        (row_at h.world row).entries (blank h.world.rows)) }
 {
-    let first = index(rows[row][ROW_FIRST_ENTRY]);
-    let count = index(rows[row][ROW_ENTRY_COUNT]);
-    let mut k: usize = 0;
-    while k < count {
-        let e = entry_at(entries, entry_values, first + k);
-        let strong = has_strength(
-            values,
-            book,
-            pairs,
-            states,
-            stretches,
-            limits,
-            rows,
-            bases,
-            entries,
-            entry_values,
-            e,
-        );
-        k += 1;
-        if !strong {
+    let first = index(columns.rows[row][ROW_FIRST_ENTRY]);
+    let count = index(columns.rows[row][ROW_ENTRY_COUNT]);
+    for k in 0..count {
+        let e = entry_at(columns.entries, columns.entry_values, first + k);
+        if !has_strength(values, columns, e) {
             return false;
         }
     }

@@ -1,7 +1,7 @@
 -- Parts of columns that come back as zeros, in their places.
 use Prim.Native.Nat.{ℕ, ◌+◌, ◌-◌, ◌≤◌}
 use native.Mathlib.Omega.{arith}
-use mathlib.Core.Path.{◌≡◌, refl, sym, ap, ◌∙◌}
+use mathlib.Core.Path.{◌≡◌, refl, ap, ◌∙◌}
 use mathlib.Core.List.{List, ◌++◌}
 use lib.Ieee.{Float}
 use lib.ListN.{length, take, drop, replicate, length-drop, length-append}
@@ -12,24 +12,24 @@ use Rattle.clear.specs.Ends.{cleared}
 use Rattle.clear.proofs.Columned.{cleared_zeros}
 use Rattle.promises.specs.Pilots.{Pool}
 
-module _ {A : Type 0} (a n : ℕ) (c : List A) (h : a + n ≤ length c) where
+module _ {A : Type 0} (a n : ℕ) (c : List A) (h : a + n ≤ length c) {e : ℕ} (end : e ≡ a + n) where
   -- a part is as long as from its beginning to its end
-  part_long : length (take (a + n - a) (drop a c)) ≡ n
-  part_long = length-take-le (a + n - a) (drop a c) (let d = length-drop a c in omega (arith, d, h)) ∙ (let z : a + n - a ≡ n = omega arith in z)
+  part_long : length (take (e - a) (drop a c)) ≡ n
+  part_long = length-take-le (e - a) (drop a c) (let d = length-drop a c in omega (arith, d, h, end)) ∙ (let z : e - a ≡ n = omega (arith, end) in z)
 
   -- a column whose part has come back is as long as it was
-  pub same_long : (ys : List A) → length ys ≡ length (take (a + n - a) (drop a c)) → length (take a c ++ (ys ++ drop (a + n - a) (drop a c))) ≡ length c
+  pub same_long : (ys : List A) → length ys ≡ length (take (e - a) (drop a c)) → length (take a c ++ (ys ++ drop (e - a) (drop a c))) ≡ length c
   same_long ys k =
-      let t = length-append (take a c) (ys ++ drop (a + n - a) (drop a c)) in
-      let u = length-append ys (drop (a + n - a) (drop a c)) in
+      let t = length-append (take a c) (ys ++ drop (e - a) (drop a c)) in
+      let u = length-append ys (drop (e - a) (drop a c)) in
       let v = length-take-le a c (omega (arith, h)) in
-      let w = length-drop (a + n - a) (drop a c) in
+      let w = length-drop (e - a) (drop a c) in
       let x = length-drop a c in
-      let y = part_long in omega (arith, t, u, v, w, x, y, k, h)
+      let y = part_long in omega (arith, t, u, v, w, x, y, k, h, end)
 
-  pub zeroed : (z : A) (ys : List A) → ys ≡ cleared z 0 (take (a + n - a) (drop a c)) → take a c ++ (ys ++ drop (a + n - a) (drop a c)) ≡ within a n (replicate n z) c
+  pub zeroed : (z : A) (ys : List A) → ys ≡ cleared z 0 (take (e - a) (drop a c)) → take a c ++ (ys ++ drop (e - a) (drop a c)) ≡ within a n (replicate n z) c
   zeroed z ys k =
-      lent-within a (a + n) n ys c refl ∙ ap (λ (x : List A). within a n x c) (k ∙ cleared_zeros z (take (a + n - a) (drop a c)) ∙ ap (λ (m : ℕ). replicate m z) part_long)
+      lent-within a e n ys c end ∙ ap (λ (x : List A). within a n x c) (k ∙ cleared_zeros z (take (e - a) (drop a c)) ∙ ap (λ (m : ℕ). replicate m z) part_long)
 
 pub zero_states : (s : List (List ℕ)) {t : List (List ℕ)} → t ≡ cleared (replicate 2 0) 0 s → length s ≡ 1024 → t ≡ replicate 1024 (replicate 2 0)
 zero_states s e h = e ∙ cleared_zeros (replicate 2 0) s ∙ ap (λ (n : ℕ). replicate n (replicate 2 0)) h

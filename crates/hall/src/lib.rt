@@ -10,9 +10,8 @@ use columns::{
     AttributeRow, CollectedRow, EntryRow, LISTS, PilotStates, PlainRow, PoolStretches,
     SourceFloats, SourceRow,
 };
-use free_table::{Stretch, load, store};
-use pool::lesser;
-use seats::{Left, Seat, admit_seats, admit_table, leave_answer, leave_table};
+use free_table::{FreeTable, Stretch, load, store};
+use seats::{Left, Seat, SeatRefusal, admit_seats, admit_table, done, leave_answer, leave_table};
 
 // ---- admission
 
@@ -30,11 +29,13 @@ pub fn dogma_admit(
 {
     let room = free.len();
     let t = load(free);
-    let seat = admit_seats(t, room, stretches, count, pool, pilot, wanted);
-    if seat.number == 0 {
-        store(free, admit_table(t, count, wanted));
+    match admit_seats(t, room, stretches, count, pool, pilot, wanted) {
+        Ok(now) => {
+            store(free, admit_table(t, count, wanted));
+            done(now)
+        }
+        Err(refusal) => refusal.told(count),
     }
-    seat
 }
 
 // ---- leaving
@@ -55,12 +56,12 @@ fn pool_rows(
     ensures defined { result ≡ min 4294967295 (min collected (min collected_values (min rows (min bases (min values (min entries
         (min entry_values (min plain (min sources source_values))))))))) }
 {
-    let five = lesser(sources, source_values);
-    let four = lesser(plain, five);
-    let three = lesser(entries, lesser(entry_values, four));
-    let two = lesser(rows, lesser(bases, lesser(values, three)));
-    let one = lesser(collected, lesser(collected_values, two));
-    lesser(4294967295, one) as u32
+    let five = sources.min(source_values);
+    let four = plain.min(five);
+    let three = entries.min(entry_values.min(four));
+    let two = rows.min(bases.min(values.min(three)));
+    let one = collected.min(collected_values.min(two));
+    4294967295.min(one) as u32
 }
 
 // A pilot's states and the rows of its stretch made zero, in every column.
@@ -77,24 +78,24 @@ fn clear_seat(
     sources: &mut [SourceRow],
     source_values: &mut [SourceFloats],
     p: usize,
-    start: usize,
-    long: usize,
+    seat: Stretch,
 )
     requires a_pilot { p < 16 }
-    requires collected { start + long ≤ length collected.old }
-    requires collected_values { start + long ≤ length collected_values.old }
-    requires rows { start + long ≤ length rows.old }
-    requires bases { start + long ≤ length bases.old }
-    requires values { start + long ≤ length values.old }
-    requires entries { start + long ≤ length entries.old }
-    requires entry_values { start + long ≤ length entry_values.old }
-    requires plain { start + long ≤ length plain.old }
-    requires sources { start + long ≤ length sources.old }
-    requires source_values { start + long ≤ length source_values.old }
+    requires collected { seat.start + seat.length ≤ length collected.old }
+    requires collected_values { seat.start + seat.length ≤ length collected_values.old }
+    requires rows { seat.start + seat.length ≤ length rows.old }
+    requires bases { seat.start + seat.length ≤ length bases.old }
+    requires values { seat.start + seat.length ≤ length values.old }
+    requires entries { seat.start + seat.length ≤ length entries.old }
+    requires entry_values { seat.start + seat.length ≤ length entry_values.old }
+    requires plain { seat.start + seat.length ≤ length plain.old }
+    requires sources { seat.start + seat.length ≤ length sources.old }
+    requires source_values { seat.start + seat.length ≤ length source_values.old }
     ensures cleared { let c = lent_pool states collected collected_values rows bases values entries entry_values plain sources source_values in
-        c.exit ≡ cleared_of (record { start = start; length = long }) p c.entry }
+        c.exit ≡ cleared_of seat p c.entry }
 {
-    let end = start + long;
+    let start = seat.start as usize;
+    let end = seat.end();
     let none = KeptCounts {
         objects: 0,
         collected: 0,
@@ -119,11 +120,6 @@ fn clear_seat(
     );
 }
 
-// A lent array's length is told where it is handed on by value; the compiler drops the copy.
-fn sixteen(given: PoolStretches)
-    ensures whole { length given ≡ 16 }
-{}
-
 // Whether a pilot leaves; its rows and its states are cleared, and it has no stretch.
 pub fn leave_seats(
     states: &mut PilotStates,
@@ -138,17 +134,15 @@ pub fn leave_seats(
     sources: &mut [SourceRow],
     source_values: &mut [SourceFloats],
     stretches: &mut PoolStretches,
-    t: [Stretch; 17],
+    t: FreeTable,
     room: usize,
     count: u32,
     pilot: u32,
-) -> Left
+) -> Result<Left, SeatRefusal>
     ensures left { let c = lent_pool states collected collected_values rows bases values entries entry_values plain sources source_values in
         let h = hall_of t count stretches.old (pool_rows c.entry) in
         LeavesSeats room h pilot c.entry c.exit result stretches.new }
 {
-    let given = *stretches;
-    sixteen(given);
     let pool = pool_rows(
         collected.len(),
         collected_values.len(),
@@ -161,42 +155,25 @@ pub fn leave_seats(
         sources.len(),
         source_values.len(),
     );
-    let left = leave_answer(t, room, stretches, count, pool, pilot);
-    if left.number == 0 {
-        let p = pilot as usize;
-        let start = left.start as usize;
-        let long = left.length as usize;
-        clear_seat(
-            states,
-            collected,
-            collected_values,
-            rows,
-            bases,
-            values,
-            entries,
-            entry_values,
-            plain,
-            sources,
-            source_values,
-            p,
-            start,
-            long,
-        );
-        stretches[p] = [[0, 0]; LISTS];
-        return left;
-    }
-    left
-}
-
-// What the caller is told of it.
-fn seat_of(left: Left) -> Seat
-    ensures defined { result ≡ record { number = left.number; place = left.place; free = left.free } }
-{
-    Seat {
-        number: left.number,
-        place: left.place,
-        free: left.free,
-    }
+    let left = leave_answer(t, room, stretches, count, pool, pilot)?;
+    let p = pilot as usize;
+    clear_seat(
+        states,
+        collected,
+        collected_values,
+        rows,
+        bases,
+        values,
+        entries,
+        entry_values,
+        plain,
+        sources,
+        source_values,
+        p,
+        left.stretch,
+    );
+    stretches[p] = [[0, 0]; LISTS];
+    Ok(left)
 }
 
 // Whether a pilot leaves; its rows are zero and free again, joined to their neighbours. Nothing is required.
@@ -223,7 +200,7 @@ pub fn dogma_leave(
 {
     let room = free.len();
     let t = load(free);
-    let left = leave_seats(
+    let answer = leave_seats(
         states,
         collected,
         collected_values,
@@ -241,9 +218,11 @@ pub fn dogma_leave(
         count,
         pilot,
     );
-    let seat = seat_of(left);
-    if seat.number == 0 {
-        store(free, leave_table(t, count, left.start, left.length));
+    match answer {
+        Ok(left) => {
+            store(free, leave_table(t, count, left.stretch));
+            done(left.free)
+        }
+        Err(refusal) => refusal.told(count),
     }
-    seat
 }

@@ -1,24 +1,22 @@
 -- Each aim that the code makes is at the objects that its part of `hit` names.
-use Prim.Native.Nat.{ℕ, suc, ◌+◌, ◌-◌, ◌≤◌, ◌<◌}
+use Prim.Native.Nat.{ℕ, ◌+◌, ◌≤◌, ◌<◌}
 use native.Mathlib.Omega.{arith}
 use mathlib.Core.Path.{◌≡◌, refl, sym, ap, subst, ◌∙◌}
 use mathlib.Core.Bool.{Bool, true, false, not, ◌&&◌, ◌||◌, cond}
-use mathlib.Core.List.{List}
 use lib.Dec.{eqb, leb, ltb}
 use lib.ListN.{length, get_or}
 use borrow.Author.Tests.{eqb-true, eqb-false, eq-eqb, ne_eqb, leb-true, ltb-true, le-leb, lt-ltb, le-ltb}
 use Rattle.laws.proofs.Bools.{either, and_left, and_right, and_both, and_assoc, and_false_right, or_none_right, or_true_right, same_test}
 use Rattle.rules.specs.Sheet.{Book, Fit}
 use Rattle.rules.specs.Item.{object, is_ship, is_char, is_item, is_charge, is_skill, is_in_ship, is_on_char, is_owner_modifiable, char_of}
-use Rattle.rules.specs.Dispatch.{carrier, in_location, in_skill_location}
+use Rattle.rules.specs.Dispatch.{carrier, in_location}
 use Rattle.rules.specs.Columns.{yes1}
 use Rattle.rules.specs.declared.Item.{Item}
 use Rattle.hits.specs.declared.Aim.{Aim}
 use Rattle.info.specs.declared.standing.Spans.{Spans}
 use Rattle.hits.specs.declared.Test.{Test}
-use Rattle.hits.specs.declared.Test.TheVariants.{All, Requiring}
 use Rattle.info.specs.Stands.{is_fitted, Stands}
-use Rattle.hits.specs.Reach.{required_bits, reach_of}
+use Rattle.hits.specs.Reach.{reach_of}
 use Rattle.hits.specs.Who.{asked_of, passes_by, within, meets, Aims, at_location, char_items, by_skill, by_owner, alone, nobody}
 
 -- ---- an aim by a column, and one at a single object

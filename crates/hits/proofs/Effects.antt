@@ -1,10 +1,8 @@
 -- The aims of a collected effect by what stands in its row of list 1.
-use Prim.Native.Nat.{ℕ, ◌≤◌, ◌<◌}
-use native.Mathlib.Omega.{arith}
+use Prim.Native.Nat.{ℕ, ◌<◌}
 use mathlib.Core.Path.{◌≡◌, refl, sym, ap, subst, ◌∙◌}
-use mathlib.Core.Bool.{Bool, true, false, ◌&&◌}
+use mathlib.Core.Bool.{Bool, ◌&&◌}
 use mathlib.Core.List.{List}
-use lib.Dec.{eqb}
 use lib.IntN.{ℤ}
 use lib.ListN.{length, get_or}
 use mir.Syntax.{w32}
@@ -22,9 +20,8 @@ use Rattle.rules.specs.declared.Modifier.TheVariants.{LocationRequiredSkillModif
 use Rattle.rules.specs.declared.Pass2Effect.{Pass2Effect}
 use Rattle.hits.specs.declared.Aim.{Aim}
 use Rattle.info.specs.declared.standing.Spans.{Spans}
-use Rattle.hits.specs.declared.Test.{Test}
 use Rattle.hits.specs.declared.Test.TheVariants.{All, OfGroup, Requiring}
-use Rattle.info.specs.Stands.{Sized, Stands, Narrow}
+use Rattle.info.specs.Stands.{Stands, Narrow}
 use Rattle.hits.specs.Who.{Aims, at_location, char_items, by_skill, by_owner, alone, nobody, First, Second}
 use Rattle.hits.proofs.HitsLaws.{meant_itself, meant_buff, meant_effect, first_item, first_group, first-all, first_skill, first_owner, second_group, second_all, second_nobody, no_location}
 use Rattle.info.proofs.Rows.{origin_at, source_at, func_at, what_at, target_at}

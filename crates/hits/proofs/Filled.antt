@@ -1,20 +1,21 @@
 -- The row of required skills, filled from an object's base attributes one after another.
+use Rattle.std.specs.Prelude.{Option, Some, None, IfSome}
+use Rattle.std.specs.List.{position_or_len}
+use Rattle.std.specs.Option.{option_map}
 use Prim.Native.Nat.{ℕ, suc, ◌+◌, ◌≤◌, ◌<◌}
 use native.Mathlib.Omega.{arith}
 use mathlib.Core.Path.{◌≡◌, refl, sym, ap, ◌∙◌}
-use mathlib.Core.Bool.{Bool, true, false, cond}
+use mathlib.Core.Bool.{Bool, true, false, not, cond}
+use lib.Dec.{ltb}
+use borrow.Author.Tests.{lt-ltb, le-ltb, ltb-true, ltb-false}
 use mathlib.Core.List.{List, [], ◌∷◌, ◌++◌, map}
-use lib.IntN.{ℤ, pos}
-use lib.ListN.{length, get_or, drop, set}
-use lib.Seq.{set_out}
+use lib.IntN.{ℤ}
+use lib.ListN.{length, get_or, set}
 use lib.Signed.{lt_z}
-use mir.Syntax.{w32}
-use mir.Val.{SFits, of_z, to_z}
-use mir.Facts.{to_z-of_z}
 use Rattle.laws.specs.Lists.{eq_z, every?, first, or_else, span, ascends}
 use Rattle.laws.proofs.Bools.{and_left, and_right}
 use Rattle.laws.proofs.Maps.{map_same}
-use Rattle.laws.proofs.Order.{eq_z_true, eq_z_sym, eq_z-apart, lt_z_apart}
+use Rattle.laws.proofs.Order.{eq_z_true, eq_z_sym, lt_z_apart}
 use Rattle.laws.proofs.Ascending.{ascends_head, ascends_tail}
 use Rattle.laws.proofs.Spans.{span_next}
 use Rattle.rules.specs.Bytes.{bits}
@@ -29,23 +30,45 @@ use Rattle.hits.specs.Reach.{no_skill, skill_bits, required_bits, place_of, slot
 
 -- ---- the place of an attribute
 
-module _ (z : ℤ) (f : SFits w32 z) where
-  pub slot_here : (n : ℕ) {s : ℕ} → s ≡ place_of (to_z w32 n) attribute_skills → of_z w32 z ≡ n → s ≡ slot_of z
-  unfolding slot_of
-  slot_here n h e = h ∙ ap (λ (y : ℤ). place_of y attribute_skills) (sym (ap (to_z w32) e) ∙ to_z-of_z f)
+-- what `position` answers
+module _ (z : ℤ) (test : ℤ → Bool) (same : (y : ℤ) → test y ≡ eq_z z y) where
+  abbrev found : List ℤ → Option ℕ
+  found r = cond (ltb (position_or_len test r) (length r)) (Some (position_or_len test r)) None
 
-  other : (a : ℤ) (r : List ℤ) {n : ℕ} → (of_z w32 z ≡ of_z w32 a → ⊥) → n ≡ place_of z r → suc n ≡ place_of z (a ∷ r)
-  other a r e h = ap suc h ∙ sym (ap (λ (t : Bool). cond t 0 (suc (place_of z r))) (eq_z-apart z a (λ s. e (ap (of_z w32) s))))
+  later : (t : Bool) (n l : ℕ) → ltb n l ≡ t → cond (ltb (suc n) (suc l)) (Some (suc n)) None ≡ option_map suc (cond t (Some n) None)
+  later true n l e = ap (λ (t : Bool). cond t (Some (suc n)) None) (lt-ltb (suc n) (suc l) (omega (arith, ltb-true n l e)))
+  later false n l e = ap (λ (t : Bool). cond t (Some (suc n)) None) (le-ltb (suc n) (suc l) (omega (arith, ltb-false n l e)))
 
-  pub slot_else : (of_z w32 z ≡ 182 → ⊥) → (of_z w32 z ≡ 183 → ⊥) → (of_z w32 z ≡ 184 → ⊥) → (of_z w32 z ≡ 1285 → ⊥) → (of_z w32 z ≡ 1289 → ⊥) → (of_z w32 z ≡ 1290 → ⊥) → 6 ≡ slot_of z
-  unfolding slot_of
-  slot_else a b c d e g =
-      other (pos 182) (drop 1 attribute_skills) a
-      (other (pos 183) (drop 2 attribute_skills) b
-      (other (pos 184) (drop 3 attribute_skills) c
-      (other (pos 1285) (drop 4 attribute_skills) d (other (pos 1289) (drop 5 attribute_skills) e (other (pos 1290) [] g refl)))))
+  by : (t : Bool) (a : ℤ) (r : List ℤ) → test a ≡ t → found r ≡ place_of z r → found (a ∷ r) ≡ cond t (Some 0) (option_map suc (place_of z r))
+  by true a r e h =
+      let z : position_or_len test (a ∷ r) ≡ 0 = ap (λ (b : Bool). cond (not b) (1 + position_or_len test r) 0) e in
+      ap (λ (n : ℕ). cond (ltb n (suc (length r))) (Some n) None) z ∙ ap (λ (b : Bool). cond b (Some 0) None) (lt-ltb 0 (suc (length r)) (omega arith))
+  by false a r e h =
+      let z : position_or_len test (a ∷ r) ≡ 1 + position_or_len test r = ap (λ (b : Bool). cond (not b) (1 + position_or_len test r) 0) e in
+      let z' : 1 + position_or_len test r ≡ suc (position_or_len test r) = omega arith in
+      ap (λ (n : ℕ). cond (ltb n (suc (length r))) (Some n) None) (z ∙ z') ∙ later (ltb (position_or_len test r) (length r)) (position_or_len test r) (length r) refl ∙ ap (option_map suc) h
+
+  pub place_found : (r : List ℤ) → found r ≡ place_of z r
+  place_found [] = refl
+  place_found (a ∷ r) = by (eq_z z a) a r (same a) (place_found r)
+
+behind : (p : Option ℕ) (n : ℕ) → IfSome p (λ s. s < n) → IfSome (option_map suc p) (λ s. s < suc n)
+behind None n h = tt
+behind (Some s) n h = omega (arith, h)
+
+first-place : (t : Bool) (p : Option ℕ) (n : ℕ) → IfSome p (λ s. s < n) → IfSome (cond t (Some 0) (option_map suc p)) (λ s. s < suc n)
+first-place true p n h = omega arith
+first-place false p n h = behind p n h
+
+pub place-inside : (z : ℤ) (r : List ℤ) → IfSome (place_of z r) (λ s. s < length r)
+place-inside z [] = tt
+place-inside z (a ∷ r) = first-place (eq_z z a) (place_of z r) (length r) (place-inside z r)
 
 -- ---- a value stored at the place of z among the values of h
+
+abbrev pub put_at : Option ℕ → List ℕ → ℕ → List ℕ
+put_at None l v = l
+put_at (Some s) l v = set l s v
 
 module _ (z : ℤ) (v : ℕ) (h : ℤ → ℕ) where
   abbrev stored : ℤ → ℕ
@@ -56,11 +79,15 @@ module _ (z : ℤ) (v : ℕ) (h : ℤ → ℕ) where
   stored_none (a ∷ r) e =
       rw (lt_z_apart z a (and_left (lt_z z a) (every? (lt_z z) r) e)) (ap (λ (l : List ℕ). h a ∷ l) (stored_none r (and_right (lt_z z a) (every? (lt_z z) r) e)))
 
-  stored_head : (t : Bool) (a : ℤ) (r : List ℤ) → eq_z z a ≡ t → every? (lt_z a) r ≡ true → set (map h r) (place_of z r) v ≡ map stored r → set (h a ∷ map h r) (cond t 0 (suc (place_of z r))) v ≡ cond t v (h a) ∷ map stored r
-  stored_head true a r e l i = ap (λ (s : List ℕ). v ∷ s) (stored_none r (ap (λ (y : ℤ). every? (lt_z y) r) (eq_z_true z a e) ∙ l))
-  stored_head false a r e l i = ap (λ (s : List ℕ). h a ∷ s) i
+  put-behind : (p : Option ℕ) (x : ℕ) (l : List ℕ) → put_at (option_map suc p) (x ∷ l) v ≡ x ∷ put_at p l v
+  put-behind None x l = refl
+  put-behind (Some s) x l = refl
 
-  stored_at : (r : List ℤ) → ascends r ≡ true → set (map h r) (place_of z r) v ≡ map stored r
+  stored_head : (t : Bool) (a : ℤ) (r : List ℤ) → eq_z z a ≡ t → every? (lt_z a) r ≡ true → put_at (place_of z r) (map h r) v ≡ map stored r → put_at (cond t (Some 0) (option_map suc (place_of z r))) (h a ∷ map h r) v ≡ cond t v (h a) ∷ map stored r
+  stored_head true a r e l i = ap (λ (s : List ℕ). v ∷ s) (stored_none r (ap (λ (y : ℤ). every? (lt_z y) r) (eq_z_true z a e) ∙ l))
+  stored_head false a r e l i = put-behind (place_of z r) (h a) (map h r) ∙ ap (λ (s : List ℕ). h a ∷ s) i
+
+  stored_at : (r : List ℤ) → ascends r ≡ true → put_at (place_of z r) (map h r) v ≡ map stored r
   stored_at [] o = refl
   stored_at (a ∷ r) o = stored_head (eq_z z a) a r refl (ascends_head a r o) (stored_at r (ascends_tail a r o))
 
@@ -102,15 +129,11 @@ module _ (a : ℤ) where
 unfoldable pub row_of : List BaseAttribute → List ℕ
 row_of rs = map (λ a. latest a no_skill rs) attribute_skills
 
-row-set : (rs : List BaseAttribute) (r : BaseAttribute) → set (row_of rs) (slot_of r.attribute_id) (skill r) ≡ row_of (rs ++ (r ∷ []))
+row-set : (rs : List BaseAttribute) (r : BaseAttribute) → put_at (slot_of r.attribute_id) (row_of rs) (skill r) ≡ row_of (rs ++ (r ∷ []))
 unfolding row_of slot_of
 row-set rs r =
     stored_at r.attribute_id (skill r) (λ a. latest a no_skill rs) attribute_skills refl
     ∙ map_same _ _ (λ a. sym (latest_snoc a no_skill rs r)) attribute_skills
-
-row_long : (rs : List BaseAttribute) → length (row_of rs) ≡ 6
-unfolding row_of
-row_long rs = refl
 
 -- k of n base attributes, from the first on, are in the row
 pub record Filled (xs : List BaseAttribute) (start n : ℕ) (row : List ℕ) (k : ℕ) : Type 0 where
@@ -121,19 +144,19 @@ pub filled_none : (xs : List BaseAttribute) (start n : ℕ) → Filled xs start 
 unfolding row_of
 filled_none xs start n = record { within = omega arith; is = refl }
 
-module _ (xs : List BaseAttribute) (start n : ℕ) {row : List ℕ} {k : ℕ} (F : Filled xs start n row k) (h : k < n) (l : start + n ≤ length xs) {r : BaseAttribute} (e : (d : BaseAttribute) → r ≡ get_or xs (start + k) d) {slot : ℕ} (p : slot ≡ slot_of r.attribute_id) where
-  next : row_of (span start (k + 1) xs) ≡ set row slot (skill r)
-  next =
+module _ (xs : List BaseAttribute) (start n : ℕ) {row : List ℕ} {k : ℕ} (F : Filled xs start n row k) (h : k < n) (l : start + n ≤ length xs) {r : BaseAttribute} (e : (d : BaseAttribute) → r ≡ get_or xs (start + k) d) where
+  next : {slot : Option ℕ} → slot ≡ slot_of r.attribute_id → row_of (span start (k + 1) xs) ≡ put_at slot row (skill r)
+  next {slot} p =
       ap row_of (span_next start k xs r (omega arith) ∙ ap (λ (x : BaseAttribute). span start k xs ++ (x ∷ [])) (sym (e r)))
       ∙ sym (row-set (span start k xs) r)
-      ∙ ap (λ (m : ℕ). set (row_of (span start k xs)) m (skill r)) (sym p)
-      ∙ ap (λ (m : List ℕ). set m slot (skill r)) (sym F.is)
+      ∙ ap (λ (m : Option ℕ). put_at m (row_of (span start k xs)) (skill r)) (sym p)
+      ∙ ap (λ (m : List ℕ). put_at slot m (skill r)) (sym F.is)
 
-  pub filled_here : {v : ℕ} → v ≡ bits (cut r.value) → Filled xs start n (set row slot v) (k + 1)
-  filled_here {v} q = record { within = omega arith; is = ap (set row slot) q ∙ sym next }
+  pub filled_here : {s v : ℕ} → Some s ≡ slot_of r.attribute_id → v ≡ bits (cut r.value) → Filled xs start n (set row s v) (k + 1)
+  filled_here {s} p q = record { within = omega arith; is = ap (set row s) q ∙ sym (next p) }
 
-  pub filled_on : 6 ≤ slot → Filled xs start n row (k + 1)
-  filled_on m = record { within = omega arith; is = sym (next ∙ set_out row slot (skill r) (omega (arith, ap length F.is ∙ row_long (span start k xs)))) }
+  pub filled_on : None ≡ slot_of r.attribute_id → Filled xs start n row (k + 1)
+  filled_on p = record { within = omega arith; is = sym (next p) }
 
 -- an object's base attributes lie inside their table
 pub bases_within : (f : Fit) (o : Item) → Based f o → {start n : ℕ} → start ≡ o.first_attribute → n ≡ o.attributes → start + n ≤ length f.bases

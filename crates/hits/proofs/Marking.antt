@@ -11,7 +11,6 @@ use lib.ListN.{length, get_or, set, length-set}
 use lib.Seq.{get_or-set_same, get_or-set_other}
 use borrow.Author.Tests.{eqb-true, eqb-false}
 use Rattle.rules.specs.Sheet.{Fit}
-use Rattle.rules.specs.Item.{object}
 use Rattle.hits.specs.Reach.{required_bits, TableOf}
 use Rattle.hits.specs.Marks.{Marked, Kept, Marking, AllMarked, Wanted}
 

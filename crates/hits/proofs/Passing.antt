@@ -1,13 +1,10 @@
 -- What an aim's test says of an object's columns and skills, by what its column holds.
 use Prim.Native.Nat.{ℕ, ◌<◌}
 use mathlib.Core.Path.{◌≡◌, refl, sym, ap, ◌∙◌}
-use mathlib.Core.Bool.{Bool, true, false, not, ◌&&◌, ◌||◌}
+use mathlib.Core.Bool.{Bool, false, not, ◌&&◌}
 use mathlib.Core.List.{List, []}
-use lib.Dec.{eqb}
 use lib.ListN.{length, get_or}
 use borrow.Author.Tests.{eq-eqb, ne_eqb}
-use Rattle.laws.specs.Lists.{some?}
-use Rattle.laws.proofs.From.{is-table}
 use Rattle.rules.specs.Sheet.{Book, Fit}
 use Rattle.rules.specs.Item.{object}
 use Rattle.hits.specs.declared.Aim.{Aim}
@@ -30,18 +27,3 @@ module _ (column : ℕ) (x : Test) (r q : List ℕ) where
 -- what the code tests in tables that tell of the objects is what the aim says of an object
 pub told-meets : (k : Book) (f : Fit) (reach skills : List (List ℕ)) → TableOf (reach_of k f) f reach → TableOf (required_bits f) f skills → (a : Aim) (i : ℕ) → i < length f.objects → passes a (get_or reach i []) (get_or skills i []) ≡ meets k f a (object f i)
 told-meets k f reach skills R S a i h = rw (R i h, S i h) refl
-
--- the six skills that an object may require, one after another
-or_six : (a b c d e f : Bool) → ((((a || b) || c) || d) || e) || f ≡ a || (b || (c || (d || (e || (f || false)))))
-or_six true b c d e f = refl
-or_six false true c d e f = refl
-or_six false false true d e f = refl
-or_six false false false true e f = refl
-or_six false false false false true f = refl
-or_six false false false false false true = refl
-or_six false false false false false false = refl
-
-pub skill_six : (s : ℕ) (row : List ℕ) → length row ≡ 6 → ((((eqb s (get_or row 0 0) || eqb s (get_or row 1 0)) || eqb s (get_or row 2 0)) || eqb s (get_or row 3 0)) || eqb s (get_or row 4 0)) || eqb s (get_or row 5 0) ≡ some? (eqb s) row
-skill_six s row l =
-    or_six (eqb s (get_or row 0 0)) (eqb s (get_or row 1 0)) (eqb s (get_or row 2 0)) (eqb s (get_or row 3 0)) (eqb s (get_or row 4 0)) (eqb s (get_or row 5 0))
-    ∙ sym (ap (some? (eqb s)) (is-table (λ k. get_or row k 0) row 6 0 l (λ k h. refl)))

@@ -4,14 +4,13 @@ use native.Mathlib.Nat.{zero-add}
 use native.Mathlib.Omega.{arith}
 use mathlib.Core.Path.{◌≡◌, refl, sym, ap, ◌∙◌}
 use mathlib.Core.Bool.{Bool, true, false, not, ◌&&◌, cond}
-use mathlib.Core.List.{List, [], ◌∷◌, ◌++◌, map, append-nil}
+use mathlib.Core.List.{List, [], ◌++◌, map, append-nil}
 use lib.Dec.{leb, ltb}
 use lib.ListN.{length, get_or}
 use borrow.Author.Tests.{le-leb, lt-leb, lt-ltb, le-ltb}
 use Rattle.laws.specs.Lists.{put, keep, from}
 use Rattle.laws.proofs.Bools.{and_false_right}
-use Rattle.laws.proofs.Keep.{keep_append, keep-keep, keep-map, keep_same, keep-nothing}
-use Rattle.laws.proofs.Maps.{map-map}
+use Rattle.laws.proofs.Keep.{keep_append, keep-keep, keep-nothing}
 use Rattle.laws.proofs.From.{from_append, table_of}
 
 -- tests that agree on the numbers

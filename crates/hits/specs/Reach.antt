@@ -1,5 +1,7 @@
 -- What of an object decides who is touched: its columns and the skills that it requires. Definitions only.
-use Rattle.std.specs.Prelude.{ℕ, suc, ◌<◌, ◌≡◌, ◌&&◌, ◌||◌, cond, List, [], ◌∷◌, map, ℤ, length, get_or}
+use Rattle.std.specs.Prelude.{ℕ, suc, ◌<◌, ◌≡◌, ◌&&◌, ◌||◌, cond, List, [], ◌∷◌, map, ℤ, length, get_or, Some, None}
+use Rattle.std.specs.Prelude as found
+use Rattle.std.specs.Option.{option_map}
 use Rattle.std.proofs.Math.Option.{Option, none, some}
 use Rattle.laws.specs.Lists.{eq_z}
 use Rattle.rules.specs.Bytes.{bits}
@@ -26,13 +28,13 @@ skill_bits (some r) = bits (cut r.value)
 unfoldable pub required_bits : Fit → Item → List ℕ
 required_bits f o = map (λ a. skill_bits (get_base f o a)) attribute_skills
 
--- the place of a in a list, past the last where it is not there
-abbrev pub place_of : ℤ → List ℤ → ℕ
-place_of a [] = 0
-place_of a (x ∷ r) = cond (eq_z a x) 0 (suc (place_of a r))
+-- the place of a in a list
+abbrev pub place_of : ℤ → List ℤ → found.Option ℕ
+place_of a [] = None
+place_of a (x ∷ r) = cond (eq_z a x) (Some 0) (option_map suc (place_of a r))
 
 -- the place of the skill that an attribute names
-unfoldable pub slot_of : ℤ → ℕ
+unfoldable pub slot_of : ℤ → found.Option ℕ
 slot_of a = place_of a attribute_skills
 
 -- the columns: in the ship's location; in the char's, without its items; its items; items and charges in the ship, on the char, owned; all; the group

@@ -1,10 +1,9 @@
 // Whom the collected effects touch (pass_2.rs, second half): the aims of an effect, and the test of an object.
 #![tactic(auto)]
 
-ghost use Rattle.std.specs.Prelude.{◌≡◌, [], ◌<◌, eqb, ℤ, length, get_or};
+ghost use Rattle.std.specs.Prelude.{◌≡◌, [], ◌<◌, ℤ, length, get_or};
 ghost use Rattle.std.specs.Int.{w32};
 ghost use Rattle.std.proofs.Common.{SFits};
-ghost use Rattle.laws.specs.Lists.{some?};
 ghost use Rattle.rules.specs.Bytes as bytes;
 ghost use Rattle.rules.specs.Bytes.{count_of};
 ghost use Rattle.rules.specs.Sheet.{Book, Fit, fit_of};
@@ -63,7 +62,7 @@ const ANY: usize = 6;
 
 const GROUP: usize = 7;
 
-// The func codes that list 1 has of modifiers (`modifier_numbers`); LocationRequiredSkillModifier's is 0.
+// The func codes that list 1, which C reads, has of modifiers (`modifier_numbers`); LocationRequiredSkillModifier's is 0.
 const LOCATION_GROUP_MODIFIER: u32 = 1;
 
 const LOCATION_MODIFIER: u32 = 2;
@@ -164,7 +163,7 @@ fn skilled(s: Spans, target: u32, test: Test) -> Aim
     }
 }
 
-// The aim at drones, fighters and charges that require a skill.
+// The aim at drones, fighters and charges that require a skill. Not one function with `char_items`: each has its own word of the definition.
 fn owned(s: Spans, test: Test) -> Aim
     ensures defined { (k : Book) (f : Fit) → Stands f s → Aims (by_owner test k f) k f result }
 {
@@ -248,19 +247,6 @@ pub fn aim_then(collected: &[CollectedRow], s: Spans, j: usize) -> Aim
 
 // ---- the test
 
-// Whether a skill is among those that an object requires.
-fn requires_skill(row: SkillRow, skill: u32) -> bool
-    ensures defined { result ≡ some? (eqb skill) row }
-{
-    let wanted = skill as u64;
-    (wanted == row[0])
-        | (wanted == row[1])
-        | (wanted == row[2])
-        | (wanted == row[3])
-        | (wanted == row[4])
-        | (wanted == row[5])
-}
-
 // Whether an aim by that column and that test is at object i, which stands in its range.
 pub fn is_hit(reach: &[ReachRow], skills: &[SkillRow], column: usize, test: Test, i: usize) -> bool
     requires inside { (i < length reach.now) × (i < length skills.now) × (column < 8) }
@@ -273,10 +259,7 @@ pub fn is_hit(reach: &[ReachRow], skills: &[SkillRow], column: usize, test: Test
     match test {
         Test::All => true,
         Test::OfGroup(group) => reach[i][GROUP] == group,
-        Test::Requiring(skill) => {
-            let row = skills[i];
-            requires_skill(row, skill)
-        }
+        Test::Requiring(skill) => skills[i].contains(&u64::from(skill)),
     }
 }
 

@@ -1,5 +1,5 @@
 // What of the objects decides who is touched: two tables, a row for each object, read once.
-ghost use Rattle.std.specs.Prelude.{◌≡◌, ◌≤◌, ◌<◌, length};
+ghost use Rattle.std.specs.Prelude.{◌≡◌, ◌≤◌, ◌<◌, length, IfSome};
 ghost use Rattle.rules.specs.Bytes.{count_of};
 ghost use Rattle.rules.specs.Sheet.{Book, Fit};
 ghost use Rattle.rules.specs.Dispatch.{carrier};
@@ -67,31 +67,14 @@ pub fn reach_of(book: &[u8], fit: &[u8], pairs: &TablePairs, i: usize) -> ReachR
 }
 
 // No skill: above every 32 bits.
-const NO_SKILL: u64 = 4294967296;
+pub const NO_SKILL: u64 = 4294967296;
 
-// The place in a row of the skill that an attribute names: past it for any other attribute.
-fn slot_of(id: i32) -> usize
+// The place in a row of the skill that an attribute names.
+fn slot_of(id: i32) -> Option<usize>
     ensures defined { result ≡ slot_of id }
+    ensures inside { IfSome result (λ s. s < 6) }
 {
-    if id == ATTRIBUTE_SKILLS[0] {
-        return 0;
-    }
-    if id == ATTRIBUTE_SKILLS[1] {
-        return 1;
-    }
-    if id == ATTRIBUTE_SKILLS[2] {
-        return 2;
-    }
-    if id == ATTRIBUTE_SKILLS[3] {
-        return 3;
-    }
-    if id == ATTRIBUTE_SKILLS[4] {
-        return 4;
-    }
-    if id == ATTRIBUTE_SKILLS[5] {
-        return 5;
-    }
-    6
+    ATTRIBUTE_SKILLS.iter().position(|skill| *skill == id)
 }
 
 // The skills that object i requires, fixed from base values.
@@ -104,12 +87,9 @@ pub fn required_skills(fit: &[u8], pairs: &TablePairs, i: usize) -> SkillRow
     let first = index(o.first_attribute);
     let n = index(o.attributes);
     let mut row = [NO_SKILL; SKILL_WIDTH];
-    let mut k = 0;
-    while k < n {
+    for k in 0..n {
         let b = base_attribute(fit, pairs, first + k);
-        let slot = slot_of(b.attribute_id);
-        k += 1;
-        if slot < SKILL_WIDTH {
+        if let Some(slot) = slot_of(b.attribute_id) {
             let skill = bits(cut(b.value));
             row[slot] = skill as u64;
         }
@@ -124,11 +104,9 @@ pub fn skill_table(rows: &mut [SkillRow], fit: &[u8], pairs: &TablePairs)
     ensures defined { SkillsAt fit pairs rows.new }
 {
     let objects = count_of(pairs, TABLE_OBJECTS);
-    let mut i = 0;
-    while i < objects {
+    for i in 0..objects {
         let row = required_skills(fit, pairs, i);
         rows[i] = row;
-        i += 1;
     }
 }
 
@@ -140,10 +118,8 @@ pub fn reach_table(rows: &mut [ReachRow], book: &[u8], fit: &[u8], pairs: &Table
     ensures defined { ReachAt (book_at book pairs) fit pairs rows.new }
 {
     let objects = count_of(pairs, TABLE_OBJECTS);
-    let mut i = 0;
-    while i < objects {
+    for i in 0..objects {
         let row = reach_of(book, fit, pairs, i);
         rows[i] = row;
-        i += 1;
     }
 }

@@ -5,19 +5,16 @@ ghost use Rattle.rules.specs.declared.Item.{Item};
 ghost use Rattle.hits.specs.Who.{Aims};
 ghost use Rattle.hits.specs.Marks.{Marking, AllMarked, Wanted};
 
-use super::{Aim, SKILL_MARKS, SKILL_WIDTH, SkillMarks, SkillRow, Test, none};
+use super::{Aim, SKILL_MARKS, SkillMarks, SkillRow, Test, none};
 
 // Marks the six skills of an object.
 fn mark(wanted: &mut SkillMarks, row: SkillRow)
     requires even { length wanted.old ≡ 1024 }
     ensures defined { Marking wanted.old wanted.new row 6 }
 {
-    let mut k = 0;
-    while k < SKILL_WIDTH {
-        let required = row[k];
-        let at = (required % 1024) as usize;
+    for required in &row {
+        let at = (*required % 1024) as usize;
         wanted[at] = 1;
-        k += 1;
     }
 }
 
@@ -27,11 +24,8 @@ pub fn wanted_of(skills: &[SkillRow], objects: usize) -> SkillMarks
     ensures marked { AllMarked objects result skills.now }
 {
     let mut wanted = [0u8; SKILL_MARKS];
-    let mut i = 0;
-    while i < objects {
-        let row = skills[i];
-        mark(&mut wanted, row);
-        i += 1;
+    for row in &skills[..objects] {
+        mark(&mut wanted, *row);
     }
     wanted
 }
@@ -40,8 +34,7 @@ pub fn wanted_of(skills: &[SkillRow], objects: usize) -> SkillMarks
 pub fn worth(wanted: &SkillMarks, a: Aim) -> Aim
     ensures same { (p : Item → Bool) (k : Book) (f : Fit) → Wanted f wanted.now → Aims p k f a → Aims p k f result }
 {
-    let test = a.test;
-    let Test::Requiring(skill) = test else {
+    let Test::Requiring(skill) = a.test else {
         return a;
     };
     let at = (skill % 1024) as usize;

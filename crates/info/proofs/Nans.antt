@@ -1,7 +1,7 @@
 -- Bits that are a NaN's give the one NaN.
 use Prim.Native.Nat.{ℕ, ◌<◌, ◌≤◌, ◌%◌}
 use mathlib.Core.Path.{◌≡◌, refl, sym, ◌∙◌}
-use mathlib.Core.Bool.{Bool, true, false}
+use mathlib.Core.Bool.{true, false}
 use native.Mathlib.Omega.{arith}
 use borrow.Author.Tests.{lt-ltb, le-ltb}
 use lib.Ieee.{Float, nan, inf, fin, is_nan, nan_bits, binary64, of_bits, div}

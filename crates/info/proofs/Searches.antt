@@ -19,7 +19,7 @@ use mir.ValLaws.{to_z-of_z}
 use Rattle.laws.specs.Lists.{eq_z, first, from}
 use Rattle.laws.proofs.From.{from_at, from-length}
 use Rattle.laws.proofs.Signs.{tested_same, tested-apart}
-use Rattle.laws.proofs.Search.{Between, Falls, less_than, has_key, between_start, between_up, between_down, falls_less, lower_found, lower_missing, lower_past, run_is, upper_walked}
+use Rattle.laws.proofs.Search.{Falls, less_than, has_key, between_start, between_up, between_down, falls_less, lower_found, lower_missing, lower_past, run_is, upper_walked}
 use Rattle.laws.proofs.Windows.{Counted, counted-more, narrowed}
 use Rattle.info.specs.LookUps.{key_at, Keyed, Bounds, Lower, RunTo}
 use Rattle.info.proofs.Elements.{kept}

@@ -3,23 +3,23 @@ use Prim.Native.Nat.{ℕ, zero, suc, ◌+◌, ◌≤◌, ◌<◌}
 use native.Mathlib.Nat.{eq-or-lt_of_le}
 use native.Mathlib.Omega.{arith}
 use mathlib.Core.Path.{◌≡◌, refl, sym, ap, subst, ◌∙◌}
-use mathlib.Core.Bool.{Bool, true, false, ◌&&◌, ◌||◌, cond}
+use mathlib.Core.Bool.{Bool, true, false, ◌||◌, cond}
 use mathlib.Core.Logic.{◌⊎◌, inl, inr, ⊎_elim}
 use mathlib.Core.List.{List, [], ◌∷◌, map}
-use mathlib.Core.Option.{Option, none, some}
+use mathlib.Core.Option.{none}
 use lib.Dec.{eqb, leb}
 use lib.ListN.{length, get_or, length-map}
 use mir.Syntax.{w32}
 use mir.Val.{SFits}
-use borrow.Author.Tests.{eqb-true, eq-eqb, ne_eqb, leb-true, leb-false, le-leb}
+use borrow.Author.Tests.{eqb-true, eq-eqb, ne_eqb, leb-true, leb-false}
 use Rattle.laws.specs.Lists.{ascends, every?}
 use Rattle.laws.specs.Floats.{finite}
 use Rattle.laws.proofs.Bools.{and_left, and_right, both_ways, either, same_test, true_or_false, not_failed}
 use Rattle.laws.proofs.Every.{every_at}
 use Rattle.rules.specs.Bytes.{u32_at, record_at}
 use Rattle.rules.specs.Sheet.{Fit, fit_of, object_from, bases_of}
-use Rattle.rules.specs.Shape.{stand, object_good, objects_good, bases_good, fit_bad}
-use Rattle.rules.specs.Item.{object, no_item, is_ship, is_char, is_item, is_charge, is_skill, char_of}
+use Rattle.rules.specs.Shape.{object_good, objects_good, bases_good, fit_bad}
+use Rattle.rules.specs.Item.{object, no_item, is_charge, is_skill, char_of}
 use Rattle.rules.proofs.Tables.{table_at, table-length}
 use Rattle.rules.specs.declared.Item.{Item}
 use Rattle.rules.proofs.Verdicts.{bases_good_lem}

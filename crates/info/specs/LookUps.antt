@@ -1,20 +1,8 @@
 -- What the look-ups work over, and their answers in the definition's words.
 use Rattle.std.specs.Prelude.{ℕ, ◌+◌, ◌*◌, ◌-◌, ◌≤◌, ◌≡◌, true, List, map, ℤ, length}
-use Rattle.std.proofs.Math.Option.{Option, none, some}
 use Rattle.laws.specs.Lists.{eq_z, keep, from, span, not_descending}
 use Rattle.laws.proofs.Search.{Between, less_than}
 use Rattle.rules.specs.Bytes.{i32_at}
-use Rattle.rules.specs.declared.DogmaEffect.{DogmaEffect}
-use Rattle.rules.specs.declared.DbuffCollection.{DbuffCollection}
-use Rattle.rules.specs.declared.BaseAttribute.{BaseAttribute}
-use Rattle.info.specs.declared.look_ups.Found.{Found}
-use Rattle.info.specs.declared.look_ups.Found.TheVariants as place
-use Rattle.info.specs.declared.look_ups.FoundEffect.{FoundEffect}
-use Rattle.info.specs.declared.look_ups.FoundEffect.TheVariants as effect
-use Rattle.info.specs.declared.look_ups.FoundCollection.{FoundCollection}
-use Rattle.info.specs.declared.look_ups.FoundCollection.TheVariants as collection
-use Rattle.info.specs.declared.look_ups.FoundBase.{FoundBase}
-use Rattle.info.specs.declared.look_ups.FoundBase.TheVariants as base
 
 -- the key with which record k begins, where records of w bytes stand from `at` on
 unfoldable pub key_at : List ℕ → ℕ → ℕ → ℕ → ℤ
@@ -44,20 +32,3 @@ pub record RunTo (b : List ℕ) (at w n : ℕ) (a : ℤ) (lo hi : ℕ) : Type 0 
 pub record Stretch {A : Type 0} (part all : List A) (first count : ℕ) : Type 0 where
   pub is : part ≡ span first count all
   pub within : first + count ≤ length all
-
--- what was found
-abbrev pub place_found : Found → Option ℕ
-place_found (place.At k) = some k
-place_found place.Nothing = none
-
-abbrev pub effect_found : FoundEffect → Option DogmaEffect
-effect_found (effect.At r) = some r
-effect_found effect.Nothing = none
-
-abbrev pub collection_found : FoundCollection → Option DbuffCollection
-collection_found (collection.At r) = some r
-collection_found collection.Nothing = none
-
-abbrev pub base_found : FoundBase → Option BaseAttribute
-base_found (base.At r) = some r
-base_found base.Nothing = none

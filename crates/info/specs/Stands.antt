@@ -1,5 +1,5 @@
 -- Where the objects of a sound sheet stand, when a row of list 1 points at them, and collected effects by place. Definitions only.
-use Rattle.std.specs.Prelude.{ℕ, ◌+◌, ◌≤◌, ◌<◌, ◌≡◌, Bool, true, false, ◌||◌, List, [], map, length, get_or, eqb, leb, pos}
+use Rattle.std.specs.Prelude.{ℕ, ◌+◌, ◌≤◌, ◌<◌, ◌≡◌, Bool, true, false, ◌||◌, List, [], map, length, get_or, eqb, leb, pos, None, Some}
 use Rattle.std.specs.Int.{w32}
 use Rattle.std.proofs.Common.{SFits}
 use Rattle.laws.specs.Lists.{ascends}
@@ -14,8 +14,7 @@ use Rattle.rules.specs.declared.Modifier.TheVariants.{LocationRequiredSkillModif
 use Rattle.rules.specs.declared.Origin.{Origin}
 use Rattle.rules.specs.declared.Origin.TheVariants as origin
 use Rattle.rules.specs.declared.EffectOperator.TheVariants.{PreAssign}
-use Rattle.rules.specs.declared.OptionalId.{OptionalId}
-use Rattle.rules.specs.declared.OptionalId.TheVariants.{Absent, Given}
+use Rattle.rules.specs.Ids.{OptionalId}
 use Rattle.rules.specs.declared.Pass2Effect.{Pass2Effect}
 use Rattle.info.specs.declared.standing.Spans.{Spans}
 
@@ -69,8 +68,8 @@ NarrowOrigin (origin.Effect e o c a) = SFits w32 e × SFits w32 a
 NarrowOrigin (origin.Buff b v) = SFits w32 b
 
 abbrev pub NarrowId : OptionalId → Type 0
-NarrowId Absent = Unit {0}
-NarrowId (Given a) = SFits w32 a
+NarrowId None = Unit {0}
+NarrowId (Some a) = SFits w32 a
 
 -- past the last collected effect there is none
 abbrev pub no_effect : Pass2Effect
@@ -82,7 +81,7 @@ no_effect =
       source_quantity = 0;
       target = 0;
       target_attribute_id = pos 0;
-      resistance = Absent;
+      resistance = None;
     }
 
 abbrev pub effect_at : List Pass2Effect → ℕ → Pass2Effect

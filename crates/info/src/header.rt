@@ -65,7 +65,7 @@ fn categories_at(pairs: &TablePairs) -> usize
     80
 }
 
-// Where depth and recording stand: after a sheet's category numbers, or a fit's five pairs.
+// Where depth and recording stand: after a sheet's category numbers, or a fit's five pairs. One function for both would take table, header and two places.
 fn depth_at(pairs: &TablePairs) -> usize
     ensures defined { result ≡ depth_at pairs.now }
 {

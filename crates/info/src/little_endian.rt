@@ -6,20 +6,6 @@ ghost use Rattle.rules.specs.Bytes.{u32_at, i32_at, f64_at};
 
 use numbers::integers::signed;
 
-// A byte as a wider number.
-fn wide(x: u8) -> u32
-    ensures the_same { (result ≡ x) × (result < 256) }
-{
-    x as u32
-}
-
-// 32 bits as 64.
-fn wider(x: u32) -> u64
-    ensures the_same { (result ≡ x) × (result < 2 ^ 32) }
-{
-    x as u64
-}
-
 // A number of 32 bits as an index.
 pub fn index(x: u32) -> usize
     ensures defined { (result ≡ x) × (result < 2 ^ 32) }
@@ -32,10 +18,7 @@ pub fn u32_at(b: &[u8], at: usize) -> u32
     requires inside { at + 4 ≤ length b.now }
     ensures defined { result ≡ u32_at b.now at }
 {
-    wide(b[at])
-        + 0x100 * wide(b[at + 1])
-        + 0x1_0000 * wide(b[at + 2])
-        + 0x100_0000 * wide(b[at + 3])
+    u32::from_le_bytes([b[at], b[at + 1], b[at + 2], b[at + 3]])
 }
 
 // The signed number in the four bytes from a place on.
@@ -50,11 +33,11 @@ fn u64_at(b: &[u8], at: usize) -> u64
     requires inside { at + 8 ≤ length b.now }
     ensures defined { result ≡ u32_at b.now at + 2 ^ 32 * u32_at b.now (at + 4) }
 {
-    wider(u32_at(b, at)) + 0x1_0000_0000 * wider(u32_at(b, at + 4))
+    u64::from(u32_at(b, at)) + 0x1_0000_0000 * u64::from(u32_at(b, at + 4))
 }
 
 // The float whose 64 bits these are; every NaN's bits give the one NaN.
-fn float_of(n: u64) -> f64
+pub fn float_of(n: u64) -> f64
     ensures defined { result ≡ of_bits binary64 n }
 {
     if 0x7ff0_0000_0000_0000 < n % 0x8000_0000_0000_0000 {

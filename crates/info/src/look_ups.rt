@@ -1,11 +1,12 @@
 // Look-ups (info.rs) by binary search: ids ascend, types do not descend.
 ghost use Rattle.std.specs.Prelude.{◌≡◌, ◌+◌, ◌*◌, ◌≤◌, ◌<◌, length};
+ghost use Rattle.laws.specs.Options.{option_of};
 ghost use Rattle.laws.specs.Lists.{eq_z, first, from};
 ghost use Rattle.rules.specs.Sheet.{fit_of};
 ghost use Rattle.rules.specs.Info.{get_dogma_attribute, get_dogma_effect, get_dogma_effects, get_dbuff_collection, get_base};
 ghost use Rattle.info.specs.At.{book_at, fit_at};
 ghost use Rattle.info.specs.Sound.{HeldFit, SoundBook, Based};
-ghost use Rattle.info.specs.LookUps.{key_at, Keyed, Bounds, Lower, RunTo, Stretch, place_found, effect_found, collection_found, base_found};
+ghost use Rattle.info.specs.LookUps.{key_at, Keyed, Bounds, Lower, RunTo, Stretch};
 
 use super::header::{count_of, offset_of};
 use super::little_endian::{i32_at, index};
@@ -15,35 +16,11 @@ use columns::{AttributePlaces, EffectPlaces, PLACE_EFFECT, PLACE_TYPE, TablePair
 use laws::{Window, step};
 use rules::{BaseAttribute, DbuffCollection, DogmaAttribute, DogmaEffect, Item};
 
-#[derive(Clone, Copy)]
-enum Found {
-    At(usize),
-    Nothing,
-}
-
-#[derive(Clone, Copy)]
-pub enum FoundEffect {
-    At(DogmaEffect),
-    Nothing,
-}
-
-#[derive(Clone, Copy)]
-pub enum FoundCollection {
-    At(DbuffCollection),
-    Nothing,
-}
-
 // Records that stand together.
 #[derive(Clone, Copy)]
 pub struct TypeEffects {
     pub first: usize,
     pub count: usize,
-}
-
-#[derive(Clone, Copy)]
-pub enum FoundBase {
-    At(BaseAttribute),
-    Nothing,
 }
 
 fn key_at(b: &[u8], at: usize, w: usize, k: usize) -> i32
@@ -60,6 +37,7 @@ fn narrowed(b: &[u8], at: usize, w: usize, n: usize, id: i32) -> Window
 {
     let mut low = 0;
     let mut left = n;
+    // a while: by quarters, as in `search`, which was measured faster than by halves (docs/DECISIONS.md, 7)
     while 7 < left {
         let q = left / 4;
         let first = key_at(b, at, w, low + q - 1);
@@ -80,13 +58,11 @@ fn lower(b: &[u8], at: usize, w: usize, n: usize, id: i32) -> usize
     ensures defined { Lower b.now at w n id result }
 {
     let window = narrowed(b, at, w, n, id);
-    let mut k = window.low;
-    let end = k + window.left;
-    let mut found = k;
-    while k < end {
+    let end = window.low + window.left;
+    let mut found = window.low;
+    for k in window.low..end {
         let key = key_at(b, at, w, k);
         found = found + step(1, key < id);
-        k += 1;
     }
     found
 }
@@ -113,19 +89,19 @@ fn lower_at(b: &[u8], at: usize, w: usize, n: usize, id: i32, told: usize) -> us
 }
 
 // The first of n records whose key is the one sought, where a place is told.
-fn find(b: &[u8], at: usize, w: usize, n: usize, id: i32, told: usize) -> Found
+fn find(b: &[u8], at: usize, w: usize, n: usize, id: i32, told: usize) -> Option<usize>
     requires keyed { Keyed b.now at w n }
-    ensures defined { place_found result ≡ first (λ k. eq_z (key_at b.now at w k) id) (from 0 n) }
+    ensures defined { option_of result ≡ first (λ k. eq_z (key_at b.now at w k) id) (from 0 n) }
 {
     let low = lower_at(b, at, w, n, id, told);
     if low < n {
         let key = key_at(b, at, w, low);
         if key == id {
-            return Found::At(low);
+            return Some(low);
         }
-        return Found::Nothing;
+        return None;
     }
-    Found::Nothing
+    None
 }
 
 // Where the records whose key is the one sought end, from the first that is not less on.
@@ -134,15 +110,13 @@ fn run_end(b: &[u8], at: usize, w: usize, n: usize, id: i32, low: usize) -> usiz
     requires from_the_first { Lower b.now at w n id low }
     ensures defined { RunTo b.now at w n id low result }
 {
-    let mut end = low;
-    while end < n {
+    for end in low..n {
         let key = key_at(b, at, w, end);
         if key != id {
             return end;
         }
-        end += 1;
     }
-    end
+    n
 }
 
 // A missing attribute record: not stackable, high not good, default 0.0.
@@ -151,7 +125,7 @@ fn attribute_by(book: &[u8], pairs: &TablePairs, id: i32, told: usize) -> DogmaA
     ensures defined { result ≡ get_dogma_attribute (book_at book pairs) id }
 {
     let found = find(book, offset_of(pairs, 1), 24, count_of(pairs, 1), id, told);
-    let Found::At(i) = found else {
+    let Some(i) = found else {
         return DogmaAttribute {
             id: id,
             flags: 0,
@@ -191,35 +165,29 @@ pub fn get_dogma_effect(
     pairs: &TablePairs,
     places: &EffectPlaces,
     id: i32,
-) -> FoundEffect
+) -> Option<DogmaEffect>
     requires sound_book { SoundBook book.now pairs.now }
-    ensures defined { effect_found result ≡ get_dogma_effect (book_at book pairs) id }
+    ensures defined { option_of result ≡ get_dogma_effect (book_at book pairs) id }
 {
     let told = places[effect_slot(id)][PLACE_EFFECT];
-    let found = find(
+    let i = find(
         book,
         offset_of(pairs, 2),
         24,
         count_of(pairs, 2),
         id,
         place_of(told),
-    );
-    let Found::At(i) = found else {
-        return FoundEffect::Nothing;
-    };
-    FoundEffect::At(effect(book, pairs, i))
+    )?;
+    Some(effect(book, pairs, i))
 }
 
 // The buff collection of an id; one may be missing.
-pub fn get_dbuff_collection(book: &[u8], pairs: &TablePairs, id: i32) -> FoundCollection
+pub fn get_dbuff_collection(book: &[u8], pairs: &TablePairs, id: i32) -> Option<DbuffCollection>
     requires sound_book { SoundBook book.now pairs.now }
-    ensures defined { collection_found result ≡ get_dbuff_collection (book_at book pairs) id }
+    ensures defined { option_of result ≡ get_dbuff_collection (book_at book pairs) id }
 {
-    let found = find(book, offset_of(pairs, 5), 16, count_of(pairs, 5), id, 0);
-    let Found::At(i) = found else {
-        return FoundCollection::Nothing;
-    };
-    FoundCollection::At(buff_collection(book, pairs, i))
+    let i = find(book, offset_of(pairs, 5), 16, count_of(pairs, 5), id, 0)?;
+    Some(buff_collection(book, pairs, i))
 }
 
 // The effects of a type stand together.
@@ -245,17 +213,14 @@ pub fn get_dogma_effects(
 }
 
 // A base attribute of an object.
-pub fn get_base(fit: &[u8], pairs: &TablePairs, o: Item, id: i32) -> FoundBase
+pub fn get_base(fit: &[u8], pairs: &TablePairs, o: Item, id: i32) -> Option<BaseAttribute>
     requires held_fit { HeldFit fit.now pairs.now }
     requires its_bases { Based (fit_of fit.now pairs.now) o }
-    ensures defined { base_found result ≡ get_base (fit_at fit pairs) o id }
+    ensures defined { option_of result ≡ get_base (fit_at fit pairs) o id }
 {
     let first = index(o.first_attribute);
     let n = index(o.attributes);
     let at = offset_of(pairs, 7) + 12 * first;
-    let found = find(fit, at, 12, n, id, 0);
-    let Found::At(i) = found else {
-        return FoundBase::Nothing;
-    };
-    FoundBase::At(base_attribute(fit, pairs, first + i))
+    let i = find(fit, at, 12, n, id, 0)?;
+    Some(base_attribute(fit, pairs, first + i))
 }

@@ -35,13 +35,11 @@ fn tell_effects(places: &mut EffectPlaces, book: &[u8], pairs: &TablePairs)
     requires held_book { HeldBook book.now pairs.now }
 {
     let n = count_of(pairs, TABLE_EFFECTS);
-    let mut i = 0;
-    while i < n {
+    for i in 0..n {
         let e = effect(book, pairs, i);
         let at = effect_slot(e.id);
         let place = i as u16;
         places[at][PLACE_EFFECT] = place;
-        i += 1;
     }
 }
 
@@ -49,9 +47,7 @@ fn tell_effects(places: &mut EffectPlaces, book: &[u8], pairs: &TablePairs)
 fn tell_types(places: &mut EffectPlaces, book: &[u8], pairs: &TablePairs)
     requires held_book { HeldBook book.now pairs.now }
 {
-    let mut i = count_of(pairs, TABLE_TYPE_EFFECTS);
-    while 0 < i {
-        i -= 1;
+    for i in (0..count_of(pairs, TABLE_TYPE_EFFECTS)).rev() {
         let t = type_effect(book, pairs, i);
         let at = effect_slot(t.type_id);
         let place = i as u16;
@@ -76,13 +72,11 @@ pub fn attribute_places(book: &[u8], pairs: &TablePairs) -> AttributePlaces
 {
     let mut places = [0u16; ATTRIBUTE_SLOTS];
     let n = count_of(pairs, TABLE_ATTRIBUTES);
-    let mut i = 0;
-    while i < n {
+    for i in 0..n {
         let a = attribute(book, pairs, i);
         let at = attribute_slot(a.id);
         let place = i as u16;
         places[at] = place;
-        i += 1;
     }
     places
 }

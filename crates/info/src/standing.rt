@@ -39,15 +39,13 @@ fn first_skill(fit: &[u8], pairs: &TablePairs, from: usize) -> usize
     ensures defined { FirstSkill (fit_at fit pairs) from result }
 {
     let objects = count_of(pairs, 6);
-    let mut i = from;
-    while i < objects {
+    for i in from..objects {
         let o = object(fit, pairs, i);
         if o.kind == SKILL {
             return i;
         }
-        i += 1;
     }
-    i
+    objects
 }
 
 // Where the char, the items and charges, and the skills of a sound sheet stand.

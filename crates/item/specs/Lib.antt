@@ -1,2 +1,1 @@
 pub mod Categories
-pub mod Found

@@ -1,5 +1,5 @@
 // The kind of an object, and what its flags say.
-ghost use Rattle.std.specs.Prelude.{◌≡◌};
+ghost use Rattle.std.specs.Prelude.{◌≡◌, cond, Some, None};
 ghost use Rattle.rules.specs.Item.{is_item, is_charge, is_skill, is_projected, abilities_given, mutated};
 
 use rules::{CHARGE, ITEM, Item, PROJECTED, SKILL};
@@ -44,4 +44,11 @@ pub fn mutated(o: Item) -> bool
     ensures defined { result ≡ mutated o }
 {
     o.flags / 2 == 1
+}
+
+// The type that an item was mutated from, where it was.
+pub fn mutation_base(o: Item) -> Option<i32>
+    ensures defined { result ≡ cond (mutated o) (Some o.mutation_base) None }
+{
+    mutated(o).then_some(o.mutation_base)
 }

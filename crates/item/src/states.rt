@@ -4,8 +4,7 @@ ghost use Rattle.rules.specs.Codes.{category_at, state_code};
 ghost use Rattle.rules.specs.Item.{required_state, lowest_state, runs_answer, is_passive, category_on};
 ghost use Rattle.rules.specs.States.{code_or0, raised_to};
 
-use super::CategoryFound;
-use super::codes::{category_at, category_code};
+use super::codes::category_at;
 use super::locations::is_rig;
 use rules::{EffectCategory, Item, ItemState, RunsAt};
 
@@ -13,16 +12,10 @@ use rules::{EffectCategory, Item, ItemState, RunsAt};
 pub fn state_code(state: ItemState) -> u32
     ensures defined { result ≡ state_code state }
 {
-    match state {
-        ItemState::Passive => 0,
-        ItemState::Online => 1,
-        ItemState::Active => 2,
-        ItemState::Overload => 3,
-        ItemState::AlwaysOn => 4,
-    }
+    state as u32
 }
 
-// The lowest state that would do: what asks for none runs once the item is active.
+// The lowest state that would do: what asks for none runs once the item is active. An arm for each category, as the definition has it.
 pub fn lowest_state(category: EffectCategory) -> ItemState
     ensures defined { result ≡ lowest_state category }
 {
@@ -51,7 +44,7 @@ pub fn runs_at(category: EffectCategory, state: u32) -> RunsAt
 pub fn is_passive(category: EffectCategory) -> bool
     ensures defined { result ≡ is_passive category }
 {
-    category_code(category) == 0
+    matches!(category, EffectCategory::Passive)
 }
 
 // The category that an object has an effect in: a rig's Passive is Online.
@@ -69,14 +62,14 @@ fn reaches(category: EffectCategory) -> u32
     ensures defined { result ≡ code_or0 (required_state category) }
 {
     match category {
-        EffectCategory::Passive => 0,
         EffectCategory::Online => 1,
         EffectCategory::Active => 2,
         EffectCategory::Overload => 3,
-        EffectCategory::Target => 0,
-        EffectCategory::Area => 0,
-        EffectCategory::Dungeon => 0,
-        EffectCategory::System => 0,
+        EffectCategory::Passive
+        | EffectCategory::Target
+        | EffectCategory::Area
+        | EffectCategory::Dungeon
+        | EffectCategory::System => 0,
     }
 }
 
@@ -84,9 +77,8 @@ fn reaches(category: EffectCategory) -> u32
 pub fn raises_to(o: Item, code: u32) -> u32
     ensures defined { result ≡ raised_to o (category_at code) }
 {
-    let found = category_at(code);
-    match found {
-        CategoryFound::At(category) => reaches(category_on(o, category)),
-        CategoryFound::Nothing => 0,
+    match category_at(code) {
+        Some(category) => reaches(category_on(o, category)),
+        None => 0,
     }
 }

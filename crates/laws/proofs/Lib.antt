@@ -10,6 +10,7 @@ pub mod Sums
 pub mod Scans
 pub mod Runs
 pub mod Order
+pub mod Any
 pub mod Signs
 pub mod Ascending
 pub mod Search
@@ -21,5 +22,4 @@ pub mod Nans
 pub mod Unique
 pub mod Ones
 pub mod Sizes
-pub mod SelfFinite
 pub mod Within

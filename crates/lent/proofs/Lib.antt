@@ -1,3 +1,4 @@
+pub mod Alls
 pub mod Made
 pub mod Nths
 pub mod Verdicts

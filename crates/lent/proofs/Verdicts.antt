@@ -18,11 +18,12 @@ use Rattle.rules.specs.Sheet.{Fit}
 use Rattle.rules.specs.Files.{plus20}
 use Rattle.rules.specs.Shape.{attributes_good, effects_good, type_effects_good, buff_collections_good, objects_good, object_good, bases_good, buffs_good, asks_good, stand, book_bad, fit_bad}
 use Rattle.shape.specs.Ranges.{range_ascends}
-use Rattle.shape.specs.Shaped.{shaped_of}
-use Rattle.shape.specs.declared.Shaped.{Shaped}
-use Rattle.shape.specs.declared.Shaped.TheVariants.{Sound, Bad}
-use Rattle.shape.proofs.Shapes.{bad_said, sound_said}
-use Rattle.tables.specs.Tables.{Tables, all, value, number, book_lent, fit_lent, book_tables, fit_tables, together, book_alike, fit_alike, counted, book_fits, fit_fits, header_fits, tables_bad, book_tables_bad, fit_tables_bad}
+use Rattle.std.specs.Prelude.{Ok, Err, MatchResult}
+use Rattle.std.specs.Result.{IsErrAnd}
+use Rattle.shape.specs.Shaped.{Shaped, bad_table, shaped_of}
+use Rattle.shape.specs.declared.BadTable.{BadTable}
+use Rattle.shape.proofs.Shapes.{bad_said, sound_said, plus20_said}
+use Rattle.tables.specs.Tables.{Tables, all, value, number, book_lent, fit_lent, fit_tables, together, fit_alike, book_fits, fit_fits, tables_bad, book_tables_bad, fit_tables_bad}
 use Rattle.tables.proofs.SameVerdict.{decided, like_fit, few_fit}
 use Rattle.lent.specs.Alone.{attributes_alone, effects_alone, type_effects_alone, buff_collections_alone, objects_alone, bases_alone, asks_alone}
 use Rattle.lent.proofs.Nths.{bases_long, ids_long}
@@ -138,7 +139,7 @@ abbrev headed : Bool → Option ℕ → Option ℕ
 headed h o = elim h [ false ↦ some 0 | true ↦ o ]
 
 module _ (t : Tables) where
-  pub book_header_bad : {r : Bool} → r ≡ book_fits t → r ≡ false → Bad 0 ≡ shaped_of (book_tables_bad t)
+  pub book_header_bad : {r : Bool} → r ≡ book_fits t → r ≡ false → Err (bad_table 0) ≡ shaped_of (book_tables_bad t)
   unfolding book_tables_bad
   book_header_bad {r} e n = sym (ap (λ (h : Bool). shaped_of (headed h (book_bad (book_lent t)))) (sym e ∙ n))
 
@@ -146,7 +147,7 @@ module _ (t : Tables) where
   unfolding book_tables_bad
   book_judged {r} e n h = h ∙ sym (ap (λ (h : Bool). shaped_of (headed h (book_bad (book_lent t)))) (sym e ∙ n))
 
-  pub fit_header_bad : {r : Bool} → r ≡ fit_fits t → r ≡ false → Bad 20 ≡ shaped_of (fit_tables_bad t)
+  pub fit_header_bad : {r : Bool} → r ≡ fit_fits t → r ≡ false → Err (bad_table 20) ≡ shaped_of (fit_tables_bad t)
   unfolding fit_tables_bad
   fit_header_bad {r} e n = sym (ap (λ (h : Bool). shaped_of (plus20 (headed h (fit_bad (fit_lent t))))) (sym e ∙ n))
 
@@ -155,11 +156,10 @@ module _ (t : Tables) where
     unfolding fit_tables_bad
     by-tables = ap (λ (h : Bool). plus20 (headed h (fit_bad (fit_lent t)))) (sym e ∙ n)
 
-    pub fit_judged_bad : {i : ℕ} → v ≡ Bad i → Bad (i + 20) ≡ shaped_of (fit_tables_bad t)
-    fit_judged_bad g = sym (ap shaped_of (by-tables ∙ ap plus20 (bad_said (fit_bad (fit_lent t)) (sym g ∙ h))))
-
-    pub fit_judged_sound : v ≡ Sound → Sound ≡ shaped_of (fit_tables_bad t)
-    fit_judged_sound g = sym (ap shaped_of (by-tables ∙ ap plus20 (sound_said (fit_bad (fit_lent t)) (sym g ∙ h))))
+    -- the verdict w with 20 more
+    pub fit_judged : {w : Shaped} (Q : BadTable → BadTable → Type 0) → ((e x : BadTable) → Q e x → x ≡ bad_table (e.table + 20))
+        → MatchResult v (λ s. w ≡ Ok s) (λ e. IsErrAnd w (Q e)) → w ≡ shaped_of (fit_tables_bad t)
+    fit_judged Q same m = plus20_said (fit_bad (fit_lent t)) h Q same m ∙ sym (ap shaped_of by-tables)
 
   -- a fit that fits has columns that are alike, and few objects
   pub fit_alike_lem : {r : Bool} → r ≡ fit_fits t → r ≡ true → fit_alike t ≡ true
@@ -194,21 +194,21 @@ module _ (h : List ℕ) (t u : Tables) where
       ∙ ap (λ (z : Option ℕ). decided (x && y) z (fit_bad (fit_lent whole))) (book_same ∙ g)
       ∙ ap (decided (x && y) o) fit_same
 
-  pub sheet_book_header : {r : Bool} → r ≡ book_fits t → r ≡ false → Bad 0 ≡ shaped_of (tables_bad whole)
+  pub sheet_book_header : {r : Bool} → r ≡ book_fits t → r ≡ false → Err (bad_table 0) ≡ shaped_of (tables_bad whole)
   unfolding decided
   sheet_book_header {r} e n = sym (ap shaped_of (by_parts {x = false} {y = fit_fits whole} (sym e ∙ n) refl refl))
 
   module _ {r : Bool} (e : r ≡ book_fits t) (n : r ≡ true) {q : Bool} (f : q ≡ fit_fits whole) where
-    pub sheet_fit_header : q ≡ false → Bad 0 ≡ shaped_of (tables_bad whole)
+    pub sheet_fit_header : q ≡ false → Err (bad_table 0) ≡ shaped_of (tables_bad whole)
     unfolding decided
     sheet_fit_header m = sym (ap shaped_of (by_parts {x = true} {y = false} (sym e ∙ n) (sym f ∙ m) refl))
 
     module _ (m : q ≡ true) {v : Shaped} (g : v ≡ shaped_of (book_bad (book_lent t))) where
-      pub sheet_book_bad : {i : ℕ} → v ≡ Bad i → Bad i ≡ shaped_of (tables_bad whole)
+      pub sheet_book_bad : {x : BadTable} → v ≡ Err x → Err x ≡ shaped_of (tables_bad whole)
       unfolding decided
-      sheet_book_bad {i} k = sym (ap shaped_of (by_parts {x = true} {y = true} {o = some i} (sym e ∙ n) (sym f ∙ m) (bad_said (book_bad (book_lent t)) (sym k ∙ g))))
+      sheet_book_bad {x} k = sym (ap shaped_of (by_parts {x = true} {y = true} {o = some x.table} (sym e ∙ n) (sym f ∙ m) (bad_said (book_bad (book_lent t)) (sym k ∙ g))))
 
-      pub sheet_fit_judged : {w : Shaped} → v ≡ Sound → w ≡ shaped_of (fit_bad (fit_lent u)) → w ≡ shaped_of (tables_bad whole)
+      pub sheet_fit_judged : {w : Shaped} → v ≡ Ok tt → w ≡ shaped_of (fit_bad (fit_lent u)) → w ≡ shaped_of (tables_bad whole)
       unfolding decided
       sheet_fit_judged k l = l ∙ sym (ap shaped_of (by_parts {x = true} {y = true} {o = none} (sym e ∙ n) (sym f ∙ m) (sound_said (book_bad (book_lent t)) (sym k ∙ g))))
 

@@ -3,15 +3,19 @@ ghost use Rattle.std.specs.Prelude.{◌≡◌, true, [], ◌≤◌, length};
 ghost use Rattle.rules.specs.Shape.{attributes_good, effects_good, type_effects_good, buff_collections_good, book_bad};
 ghost use Rattle.shape.specs.Shaped.{shaped_of};
 ghost use Rattle.tables.specs.Tables.{book_fits, book_lent, book_tables_bad};
-ghost use Rattle.tables.specs.At.{book_now, book_at};
+ghost use Rattle.tables.specs.At.{book_in};
 ghost use Rattle.lent.specs.Alone.{attributes_alone, effects_alone, type_effects_alone, buff_collections_alone};
 
 use super::records::{attribute, buff_collection, effect, type_effect};
 use columns::{
     AttributeFields, BuffCollectionFields, EffectFields, ModifierFields, TypeEffectFields,
 };
-use shape::Shaped;
+use shape::BadTable;
 use shape::book_tables::{attribute_good, buff_collection_good, effect_good, type_effect_good};
+use tables::BookTables;
+
+// The loops of these four tables stay apart: one function over them takes the record, its test and its key as closures, and has to say in
+// its contract what each of the three gives, which is longer than the loops.
 
 // Whether table 1 is good.
 fn attributes_good(attributes: &[AttributeFields], defaults: &[f64]) -> bool
@@ -19,15 +23,12 @@ fn attributes_good(attributes: &[AttributeFields], defaults: &[f64]) -> bool
     ensures defined { result ≡ attributes_good (attributes_alone attributes.now defaults.now) }
 {
     let mut last = 0;
-    let mut i = 0usize;
-    while i < attributes.len() {
+    for i in 0..attributes.len() {
         let r = attribute(attributes, defaults, i);
-        let good = attribute_good(i, last, r);
-        last = r.id;
-        i += 1;
-        if !good {
+        if !attribute_good(i, last, r) {
             return false;
         }
+        last = r.id;
     }
     true
 }
@@ -39,15 +40,12 @@ fn effects_good(effects: &[EffectFields], modifiers: &[ModifierFields]) -> bool
 {
     let count = modifiers.len();
     let mut last = 0;
-    let mut i = 0usize;
-    while i < effects.len() {
+    for i in 0..effects.len() {
         let r = effect(effects, i);
-        let good = effect_good(i, last, r, count);
-        last = r.id;
-        i += 1;
-        if !good {
+        if !effect_good(i, last, r, count) {
             return false;
         }
+        last = r.id;
     }
     true
 }
@@ -57,15 +55,12 @@ fn type_effects_good(type_effects: &[TypeEffectFields]) -> bool
     ensures defined { result ≡ type_effects_good (type_effects_alone type_effects.now) }
 {
     let mut last = 0;
-    let mut i = 0usize;
-    while i < type_effects.len() {
+    for i in 0..type_effects.len() {
         let r = type_effect(type_effects, i);
-        let good = type_effect_good(i, last, r);
-        last = r.type_id;
-        i += 1;
-        if !good {
+        if !type_effect_good(i, last, r) {
             return false;
         }
+        last = r.type_id;
     }
     true
 }
@@ -80,92 +75,54 @@ fn buff_collections_good(
 {
     let count = modifiers.len();
     let mut last = 0;
-    let mut i = 0usize;
-    while i < buff_collections.len() {
+    for i in 0..buff_collections.len() {
         let r = buff_collection(buff_collections, i);
-        let good = buff_collection_good(i, last, r, count);
-        last = r.id;
-        i += 1;
-        if !good {
+        if !buff_collection_good(i, last, r, count) {
             return false;
         }
+        last = r.id;
     }
     true
 }
 
 // Whether columns are alike and counts are allowed.
-pub fn book_fits(
-    attributes: &[AttributeFields],
-    defaults: &[f64],
-    effects: &[EffectFields],
-    modifiers: &[ModifierFields],
-    type_effects: &[TypeEffectFields],
-    buff_collections: &[BuffCollectionFields],
-) -> bool
-    ensures defined { result ≡ book_fits (book_at attributes defaults effects modifiers type_effects buff_collections []) }
+pub fn book_fits(book: BookTables) -> bool
+    ensures defined { result ≡ book_fits (book_in book.entry []) }
 {
-    let alike = attributes.len() == defaults.len();
-    let counted = (attributes.len() <= 2048)
-        & ((effects.len() <= 1024)
-            & ((modifiers.len() <= 4096)
-                & ((type_effects.len() <= 4096) & (buff_collections.len() <= 64))));
+    let alike = book.attributes.len() == book.defaults.len();
+    let counted = (book.attributes.len() <= 2048)
+        & ((book.effects.len() <= 1024)
+            & ((book.modifiers.len() <= 4096)
+                & ((book.type_effects.len() <= 4096) & (book.buff_collections.len() <= 64))));
     alike & counted
 }
 
 // The first bad table of a book whose header fits.
-pub fn book_bad(
-    attributes: &[AttributeFields],
-    defaults: &[f64],
-    effects: &[EffectFields],
-    modifiers: &[ModifierFields],
-    type_effects: &[TypeEffectFields],
-    buff_collections: &[BuffCollectionFields],
-) -> Shaped
-    requires fits { book_fits (book_now attributes defaults effects modifiers type_effects buff_collections []) ≡ true }
-    ensures defined { result ≡ shaped_of (book_bad (book_lent (book_at attributes defaults effects modifiers type_effects buff_collections []))) }
+pub fn book_bad(book: BookTables) -> Result<(), BadTable>
+    requires fits { book_fits (book_in book []) ≡ true }
+    ensures defined { result ≡ shaped_of (book_bad (book_lent (book_in book.entry []))) }
 {
-    if !attributes_good(attributes, defaults) {
-        return Shaped::Bad(1);
+    if !attributes_good(book.attributes, book.defaults) {
+        return Err(BadTable { table: 1 });
     }
-    if !effects_good(effects, modifiers) {
-        return Shaped::Bad(2);
+    if !effects_good(book.effects, book.modifiers) {
+        return Err(BadTable { table: 2 });
     }
-    if !type_effects_good(type_effects) {
-        return Shaped::Bad(4);
+    if !type_effects_good(book.type_effects) {
+        return Err(BadTable { table: 4 });
     }
-    if !buff_collections_good(buff_collections, modifiers) {
-        return Shaped::Bad(5);
+    if !buff_collections_good(book.buff_collections, book.modifiers) {
+        return Err(BadTable { table: 5 });
     }
-    Shaped::Sound
+    Ok(())
 }
 
 // The first bad table of a book, 0 for its header.
-pub fn book_shape(
-    attributes: &[AttributeFields],
-    defaults: &[f64],
-    effects: &[EffectFields],
-    modifiers: &[ModifierFields],
-    type_effects: &[TypeEffectFields],
-    buff_collections: &[BuffCollectionFields],
-) -> Shaped
-    ensures defined { result ≡ shaped_of (book_tables_bad (book_at attributes defaults effects modifiers type_effects buff_collections [])) }
+pub fn book_shape(book: BookTables) -> Result<(), BadTable>
+    ensures defined { result ≡ shaped_of (book_tables_bad (book_in book.entry [])) }
 {
-    if !book_fits(
-        attributes,
-        defaults,
-        effects,
-        modifiers,
-        type_effects,
-        buff_collections,
-    ) {
-        return Shaped::Bad(0);
+    if !book_fits(book) {
+        return Err(BadTable { table: 0 });
     }
-    book_bad(
-        attributes,
-        defaults,
-        effects,
-        modifiers,
-        type_effects,
-        buff_collections,
-    )
+    book_bad(book)
 }

@@ -6,7 +6,7 @@ ghost use Rattle.rules.specs.Shape.{objects_good, asks_good, fit_bad};
 ghost use Rattle.shape.specs.Ranges.{range_ascends};
 ghost use Rattle.shape.specs.Shaped.{shaped_of};
 ghost use Rattle.tables.specs.Tables.{fit_alike, counted, fit_fits, fit_lent, fit_tables_bad};
-ghost use Rattle.tables.specs.At.{fit_now, fit_at};
+ghost use Rattle.tables.specs.At.{fit_in};
 ghost use Rattle.lent.specs.Alone.{objects_alone, bases_alone, asks_alone};
 
 use super::records::{ask, base_attribute, object};
@@ -14,8 +14,9 @@ use columns::{AskFields, FIT_DEPTH, FIT_RECORDING, FitNumbers, ObjectFields};
 use info::little_endian::index;
 use numbers::is_finite;
 use rules::{CHAR, SHIP};
-use shape::Shaped;
+use shape::BadTable;
 use shape::fit_tables::{base_attribute_stands, object_good, stands};
+use tables::FitTables;
 
 // Whether table 6 is good.
 fn objects_good(objects: &[ObjectFields], base_attributes: &[u32], ids: &[u32]) -> bool
@@ -25,17 +26,13 @@ fn objects_good(objects: &[ObjectFields], base_attributes: &[u32], ids: &[u32]) 
     let bases = base_attributes.len();
     let count = ids.len();
     let mut last = SHIP;
-    let mut i = 0usize;
-    while i < objects.len() {
+    for i in 0..objects.len() {
         let o = object(objects, i);
-        let kind = o.kind;
-        let standing = stands(i, last, kind);
-        let good = standing & object_good(o, bases, count);
-        last = kind;
-        i += 1;
+        let good = stands(i, last, o.kind) & object_good(o, bases, count);
         if !good {
             return false;
         }
+        last = o.kind;
     }
     CHAR <= last
 }
@@ -44,16 +41,7 @@ fn objects_good(objects: &[ObjectFields], base_attributes: &[u32], ids: &[u32]) 
 fn all_finite(values: &[f64]) -> bool
     ensures defined { result ≡ every? finite values.now }
 {
-    let mut i = 0usize;
-    while i < values.len() {
-        let x = values[i];
-        let good = is_finite(x);
-        i += 1;
-        if !good {
-            return false;
-        }
-    }
-    true
+    values.iter().all(|x| is_finite(*x))
 }
 
 // Whether n base attributes ascend, from the first on.
@@ -63,15 +51,12 @@ fn range_ascends(base_attributes: &[u32], base_values: &[f64], first: usize, n: 
     ensures defined { result ≡ ascends (map (λ x. x.attribute_id) (span first n (bases_alone [] base_attributes.now base_values.now).bases)) }
 {
     let mut last = 0;
-    let mut i = 0usize;
-    while i < n {
+    for i in 0..n {
         let r = base_attribute(base_attributes, base_values, first + i);
-        let good = base_attribute_stands(i, last, r);
-        last = r.attribute_id;
-        i += 1;
-        if !good {
+        if !base_attribute_stands(i, last, r) {
             return false;
         }
+        last = r.attribute_id;
     }
     true
 }
@@ -89,14 +74,11 @@ fn bases_ascend(
     ensures defined { let f = bases_alone objects.now base_attributes.now base_values.now in
         result ≡ every? (range_ascends f) f.objects }
 {
-    let mut i = 0usize;
-    while i < objects.len() {
+    for i in 0..objects.len() {
         let o = object(objects, i);
         let first = index(o.first_attribute);
         let count = index(o.attributes);
-        let good = range_ascends(base_attributes, base_values, first, count);
-        i += 1;
-        if !good {
+        if !range_ascends(base_attributes, base_values, first, count) {
             return false;
         }
     }
@@ -108,13 +90,8 @@ fn asks_good(asks: &[AskFields], objects: &[ObjectFields]) -> bool
     ensures defined { result ≡ asks_good (asks_alone asks.now objects.now) }
 {
     let count = objects.len();
-    let mut i = 0usize;
-    while i < asks.len() {
-        let a = ask(asks, i);
-        let o = index(a.object);
-        let good = o < count;
-        i += 1;
-        if !good {
+    for i in 0..asks.len() {
+        if index(ask(asks, i).object) >= count {
             return false;
         }
     }
@@ -122,100 +99,51 @@ fn asks_good(asks: &[AskFields], objects: &[ObjectFields]) -> bool
 }
 
 // Whether columns are alike, counts are allowed, and depth and recording in their ranges.
-pub fn fit_fits(
-    objects: &[ObjectFields],
-    base_attributes: &[u32],
-    base_values: &[f64],
-    ids: &[u32],
-    buffs: &[u32],
-    buff_values: &[f64],
-    asks: &[AskFields],
-    depth: u32,
-    recording: u32,
-) -> bool
-    ensures defined { result ≡ fit_fits (fit_at objects base_attributes base_values ids buffs buff_values asks (depth ∷ recording ∷ [])) }
+pub fn fit_fits(fit: FitTables, depth: u32, recording: u32) -> bool
+    ensures defined { result ≡ fit_fits (fit_in fit.entry (depth ∷ recording ∷ [])) }
 {
-    let alike = (base_attributes.len() == base_values.len()) & (buffs.len() == buff_values.len());
-    let counted = (objects.len() <= 1024)
-        & ((base_attributes.len() <= 16384)
-            & ((ids.len() <= 4096) & ((buffs.len() <= 64) & (asks.len() <= 1024))));
+    let alike = (fit.base_attributes.len() == fit.base_values.len())
+        & (fit.buffs.len() == fit.buff_values.len());
+    let counted = (fit.objects.len() <= 1024)
+        & ((fit.base_attributes.len() <= 16384)
+            & ((fit.ids.len() <= 4096) & ((fit.buffs.len() <= 64) & (fit.asks.len() <= 1024))));
     alike & counted & (1 <= depth) & (depth <= 256) & (recording <= 1)
 }
 
 // The first bad table of a fit whose header fits.
-pub fn fit_bad(
-    objects: &[ObjectFields],
-    base_attributes: &[u32],
-    base_values: &[f64],
-    ids: &[u32],
-    buffs: &[u32],
-    buff_values: &[f64],
-    asks: &[AskFields],
-) -> Shaped
-    requires alike { fit_alike (fit_now objects base_attributes base_values ids buffs buff_values asks []) ≡ true }
-    requires few { length objects.now ≤ 1024 }
-    ensures defined { result ≡ shaped_of (fit_bad (fit_lent (fit_at objects base_attributes base_values ids buffs buff_values asks []))) }
+pub fn fit_bad(fit: FitTables) -> Result<(), BadTable>
+    requires alike { fit_alike (fit_in fit []) ≡ true }
+    requires few { length fit.objects.now ≤ 1024 }
+    ensures defined { result ≡ shaped_of (fit_bad (fit_lent (fit_in fit.entry []))) }
 {
-    if !objects_good(objects, base_attributes, ids) {
-        return Shaped::Bad(6);
+    if !objects_good(fit.objects, fit.base_attributes, fit.ids) {
+        return Err(BadTable { table: 6 });
     }
-    if !all_finite(base_values) {
-        return Shaped::Bad(7);
+    if !all_finite(fit.base_values) {
+        return Err(BadTable { table: 7 });
     }
-    if !bases_ascend(objects, base_attributes, base_values, ids) {
-        return Shaped::Bad(7);
+    if !bases_ascend(fit.objects, fit.base_attributes, fit.base_values, fit.ids) {
+        return Err(BadTable { table: 7 });
     }
-    if !all_finite(buff_values) {
-        return Shaped::Bad(9);
+    if !all_finite(fit.buff_values) {
+        return Err(BadTable { table: 9 });
     }
-    if !asks_good(asks, objects) {
-        return Shaped::Bad(10);
+    if !asks_good(fit.asks, fit.objects) {
+        return Err(BadTable { table: 10 });
     }
-    Shaped::Sound
+    Ok(())
 }
 
 // The first bad table of a fit plus 20, 20 for its header.
-pub fn fit_shape(
-    objects: &[ObjectFields],
-    base_attributes: &[u32],
-    base_values: &[f64],
-    ids: &[u32],
-    buffs: &[u32],
-    buff_values: &[f64],
-    asks: &[AskFields],
-    header: &FitNumbers,
-) -> Shaped
-    ensures defined { result ≡ shaped_of (fit_tables_bad (fit_at objects base_attributes base_values ids buffs buff_values asks header.now)) }
+pub fn fit_shape(fit: FitTables, header: &FitNumbers) -> Result<(), BadTable>
+    ensures defined { result ≡ shaped_of (fit_tables_bad (fit_in fit.entry header.now)) }
 {
     let depth = header[FIT_DEPTH];
     let recording = header[FIT_RECORDING];
-    if !fit_fits(
-        objects,
-        base_attributes,
-        base_values,
-        ids,
-        buffs,
-        buff_values,
-        asks,
-        depth,
-        recording,
-    ) {
-        return Shaped::Bad(20);
+    if !fit_fits(fit, depth, recording) {
+        return Err(BadTable { table: 20 });
     }
-    let verdict = fit_bad(
-        objects,
-        base_attributes,
-        base_values,
-        ids,
-        buffs,
-        buff_values,
-        asks,
-    );
-    match verdict {
-        Shaped::Bad(t) => {
-            let place = t + 20;
-            Shaped::Bad(place)
-        }
-        Shaped::Sound => Shaped::Sound,
-    }
+    fit_bad(fit).map_err(|bad| BadTable {
+        table: bad.table + 20,
+    })
 }

@@ -1,5 +1,5 @@
 -- Fields of a line, by what the digits from a place on are.
-use Prim.Native.Nat.{ℕ, zero, suc, ◌+◌, ◌-◌, ◌≤◌, ◌<◌}
+use Prim.Native.Nat.{ℕ, zero, suc, ◌+◌, ◌-◌, ◌≤◌, ◌<◌, ◌%◌}
 use native.Mathlib.Numerals.{add-one}
 use native.Mathlib.Omega.{arith}
 use mathlib.Core.Path.{◌≡◌, refl, sym, ap, ◌∙◌}
@@ -7,20 +7,13 @@ use mathlib.Core.Bool.{Bool, true, false, ◌&&◌}
 use mathlib.Core.List.{List, [], ◌∷◌}
 use mathlib.Core.Option.{Option, none, some}
 use lib.Dec.{leb, ltb, eqb}
-use lib.ListN.{length, get_or, drop, length-drop}
-use borrow.Author.Tests.{ltb-true, lt-ltb, eqb-true, eq-eqb, ne_eqb, leb-true}
-use Rattle.laws.proofs.Bools.{same_test, and_left, and_right}
-use Rattle.laws.proofs.Scans.{drop-step, drop_end}
+use lib.ListN.{length, drop, length-drop}
+use borrow.Author.Tests.{ltb-true, lt-ltb, le-ltb, le-leb, lt-leb, eqb-true, eqb-false, eq-eqb}
+use Rattle.laws.proofs.Bools.{same_test, and_false_right}
 use Rattle.lines.specs.Fields.{Cut, ◌>>=◌, only, digits, begins, after, natural, negated, id_in, half_in}
-use Rattle.lines.specs.Reads.{largest, cut_at}
+use Rattle.lines.specs.Reads.{cut_at}
 
 -- ---- what stands at a place
-
-pub begins_here : (text : List ℕ) (at b : ℕ) → at < length text → eqb (get_or text at 0) b ≡ begins b (drop at text)
-begins_here text at b h = sym (ap (begins b) (drop-step text at 0 h))
-
-pub begins-nothing : (text : List ℕ) (at b : ℕ) → length text ≤ at → false ≡ begins b (drop at text)
-begins-nothing text at b h = sym (ap (begins b) (drop_end text at h))
 
 pub after-drop : (n : ℕ) (xs : List ℕ) → after (drop n xs) ≡ drop (suc n) xs
 after-drop zero [] = refl
@@ -49,32 +42,29 @@ module _ (most at : ℕ) (text : List ℕ) {value next : ℕ} (e : cut_at value 
       ∙ ap (λ (t : Bool). only (t && (leb value most && begins 32 (drop next text))) (record { value = value; rest = after (drop next text) })) shorter
       ∙ ap (λ (xs : List ℕ). only (ltb at next && (leb value most && begins 32 (drop next text))) (record { value = value; rest = xs })) (after_next next text)
 
-  module _ {space : Bool} (s : space ≡ begins 32 (drop next text)) where
-    by_test : (t : Bool) → ltb at next && (leb value most && space) ≡ t → natural most (drop at text) ≡ only t (cut_at value (next + 1) text)
-    by_test t q =
-        is-natural
-        ∙ ap (λ (b : Bool). only (ltb at next && (leb value most && b)) (cut_at value (next + 1) text)) (sym s)
-        ∙ ap (λ (b : Bool). only b (cut_at value (next + 1) text)) q
+  by_tests : (t₁ t₂ t₃ : Bool) → ltb at next ≡ t₁ → leb value most ≡ t₂ → begins 32 (drop next text) ≡ t₃ → only (t₁ && (t₂ && t₃)) (cut_at value (next + 1) text) ≡ natural most (drop at text)
+  by_tests t₁ t₂ t₃ p q r = sym (is-natural ∙ ap (λ (t : Bool). only t (cut_at value (next + 1) text)) (rw (p, q, r) refl))
 
-    pub natural_here : ltb at next && (leb value most && space) ≡ true → some (cut_at value (next + 1) text) ≡ natural most (drop at text)
-    natural_here q = sym (by_test true q)
+  pub natural_here : (next ≡ at → ⊥) → value ≤ most → begins 32 (drop next text) ≡ true → some (cut_at value (next + 1) text) ≡ natural most (drop at text)
+  natural_here h k = by_tests true true true (lt-ltb at next (omega arith)) (le-leb value most k)
 
-    pub natural-not : ltb at next && (leb value most && space) ≡ false → none ≡ natural most (drop at text)
-    natural-not q = sym (by_test false q)
+  pub no_digits : next ≡ at → none ≡ natural most (drop at text)
+  no_digits h = by_tests false (leb value most) (begins 32 (drop next text)) (le-ltb at next (omega arith)) refl refl
 
-    pub has_space : ltb at next && (leb value most && space) ≡ true → space ≡ true
-    has_space q = and_right (leb value most) space (and_right (ltb at next) (leb value most && space) q)
+  pub too_large : most < value → none ≡ natural most (drop at text)
+  too_large h = ap (λ (t : Bool). only t (cut_at value (next + 1) text)) (sym (and_false_right (ltb at next))) ∙ by_tests (ltb at next) false (begins 32 (drop next text)) refl (lt-leb value most h) refl
 
-    pub small_value : ltb at next && (leb value most && space) ≡ true → value ≤ most
-    small_value q = leb-true value most (and_left (leb value most) space (and_right (ltb at next) (leb value most && space) q))
+  pub no_space : begins 32 (drop next text) ≡ false → none ≡ natural most (drop at text)
+  no_space h = ap (λ (t : Bool). only t (cut_at value (next + 1) text)) (sym (ap (λ (t : Bool). ltb at next && t) (and_false_right (leb value most)) ∙ and_false_right (ltb at next))) ∙ by_tests (ltb at next) (leb value most) false refl refl h
 
 -- ---- a signed one
 
-pub negated_none : (v : ℕ) → v ≡ 0 → 0 ≡ negated v
-negated_none v e = rw (eq-eqb v 0 e) refl
-
-pub negated_some : (v : ℕ) → (v ≡ 0 → ⊥) → v ≤ 4294967295 → 4294967295 - v + 1 ≡ negated v
-negated_some v h k = rw (ne_eqb v 0 h) (let e : 4294967295 - v + 1 ≡ 4294967296 - v = omega arith in e)
+pub is_negated : (v w : ℕ) → (w + v) % 4294967296 ≡ 0 → v < 4294967296 → w < 4294967296 → w ≡ negated v
+is_negated v w e h k = by (eqb v 0) refl
+  where
+    by : (t : Bool) → eqb v 0 ≡ t → w ≡ negated v
+    by true q = rw q (omega (arith, eqb-true v 0 q))
+    by false q = rw q (omega (arith, eqb-false v 0 q))
 
 negate : Cut → Option Cut
 negate c = some (record { value = negated c.value; rest = c.rest })
@@ -94,23 +84,21 @@ is-id xs t q = by (begins 45 xs) ∙ ap (id-by xs) q
     by true = refl
     by false = refl
 
-minus-value : (g : Bool) (v : ℕ) (rest : List ℕ) → only g (record { value = negated v; rest = rest }) ≡ only g (record { value = v; rest = rest }) >>= negate
-unfolding negate
-minus-value true v rest = refl
-minus-value false v rest = refl
-
-module _ (at : ℕ) (text : List ℕ) {m : Bool} (b : m ≡ begins 45 (drop at text)) where
-  pub id-minus : (g : Bool) (v w next : ℕ) → m ≡ true → w ≡ negated v → only g (cut_at v next text) ≡ natural 2147483648 (drop (at + 1) text) → only g (cut_at w next text) ≡ id_in (drop at text)
+module _ (at : ℕ) (text : List ℕ) where
+  minus : true ≡ begins 45 (drop at text) → natural 2147483648 (drop (at + 1) text) >>= negate ≡ id_in (drop at text)
   unfolding id-by
-  id-minus g v w next t n e =
-      ap (λ (k : ℕ). only g (cut_at k next text)) n
-      ∙ minus-value g v (drop next text)
-      ∙ ap (λ (o : Option Cut). o >>= negate) (e ∙ ap (natural 2147483648) (sym (after_next at text)))
-      ∙ sym (is-id (drop at text) true (sym b ∙ t))
+  minus t = sym (is-id (drop at text) true (sym t) ∙ ap (λ (xs : List ℕ). natural 2147483648 xs >>= negate) (after_next at text))
 
-  pub id-plain : m ≡ false → natural 2147483647 (drop at text) ≡ id_in (drop at text)
+  pub id-none : true ≡ begins 45 (drop at text) → none ≡ natural 2147483648 (drop (at + 1) text) → none ≡ id_in (drop at text)
+  id-none t e = ap (λ (o : Option Cut). o >>= negate) e ∙ minus t
+
+  pub id-minus : (v w next : ℕ) → true ≡ begins 45 (drop at text) → w ≡ negated v → some (cut_at v next text) ≡ natural 2147483648 (drop (at + 1) text) → some (cut_at w next text) ≡ id_in (drop at text)
+  unfolding negate
+  id-minus v w next t n e = ap (λ (k : ℕ). some (cut_at k next text)) n ∙ ap (λ (o : Option Cut). o >>= negate) e ∙ minus t
+
+  pub id-plain : false ≡ begins 45 (drop at text) → natural 2147483647 (drop at text) ≡ id_in (drop at text)
   unfolding id-by
-  id-plain t = sym (is-id (drop at text) false (sym b ∙ t))
+  id-plain t = sym (is-id (drop at text) false (sym t))
 
 -- ---- half of a value's bits
 
@@ -134,6 +122,3 @@ module _ (at : ℕ) (text : List ℕ) {value next : ℕ} (e : cut_at value next 
 
   pub half_not : eqb (next - at) 8 ≡ false → none ≡ half_in (drop at text)
   half_not t = sym (is_half ∙ ap (λ (b : Bool). only b (cut_at value next text)) t)
-
-  pub half_fits : eqb (next - at) 8 ≡ true → value ≤ largest (next - at) → value ≤ 4294967295
-  half_fits t h = rw (eqb-true (next - at) 8 t) at h

@@ -1,38 +1,17 @@
 -- Digits, one at a time: what is left of the text decides.
-use Prim.Native.Nat.{ℕ, zero, suc, ◌+◌, ◌*◌, ◌-◌, ◌≤◌, ◌<◌}
+use Prim.Native.Nat.{ℕ, zero, suc, ◌+◌, ◌*◌, ◌-◌, ◌≤◌, ◌<◌, min}
 use native.Mathlib.Nat.{add-zero, add-suc, eq-or-lt_of_le, mul-le-mul}
 use native.Mathlib.Omega.{arith}
 use mathlib.Core.Path.{◌≡◌, refl, sym, ap, subst, ◌∙◌}
-use mathlib.Core.Bool.{Bool, true, false, ◌&&◌, cond}
+use mathlib.Core.Bool.{Bool, true, false}
 use mathlib.Core.List.{List, [], ◌∷◌}
 use mathlib.Core.Logic.{◌⊎◌, inl, inr}
-use lib.Dec.{leb, ltb}
+use lib.Dec.{ltb}
 use lib.ListN.{length, get_or, drop}
-use borrow.Author.Tests.{leb-true, lt-ltb, le-ltb}
-use Rattle.laws.proofs.Bools.{and_left, and_right}
+use borrow.Author.Tests.{lt-ltb, le-ltb}
 use Rattle.laws.proofs.Scans.{drop-step, drop_end}
 use Rattle.lines.specs.Fields.{Cut, digit, digits}
 use Rattle.lines.specs.Reads.{largest, cut_at}
-
--- ---- one digit
-
-pub at_least : (n c m : ℕ) → leb n c && leb c m ≡ true → n ≤ c
-at_least n c m e = leb-true n c (and_left (leb n c) (leb c m) e)
-
-at_most : (n c m : ℕ) → leb n c && leb c m ≡ true → c ≤ m
-at_most n c m e = leb-true c m (and_right (leb n c) (leb c m) e)
-
-pub decimal_digit : (c : ℕ) → leb 48 c && leb c 57 ≡ true → (c - 48 ≡ digit c) × (c - 48 ≤ 16)
-decimal_digit c e = (rw e refl, omega (arith, at_most 48 c 57 e))
-
-pub lower_digit : (c : ℕ) → leb 48 c && leb c 57 ≡ false → leb 97 c && leb c 102 ≡ true → (c - 87 ≡ digit c) × (c - 87 ≤ 16)
-lower_digit c d e = (rw (d, e) refl, omega (arith, at_most 97 c 102 e))
-
-pub upper_digit : (c : ℕ) → leb 48 c && leb c 57 ≡ false → leb 97 c && leb c 102 ≡ false → leb 65 c && leb c 70 ≡ true → (c - 55 ≡ digit c) × (c - 55 ≤ 16)
-upper_digit c d e f = (rw (d, e, f) refl, omega (arith, at_most 65 c 70 f))
-
-pub no_digit : (c : ℕ) → leb 48 c && leb c 57 ≡ false → leb 97 c && leb c 102 ≡ false → leb 65 c && leb c 70 ≡ false → 16 ≡ digit c
-no_digit c d e f = rw (d, e, f) refl
 
 -- ---- several
 
@@ -69,14 +48,6 @@ no_more base v xs = refl
 largest-up : (n m : ℕ) → largest n ≤ largest (n + m)
 largest-up n zero = subst (λ (k : ℕ). largest n ≤ largest k) (sym (add-zero n)) (omega arith)
 largest-up n (suc m) = subst (λ (k : ℕ). largest n ≤ largest k) (sym (add-suc n m)) (omega (arith, largest-up n m))
-
--- the end is no earlier than the start
-pub end_after : (at most n r : ℕ) → at ≤ n → r ≤ at + most → (r < at + most → r ≡ n) → at ≤ r
-end_after at most n r l h e = by (eq-or-lt_of_le {n = r} {m = at + most} h)
-  where
-    by : (r ≡ at + most) ⊎ (r < at + most) → at ≤ r
-    by (inl q) = omega (arith, q)
-    by (inr q) = omega (arith, e q)
 
 -- digits up to place i are read
 pub record Going (base most at : ℕ) (text : List ℕ) (end value i : ℕ) : Type 0 where
@@ -129,11 +100,14 @@ module _ (base most at : ℕ) (text : List ℕ) {end : ℕ} where
           ∙ sym (now_is ∙ stop base (at + most - (i + 1)) value (get_or text i 0) (drop (i + 1) text) (le-ltb _ _ (subst (λ (n : ℕ). base ≤ n) e h)))
 
     -- at the end there are no more digits to read, or no more text
-    pub going_end : end ≤ i → (end < at + most → end ≡ length text) → end ≤ at + most → cut_at value i text ≡ digits base most 0 (drop at text)
-    going_end past short near = by (eq-or-lt_of_le {n = end} {m = at + most} near)
+    pub going_end : end ≤ i → end ≡ min (length text) (at + most) → (cut_at value end text ≡ digits base most 0 (drop at text)) × (value ≤ largest (end - at))
+    going_end past e = (ap (λ (n : ℕ). cut_at value n text) (sym same) ∙ by (eq-or-lt_of_le {n = i} {m = at + most} (omega (arith, g.high))), subst (λ (n : ℕ). value ≤ largest (n - at)) same g.small)
       where
-        by : (end ≡ at + most) ⊎ (end < at + most) → cut_at value i text ≡ digits base most 0 (drop at text)
-        by (inl e) = sym (g.is ∙ ap (λ (n : ℕ). digits base n value (drop i text)) (omega (arith, e)) ∙ no_more base value (drop i text))
-        by (inr e) =
-            let gone : drop i text ≡ [] = drop_end text i (omega (arith, short e)) in
+        same : i ≡ end
+        same = omega (arith, g.high)
+
+        by : (i ≡ at + most) ⊎ (i < at + most) → cut_at value i text ≡ digits base most 0 (drop at text)
+        by (inl q) = sym (g.is ∙ ap (λ (n : ℕ). digits base n value (drop i text)) (omega (arith, q)) ∙ no_more base value (drop i text))
+        by (inr q) =
+            let gone : drop i text ≡ [] = drop_end text i (omega (arith, q, same)) in
             ap (λ (xs : List ℕ). record { value = value; rest = xs }) gone ∙ sym (g.is ∙ ap (digits base (at + most - i) value) gone ∙ nothing_left base (at + most - i) value)

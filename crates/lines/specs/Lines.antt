@@ -1,7 +1,7 @@
 -- Texts of lines: labels (`id label`), and another planner's listing (object, attribute, 16 hexadecimal digits). Definitions only.
 use Rattle.std.specs.Prelude.{ℕ, zero, suc, ◌+◌, ◌-◌, Bool, true, false, List, [], ◌∷◌, eqb, length, get_or, take, drop}
 use Rattle.std.proofs.Math.Option.{Option, none, some}
-use Rattle.lines.specs.Fields.{Cut, ◌>>=◌, only, object_in, id_in, half_in}
+use Rattle.lines.specs.Fields.{◌>>=◌, only, object_in, id_in, half_in}
 
 -- ---- any text of lines
 

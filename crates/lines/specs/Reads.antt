@@ -1,11 +1,11 @@
 -- What the functions of this crate give back, in the definition's words. Definitions only.
-use Rattle.std.specs.Prelude.{ℕ, zero, suc, ◌+◌, ◌*◌, ◌≤◌, Bool, List, take, drop}
-use Rattle.std.proofs.Math.Option.{Option}
+use Rattle.std.specs.Prelude.{ℕ, zero, suc, ◌+◌, ◌*◌, ◌≤◌, List, take, drop, Result, Ok, Err}
+use Rattle.std.specs.Prelude as code
+use Rattle.std.proofs.Math.Option.{Option, none, some}
 use Rattle.lines.specs.declared.fields.Number.{Number}
 use Rattle.lines.specs.declared.fields.Field.{Field}
-use Rattle.lines.specs.declared.Read.{Read}
-use Rattle.lines.specs.declared.Read.TheVariants as read
-use Rattle.lines.specs.Fields.{Cut, only}
+use Rattle.lines.specs.declared.BadLine.{BadLine}
+use Rattle.lines.specs.Fields.{Cut}
 use Rattle.lines.specs.Lines.{Rows, rows, bad}
 
 -- the largest number of so many hexadecimal digits
@@ -20,15 +20,16 @@ cut_at v n text = record { value = v; rest = drop n text }
 abbrev pub digits_of : Number → List ℕ → Cut
 digits_of d text = cut_at d.value d.next text
 
-abbrev pub field_of : Field → List ℕ → Option Cut
-field_of f text = only f.good (cut_at f.value f.next text)
+abbrev pub field_of : code.Option Field → List ℕ → Option Cut
+field_of (code.Some f) text = some (cut_at f.value f.next text)
+field_of code.None text = none
 
 -- the rows that were written, or the first bad line
-abbrev pub rows_of : Read → List (List ℕ) → Rows
-rows_of (read.Rows n) out = rows (take n out)
-rows_of (read.Bad i) out = bad i
+abbrev pub rows_of : Result ℕ BadLine → List (List ℕ) → Rows
+rows_of (Ok n) out = rows (take n out)
+rows_of (Err e) out = bad e.line
 
 -- no more rows than there is room for, and no line behind the first that has none
-abbrev pub ReadWithin : Read → ℕ → Type 0
-ReadWithin (read.Rows n) room = n ≤ room
-ReadWithin (read.Bad i) room = i ≤ room + 1
+abbrev pub ReadWithin : Result ℕ BadLine → ℕ → Type 0
+ReadWithin (Ok n) room = n ≤ room
+ReadWithin (Err e) room = e.line ≤ room + 1

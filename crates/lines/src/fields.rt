@@ -1,5 +1,5 @@
 // Numbers on a line of text, one after another from a place on.
-ghost use Rattle.std.specs.Prelude.{◌≡◌, true, ◌-◌, ◌≤◌, ◌<◌, length, drop};
+ghost use Rattle.std.specs.Prelude.{◌≡◌, true, ◌-◌, ◌≤◌, ◌<◌, length, drop, IfSome};
 ghost use Rattle.lines.specs.Fields as rule;
 ghost use Rattle.lines.specs.Reads.{largest, digits_of, field_of};
 
@@ -10,10 +10,9 @@ struct Number {
     next: usize,
 }
 
-// A field from a place on: whether it is there, its value, and the place behind it.
+// A field from a place on: its value, and the place behind it.
 #[derive(Clone, Copy)]
 pub struct Field {
-    pub good: bool,
     pub value: u32,
     pub next: usize,
 }
@@ -23,25 +22,12 @@ fn digit(c: u8) -> u64
     ensures defined { result ≡ rule.digit c }
     ensures at_most { result ≤ 16 }
 {
-    if (48 <= c) & (c <= 57) {
-        return (c - 48) as u64;
+    match c {
+        b'0'..=b'9' => u64::from(c - b'0'),
+        b'a'..=b'f' => u64::from(c - b'a') + 10,
+        b'A'..=b'F' => u64::from(c - b'A') + 10,
+        _ => 16,
     }
-    if (97 <= c) & (c <= 102) {
-        return (c - 87) as u64;
-    }
-    if (65 <= c) & (c <= 70) {
-        return (c - 55) as u64;
-    }
-    16
-}
-
-// The lesser of two.
-fn lesser(a: usize, b: usize) -> usize
-    ensures first { result ≤ a }
-    ensures second { result ≤ b }
-    ensures one { result < a → result ≡ b }
-{
-    if a < b { a } else { b }
 }
 
 // So many digits of a base at most.
@@ -54,24 +40,16 @@ fn digits(text: &[u8], base: u64, most: usize, at: usize) -> Number
     ensures inside { result.next ≤ length text.now }
     ensures at_most { result.value ≤ largest (result.next - at) }
 {
-    let end = lesser(at + most, text.len());
+    let end = text.len().min(at + most);
     let mut value = 0;
-    let mut i = at;
-    while i < end {
+    for i in at..end {
         let d = digit(text[i]);
         if base <= d {
-            return Number {
-                value: value,
-                next: i,
-            };
+            return Number { value, next: i };
         }
         value = value * base + d;
-        i += 1;
     }
-    Number {
-        value: value,
-        next: i,
-    }
+    Number { value, next: end }
 }
 
 // Whether a byte stands at a place.
@@ -79,91 +57,62 @@ fn begins(text: &[u8], at: usize, byte: u8) -> bool
     ensures defined { result ≡ rule.begins byte (drop at text.now) }
     ensures inside { result ≡ true → at < length text.now }
 {
-    if at < text.len() {
-        return text[at] == byte;
-    }
-    false
+    text.get(at).is_some_and(|b| *b == byte)
 }
 
 // A natural number and a space, up to a greatest number.
-fn natural(text: &[u8], most: u32, at: usize) -> Field
+fn natural(text: &[u8], most: u32, at: usize) -> Option<Field>
     requires inside { at ≤ length text.now }
     ensures defined { field_of result text.now ≡ rule.natural most (drop at text.now) }
-    ensures inside { result.next ≤ length text.now }
+    ensures inside { IfSome result (λ f. f.next ≤ length text.now) }
 {
-    let d = digits(text, 10, 10, at);
-    let value = d.value;
-    let next = d.next;
-    let space = begins(text, next, b' ');
-    if (at < next) & ((value <= most as u64) & space) {
-        return Field {
-            good: true,
-            value: value as u32,
-            next: next + 1,
-        };
+    let Number { value, next } = digits(text, 10, 10, at);
+    if next == at || u64::from(most) < value || !begins(text, next, b' ') {
+        return None;
     }
-    Field {
-        good: false,
-        value: 0,
-        next: at,
-    }
+    Some(Field {
+        value: value as u32,
+        next: next + 1,
+    })
 }
 
 // An object's number and a space.
-pub fn object(text: &[u8], at: usize) -> Field
+pub fn object(text: &[u8], at: usize) -> Option<Field>
     requires inside { at ≤ length text.now }
     ensures defined { field_of result text.now ≡ rule.object_in (drop at text.now) }
-    ensures inside { result.next ≤ length text.now }
+    ensures inside { IfSome result (λ f. f.next ≤ length text.now) }
 {
-    natural(text, 0xffff_ffff, at)
-}
-
-// The 32 bits of a number that is so far below 0.
-fn negated(value: u32) -> u32
-    ensures defined { result ≡ rule.negated value }
-{
-    if value == 0 {
-        return 0;
-    }
-    0xffff_ffff - value + 1
+    natural(text, u32::MAX, at)
 }
 
 // An attribute's 32 bits and a space.
-pub fn id(text: &[u8], at: usize) -> Field
+pub fn id(text: &[u8], at: usize) -> Option<Field>
     requires inside { at ≤ length text.now }
     ensures defined { field_of result text.now ≡ rule.id_in (drop at text.now) }
-    ensures inside { result.next ≤ length text.now }
+    ensures inside { IfSome result (λ f. f.next ≤ length text.now) }
 {
     if begins(text, at, b'-') {
-        let f = natural(text, 0x8000_0000, at + 1);
-        return Field {
-            good: f.good,
-            value: negated(f.value),
-            next: f.next,
-        };
+        let Field { value, next } = natural(text, 0x8000_0000, at + 1)?;
+        return Some(Field {
+            value: value.wrapping_neg(),
+            next,
+        });
     }
     natural(text, 0x7fff_ffff, at)
 }
 
 // Half of a value's bits: eight hexadecimal digits.
-pub fn half(text: &[u8], at: usize) -> Field
+pub fn half(text: &[u8], at: usize) -> Option<Field>
     requires inside { at ≤ length text.now }
     ensures defined { field_of result text.now ≡ rule.half_in (drop at text.now) }
-    ensures inside { result.next ≤ length text.now }
+    ensures inside { IfSome result (λ f. f.next ≤ length text.now) }
 {
-    let d = digits(text, 16, 8, at);
-    let value = d.value;
-    let next = d.next;
-    if next - at == 8 {
-        return Field {
-            good: true,
-            value: value as u32,
-            next: next,
-        };
+    let Number { value, next } = digits(text, 16, 8, at);
+    if next - at != 8 {
+        return None;
     }
-    Field {
-        good: false,
-        value: 0,
-        next: at,
-    }
+    Some(Field {
+        value: value as u32,
+        next,
+    })
 }

@@ -8,44 +8,21 @@ ghost use Rattle.text.specs.SheetText.{rooms};
 ghost use Rattle.figures.specs.Figures.{figures_text};
 ghost use Rattle.listed.specs.Listed.{sheet_figures, asked};
 
-use calculate::dogma_calculate;
-use columns::{ENTRY_WIDTH, OBJECTS, SOURCE_WIDTH};
+use columns::ROW_WIDTH;
 use figures::figures_text;
 use listing::refusal;
-use text::{ROWS, SHEET_BYTES, TEXT_BYTES, sheet_text};
+use text::{ROWS, SHEET_BYTES, TEXT_BYTES, calculated, sheet_text};
 
-// SHAPE is refusal 1.
+// SHAPE is refusal 1 of `calculated`, whose numbers are C's.
 const SHAPE: u64 = 1;
 
-// Lends every list room for 4,096, and gives the figures of what comes back.
+// The figures of what comes back of a run with room for 4,096 in every list.
 fn calculated_figures(text: &mut [u8; TEXT_BYTES], sheet: &[u8]) -> usize
     ensures the_figures { Begins text.new result (figures_text (outcome sheet.now rooms)) }
 {
-    let mut states = [[0u32; 2]; OBJECTS];
-    let mut collected = [[0u32; 14]; ROWS];
-    let mut collected_values = [0.0; ROWS];
-    let mut rows = [[0u32; 6]; ROWS];
-    let mut bases = [0.0; ROWS];
+    let mut rows = [[0u32; ROW_WIDTH]; ROWS];
     let mut values = [0.0; ROWS];
-    let mut entries = [[0u32; ENTRY_WIDTH]; ROWS];
-    let mut entry_values = [0.0; ROWS];
-    let mut plain = [[0u32; 2]; ROWS];
-    let mut sources = [[0u32; SOURCE_WIDTH]; ROWS];
-    let mut source_values = [[0.0; 2]; ROWS];
-    let answer = dogma_calculate(
-        &mut states,
-        &mut collected,
-        &mut collected_values,
-        &mut rows,
-        &mut bases,
-        &mut values,
-        &mut entries,
-        &mut entry_values,
-        &mut plain,
-        &mut sources,
-        &mut source_values,
-        sheet,
-    );
+    let answer = calculated(&mut rows, &mut values, sheet);
     figures_text(
         text,
         answer.number,

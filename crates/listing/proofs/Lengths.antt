@@ -1,4 +1,5 @@
 -- How long a number of 32 bits, a signed one and a value with two decimals are at most.
+use Rattle.std.specs.Prelude.{None, Option}
 use Prim.Native.Nat.{ℕ, suc, ◌+◌, ◌*◌, ◌/◌, ◌^◌, ◌≤◌, ◌<◌}
 use native.Mathlib.Omega.{arith}
 use mathlib.Core.Path.{◌≡◌, refl}
@@ -12,8 +13,7 @@ use mir.Syntax.{w32}
 use mir.Val.{SFits}
 use borrow.Author.Tests.{leb-false}
 use Rattle.rules.specs.declared.Hundredths.{Hundredths}
-use Rattle.rules.specs.declared.Hundredths.TheVariants.{Rounded, Star}
-use Rattle.rules.specs.Number.{rounded_at, hundredths_of}
+use Rattle.rules.specs.Number.{rounded_at, hundredths_of, rounded}
 use Rattle.rules.specs.Listing.{natural, integer, minus_if, decimals}
 use Rattle.listing.proofs.Digits.{natural_short}
 use Rattle.listing.proofs.Decimals.{point}
@@ -30,7 +30,7 @@ minus_short : (s : Bool) → length (minus_if s) ≤ 1
 minus_short true = omega arith
 minus_short false = omega arith
 
-rounded_short : (s : Bool) (c : ℕ) → c < 10 ^ 14 → length (decimals (Rounded s c)) ≤ 16
+rounded_short : (s : Bool) (c : ℕ) → c < 10 ^ 14 → length (decimals (rounded s c)) ≤ 16
 unfolding decimals
 rounded_short s c h =
     let a = length-append (minus_if s) (natural (c / 100) ++ point c) in
@@ -40,7 +40,7 @@ rounded_short s c h =
 at_short : (s : Bool) (c : ℕ) → length (decimals (rounded_at s c)) ≤ 16
 at_short s c = go (leb (10 ^ 14) c) refl
   where
-    go : (b : Bool) → leb (10 ^ 14) c ≡ b → length (decimals (cond b Star (Rounded (s && ltb 0 c) c))) ≤ 16
+    go : (b : Bool) → leb (10 ^ 14) c ≡ b → length (decimals (cond b None (rounded (s && ltb 0 c) c))) ≤ 16
     go true e = unfold decimals in omega arith
     go false e = rounded_short (s && ltb 0 c) c (leb-false (10 ^ 14) c e)
 
@@ -54,5 +54,5 @@ decimals_short (fin s m e) = at_short s ((m * up e * 200 + down e) / (2 * down e
 pub integer_room : (x : ℤ) (at n : ℕ) → SFits w32 x → at + 11 ≤ n → at + length (integer x) ≤ n
 integer_room x at n f r = omega (arith, r, integer_short x f)
 
-pub value_room : (v : Float) (h : Hundredths) (at n : ℕ) → h ≡ hundredths_of v → at + 16 ≤ n → at + length (decimals h) ≤ n
+pub value_room : (v : Float) (h : Option Hundredths) (at n : ℕ) → h ≡ hundredths_of v → at + 16 ≤ n → at + length (decimals h) ≤ n
 value_room v h at n e r = rw e (omega (arith, r, decimals_short v))

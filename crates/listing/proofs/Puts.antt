@@ -1,13 +1,13 @@
 -- Texts put one after another, where they end, and what stands there then.
-use Prim.Native.Nat.{ℕ, suc, ◌+◌, ◌≤◌, ◌<◌}
+use Prim.Native.Nat.{ℕ, suc, ◌+◌, ◌-◌, ◌≤◌, ◌<◌}
 use native.Mathlib.Nat.{add-zero}
 use native.Mathlib.Numerals.{add-one}
 use native.Mathlib.Omega.{arith}
 use mathlib.Core.Path.{◌≡◌, refl, sym, ap, ◌∙◌}
-use mathlib.Core.List.{List, [], ◌∷◌, ◌++◌}
-use lib.ListN.{length, set, take, drop, get_or, length-append}
-use lib.Seq.{sets, sets-eq, length-sets, length-take-le, take_at, take_all}
-use Rattle.laws.proofs.Maps.{take_next}
+use mathlib.Core.List.{List, [], ◌∷◌, ◌++◌, append_assoc}
+use borrow.Rule.Slice.PartMut.{put_mid, Post-is}
+use lib.ListN.{length, set, take, drop, length-append}
+use lib.Seq.{sets, sets-eq, length-sets, length-take-le, take_at}
 use Rattle.listing.specs.Put.{Put, put, puts}
 
 pub puts_append : (xs ys : List ℕ) (s : Put) → puts (xs ++ ys) s ≡ puts ys (puts xs s)
@@ -35,7 +35,7 @@ text_of (put at out) = out
 next_place : (at n : ℕ) → suc at + n ≡ at + suc n
 next_place at n = omega arith
 
-puts-sets : (xs : List ℕ) (at : ℕ) (out : List ℕ) → puts xs (put at out) ≡ put (at + length xs) (sets out at xs)
+pub puts-sets : (xs : List ℕ) (at : ℕ) (out : List ℕ) → puts xs (put at out) ≡ put (at + length xs) (sets out at xs)
 unfolding puts
 puts-sets [] at out = ap (λ (k : ℕ). put k out) (sym (add-zero at))
 puts-sets (x ∷ xs) at out = rw add-one (puts-sets xs (suc at) (set out at x) ∙ ap (λ (k : ℕ). put k (sets (set out at x) (suc at) xs)) (next_place at (length xs)))
@@ -68,23 +68,18 @@ module _ (xs ys : List ℕ) (at : ℕ) (out : List ℕ) (h : at + length (xs ++ 
 pub room_byte : (x : ℕ) (ys : List ℕ) (at n : ℕ) → at + length (x ∷ ys) ≤ n → at < n
 room_byte x ys at n h = omega (arith, h)
 
--- a text byte by byte: one more
-module _ (text : List ℕ) (at : ℕ) (out : List ℕ) where
-  byte_put : (i : ℕ) (now : List ℕ) (x : ℕ) → put (at + (i + 1)) (set now (at + i) x) ≡ puts (x ∷ []) (put (at + i) now)
-  unfolding puts
-  byte_put i now x = ap (λ (k : ℕ). put k (set now (at + i) x)) (omega arith)
+-- bytes copied into a stretch are put there
+pub copied : {xs ys : List ℕ} (at k : ℕ) (out : List ℕ) → ys ≡ xs → length xs ≡ k → at + k ≤ length out
+    → put (at + k) (put_mid at (at + k - at) out ys) ≡ puts xs (put at out)
+copied {xs} {ys} at k out e l h = rw (into, ← l) (sym (puts-sets xs at out))
+  where
+    here : at + k ≡ at + length xs
+    here = ap (λ (n : ℕ). at + n) (sym l)
 
-  pub put_next : (i d : ℕ) (now : List ℕ) → i < length text → put (at + i) now ≡ puts (take i text) (put at out)
-      → put (at + (i + 1)) (set now (at + i) (get_or text i d)) ≡ puts (take (i + 1) text) (put at out)
-  put_next i d now h e =
-      renamed (put at out) (sym (take_next text i d h)) (after (take i text) (get_or text i d ∷ []) (put at out) e (byte_put i now (get_or text i d)))
-
-  pub put_all : (i : ℕ) (now : List ℕ) → length text ≤ i → put (at + i) now ≡ puts (take i text) (put at out) → put (at + i) now ≡ puts text (put at out)
-  put_all i now h e = renamed (put at out) (take_all i text h) e
-
-  pub put_none : put (at + 0) out ≡ puts (take 0 text) (put at out)
-  unfolding puts
-  put_none = ap (λ (k : ℕ). put k out) (add-zero at)
+    into : put_mid at (at + k - at) out ys ≡ sets out at xs
+    into =
+        rw (e, Post-is at (at + k) out (omega arith), here)
+        (sym (sets-eq xs out at (omega (arith, h, l)) ∙ append_assoc (take at out) xs (drop (at + length xs) out)))
 
 -- a text put behind others stands behind them
 pub grows : (xs : List ℕ) (at : ℕ) (out : List ℕ) {r : ℕ} {now : List ℕ} → at ≤ length out → r ≤ length out → put r now ≡ puts xs (put at out) → take r now ≡ take at out ++ xs

@@ -1,4 +1,5 @@
 -- The text of a line and of a refusal, from each place where a piece of it begins.
+use Rattle.std.specs.Prelude.{Option}
 use Prim.Native.Nat.{ℕ}
 use mathlib.Core.Path.{◌≡◌, refl, sym}
 use mathlib.Core.List.{List, [], ◌∷◌, ◌++◌}
@@ -6,22 +7,22 @@ use lib.IntN.{ℤ}
 use lib.Ieee.{Float}
 use Rattle.rules.specs.declared.Hundredths.{Hundredths}
 use Rattle.rules.specs.declared.Refusal.{Refusal}
-use Rattle.rules.specs.declared.Answer.TheVariants.{Refused}
+use Rattle.rules.specs.Answer.{Refused}
 use Rattle.rules.specs.Answer.{refused, number, place}
 use Rattle.rules.specs.Number.{hundredths_of}
 use Rattle.rules.specs.Dispatch.{Row}
 use Rattle.rules.specs.Listing.{natural, integer, decimals, line, listing}
 
-abbrev pub value : Hundredths → List ℕ
+abbrev pub value : Option Hundredths → List ℕ
 value h = decimals h ++ (10 ∷ [])
 
-abbrev pub id : ℤ → Hundredths → List ℕ
+abbrev pub id : ℤ → Option Hundredths → List ℕ
 id i h = integer i ++ (32 ∷ value h)
 
-abbrev pub object : ℕ → ℤ → Hundredths → List ℕ
+abbrev pub object : ℕ → ℤ → Option Hundredths → List ℕ
 object o i h = natural o ++ (32 ∷ id i h)
 
-pub line-is : (r : Row) (v : Float) {o : ℕ} {i : ℤ} {h : Hundredths} → r.object ≡ o → r.id ≡ i → h ≡ hundredths_of v → object o i h ≡ line r v
+pub line-is : (r : Row) (v : Float) {o : ℕ} {i : ℤ} {h : Option Hundredths} → r.object ≡ o → r.id ≡ i → h ≡ hundredths_of v → object o i h ≡ line r v
 unfolding line
 line-is r v a b c = rw (sym a, sym b, c) refl
 

@@ -7,7 +7,7 @@ use lib.Ieee.{Float}
 use Rattle.rules.specs.Answer.{Res, ok, refused, number, place}
 use Rattle.rules.specs.Listing.{listing}
 use Rattle.rules.specs.Outcome.{Done}
-use Rattle.rules.specs.declared.Answer.TheVariants as answer
+use Rattle.rules.specs.Answer as answer
 use Rattle.rules.specs.declared.Refusal.{Refusal}
 use Rattle.rules.specs.declared.Refusal.TheVariants as refusal
 use Rattle.listing.specs.Pieces.{Shown, Tells}

@@ -4,16 +4,14 @@
 ghost use Rattle.std.specs.Prelude.{◌≡◌, false, [], ◌∷◌, ◌+◌, ◌*◌, ◌≤◌, ◌<◌, length};
 ghost use Rattle.rules.specs.Listing as L;
 ghost use Rattle.rules.specs.Listing.{natural, integer, minus_if, decimals, listing};
-ghost use Rattle.rules.specs.Number.{hundredths_of};
+ghost use Rattle.rules.specs.Number.{hundredths_of, rounded};
 ghost use Rattle.rules.specs.Answer as answer;
 ghost use Rattle.rules.specs.Answer.{Res, ok, refused};
 ghost use Rattle.rules.specs.Outcome.{Done};
 ghost use Rattle.rules.specs.Dispatch.{Row};
-ghost use Rattle.clear.specs.Ends.{ClearedFrom};
 ghost use Rattle.listing.specs.Put.{Added, Begins};
-ghost use Rattle.rules.specs.declared.Hundredths.TheVariants.{Rounded};
 ghost use Rattle.rules.specs.declared.Refusal.{Refusal};
-ghost use Rattle.rules.specs.declared.Answer.TheVariants.{Refused};
+ghost use Rattle.rules.specs.Answer.{Refused};
 ghost use Rattle.listing.specs.Pieces.{longest, longest_refusal, head_of, Shown, Tells};
 
 use columns::{AttributeRow, ROW_ATTRIBUTE, ROW_OBJECT};
@@ -89,8 +87,8 @@ fn put_minus(out: &mut [u8], at: usize, minus: bool) -> usize
 
 // Hundredths with no minus: the whole part, and two digits behind the point.
 fn put_rounded(out: &mut [u8], at: usize, count: u64) -> usize
-    requires room { at + length (decimals (Rounded false count)) ≤ length out.old }
-    ensures added { Added out at result (decimals (Rounded false count)) }
+    requires room { at + length (decimals (rounded false count)) ≤ length out.old }
+    ensures added { Added out at result (decimals (rounded false count)) }
 {
     let point = put_natural(out, at, count / 100);
     let tenths = put_byte(out, point, b'.');
@@ -99,15 +97,15 @@ fn put_rounded(out: &mut [u8], at: usize, count: u64) -> usize
 }
 
 // A value's hundredths, or a star.
-fn put_hundredths(out: &mut [u8], at: usize, value: Hundredths) -> usize
+fn put_hundredths(out: &mut [u8], at: usize, value: Option<Hundredths>) -> usize
     requires room { at + length (decimals value) ≤ length out.old }
     ensures added { Added out at result (decimals value) }
 {
     match value {
-        Hundredths::Star => put_byte(out, at, b'*'),
-        Hundredths::Rounded { minus, count } => {
-            let next = put_minus(out, at, minus);
-            put_rounded(out, next, count)
+        None => put_byte(out, at, b'*'),
+        Some(h) => {
+            let next = put_minus(out, at, h.minus);
+            put_rounded(out, next, h.count)
         }
     }
 }
@@ -127,25 +125,9 @@ pub fn put_text(out: &mut [u8], at: usize, text: &[u8]) -> usize
     ensures added { Added out at result text.now }
     ensures next { result ≡ at + length text.now }
 {
-    let mut i = 0;
-    while i < text.len() {
-        let x = text[i];
-        out[at + i] = x;
-        i += 1;
-    }
-    at + i
-}
-
-// Zeros from a place on.
-pub fn zero_bytes(bytes: &mut [u8], from: usize)
-    ensures cleared { ClearedFrom bytes 0 from }
-{
-    let n = bytes.len();
-    let mut i = from;
-    while i < n {
-        bytes[i] = 0;
-        i += 1;
-    }
+    let end = at + text.len();
+    out[at..end].copy_from_slice(text);
+    end
 }
 
 // The first line of a listing of so many rows.
@@ -193,12 +175,10 @@ fn rows_listed(out: &mut [u8], rows: &[AttributeRow], values: &[f64], n: usize) 
     ensures the_lines { (d : Done) → Shown d n rows.now values.now → Begins out.new result (listing (ok d)) }
 {
     let mut end = head(out, n as u64);
-    let mut next = 0;
-    while next < n {
+    for next in 0..n {
         let row = rows[next];
         let value = values[next];
         end = line(out, end, row[ROW_OBJECT], signed(row[ROW_ATTRIBUTE]), value);
-        next += 1;
     }
     end
 }

@@ -1,15 +1,15 @@
 -- `backs` is what demand 3 counts: row i's attribute leads back to itself.
-use Prim.Native.Nat.{ℕ, zero, suc, ◌+◌, ◌<◌, suc-le-suc, zero-le}
+use Prim.Native.Nat.{ℕ, zero, suc, ◌<◌, suc-le-suc, zero-le}
 use native.Mathlib.Omega.{arith}
 use mathlib.Core.Path.{◌≡◌, refl, sym, ap, subst, ◌∙◌}
-use mathlib.Core.Bool.{Bool, true, false, ◌||◌}
+use mathlib.Core.Bool.{Bool, true, false}
 use mathlib.Core.List.{List, [], ◌∷◌, ◌++◌}
 use mathlib.Core.Logic.{◌⊎◌, inl, inr}
 use mathlib.Core.Option.{Option, none, some}
 use borrow.Author.Tests.{eqb-true}
-use lib.Dec.{T, eqb}
+use lib.Dec.{eqb}
 use lib.ListN.{length, get_or}
-use Rattle.laws.specs.Lists.{some?, put, keep, flat, from}
+use Rattle.laws.specs.Lists.{some?, put, keep, flat}
 use Rattle.laws.proofs.Bools.{both_ways, passed}
 use Rattle.laws.proofs.Every.{some_append}
 use Rattle.rules.specs.Dispatch.{Row, Key, same_key}
@@ -19,8 +19,8 @@ use Rattle.promises.specs.NoMemory.{key_of, key_at, no_row, Needs}
 use Rattle.promises.proofs.NoMemoryReads.{leads_on}
 use Rattle.rules.proofs.Ranked.{same_key_lem}
 use Rattle.promises.proofs.Ranks.{holds, key_itself, found_at}
-use Rattle.loops.specs.Loop.{rows_of, met, searched, need_rows, backs}
-use Rattle.loops.proofs.Searching.{Has, or_cases, or_left, or_right, has_head, has_append, append_left, append_right, met_all, Ends, searched_ends}
+use Rattle.loops.specs.Loop.{rows_of, searched, need_rows, backs}
+use Rattle.loops.proofs.Searching.{Has, or_cases, or_left, or_right, has_head, has_append, append_right, met_all, searched_ends}
 
 -- ---- lists of keys and of rows
 

@@ -8,7 +8,7 @@ use mathlib.Core.Logic.{inl, inr}
 use mathlib.Core.Option.{Option, none, some}
 use lib.ListN.{length, get_or}
 use Rattle.laws.proofs.Bools.{both_ways}
-use Rattle.rules.specs.Dispatch.{Row, Key}
+use Rattle.rules.specs.Dispatch.{Key}
 use Rattle.rules.specs.Value.{World, Found, find_row}
 use Rattle.promises.specs.NoMemory.{no_row}
 use Rattle.reading.specs.Held.{index_of}

@@ -3,7 +3,7 @@ use Prim.Native.Nat.{ℕ, ◌+◌, ◌*◌, ◌≤◌, ◌<◌, ◌^◌}
 use native.Mathlib.Decide.{ℕ_discrete}
 use native.Mathlib.Omega.{arith}
 use mathlib.Core.Path.{◌≡◌, refl, sym, ap, subst, ◌∙◌}
-use mathlib.Core.Bool.{Bool, true, false}
+use mathlib.Core.Bool.{true, false}
 use mathlib.Core.List.{List, []}
 use mathlib.Core.Logic.{◌⊎◌, inl, inr}
 use mathlib.Core.Option.{Option, none, some}
@@ -18,7 +18,7 @@ use Rattle.needs.proofs.Showing.{row_count, need_inside, need_slot}
 use Rattle.order.specs.Ranks.{num}
 use Rattle.loops.specs.Loop.{need_rows, searched, backs}
 use Rattle.loops.specs.Looping.{MetFrom, SlotMet, Waits, Spreading, Queued, Earlier}
-use Rattle.loops.proofs.Searching.{Has, met_all, Ends, searched_ends}
+use Rattle.loops.proofs.Searching.{met_all, Ends, searched_ends}
 use Rattle.loops.proofs.Slots.{has_slot, slot_has, has_inside}
 
 -- ---- what is met from a row

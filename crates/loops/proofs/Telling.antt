@@ -1,7 +1,7 @@
 -- Columns that tell a calculation its world tell what its rows need.
 use Prim.Native.Nat.{ℕ, ◌+◌, ◌<◌}
 use native.Mathlib.Omega.{arith}
-use mathlib.Core.Path.{◌≡◌, refl, sym, ap, subst, ◌∙◌}
+use mathlib.Core.Path.{ap, ◌∙◌}
 use mathlib.Core.List.{List, []}
 use lib.Ieee.{Float}
 use lib.ListN.{length, get_or}
@@ -9,7 +9,7 @@ use Rattle.rules.specs.Value.{World}
 use Rattle.rules.specs.declared.Effect.{Effect}
 use Rattle.sources.specs.declared.Recording.{Recording}
 use Rattle.memory.specs.Steps.{row_at}
-use Rattle.memory.specs.Holding.{Tables, Tells, entries_from}
+use Rattle.memory.specs.Holding.{Tables, Tells}
 use Rattle.needs.specs.Telling.{NeedTables, EntryShown, TellsRow, TellsNeeds}
 
 abbrev pub need_tables_of : Tables → NeedTables

@@ -2,7 +2,7 @@
 use Rattle.std.specs.Prelude.{ℕ, zero, suc, ◌+◌, Bool, true, false, List, [], ◌∷◌, ◌++◌, eqb, length, get_or}
 use Rattle.std.proofs.Math.Option.{Option, none, some}
 use Rattle.laws.specs.Lists.{some?, flat, first, from}
-use Rattle.rules.specs.Dispatch.{Row, Key}
+use Rattle.rules.specs.Dispatch.{Key}
 use Rattle.rules.specs.Value.{World, find_row}
 use Rattle.rules.specs.Fresh.{needs_of}
 use Rattle.promises.specs.NoMemory.{no_row}

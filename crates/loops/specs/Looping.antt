@@ -1,21 +1,13 @@
 -- How LOOP is answered, and what the search for it keeps. Definitions only.
-use Rattle.std.specs.Prelude.{ℕ, ◌+◌, ◌≤◌, ◌<◌, ◌^◌, ◌≡◌, Bool, true, not, List, ◌⊎◌, eqb, length}
-use Rattle.std.proofs.Math.Option.{Option, none, some}
+use Rattle.std.specs.Prelude.{ℕ, ◌+◌, ◌≤◌, ◌<◌, ◌^◌, ◌≡◌, Bool, true, not, List, ◌⊎◌, eqb, length, Some, None}
+use Rattle.std.specs.Prelude as code
+use Rattle.std.proofs.Math.Option.{some}
 use Rattle.laws.specs.Lists.{some?, keep, from}
 use Rattle.rules.specs.Value.{World}
 use Rattle.needs.specs.Slots.{need_at}
 use Rattle.needs.specs.Telling.{NeedTables, KnowsNeeds}
 use Rattle.order.specs.Ranks.{num}
 use Rattle.loops.specs.Loop.{need_rows, searched, backs}
-use Rattle.loops.specs.declared.Looped.{Looped}
-use Rattle.loops.specs.declared.Looped.TheVariants as looped
-use Rattle.loops.specs.declared.Met.{Met}
-use Rattle.loops.specs.declared.Met.TheVariants as met
-
--- the answer's object
-abbrev pub loop_of : Looped → Option ℕ
-loop_of looped.Nothing = none
-loop_of (looped.At o) = some o
 
 -- how many rows do not have the mark
 abbrev pub unmarked : ℕ → List (List ℕ) → ℕ
@@ -67,6 +59,6 @@ abbrev pub Earlier : ℕ → ℕ → List (List ℕ) → Type 0
 Earlier n row c = (j : ℕ) → j < n → num c j 0 ≤ row
 
 -- all that a row needs is met, or the row that is searched for is among it
-abbrev pub Meets : NeedTables → ℕ → ℕ → Met → List (List ℕ) → Type 0
-Meets t row head met.Back c = ((h : KnowsNeeds t) → backs h.world row ≡ true) × Earlier (length t.rows) (row + 1) c
-Meets t row head (met.To end) c = Spreading t row (length t.rows) 0 head end c
+abbrev pub Meets : NeedTables → ℕ → ℕ → code.Option ℕ → List (List ℕ) → Type 0
+Meets t row head None c = ((h : KnowsNeeds t) → backs h.world row ≡ true) × Earlier (length t.rows) (row + 1) c
+Meets t row head (Some end) c = Spreading t row (length t.rows) 0 head end c

@@ -2,30 +2,16 @@
 #![tactic(auto)]
 
 ghost use Rattle.std.specs.Prelude.{◌≡◌, true, ◌+◌, ◌≤◌, ◌<◌, ◌^◌, length};
-ghost use Rattle.needs.specs.Telling.{need_tables, needs_read, KnowsNeeds};
+ghost use Rattle.laws.specs.Options.{option_of};
+ghost use Rattle.needs.specs.Telling.{tables_of, KnowsNeeds};
 ghost use Rattle.order.specs.Ranks.{num};
 ghost use Rattle.loops.specs.Loop.{backs, loop_at};
-ghost use Rattle.loops.specs.Looping.{loop_of, unmarked, Spreading, Queued, Earlier, Meets};
+ghost use Rattle.loops.specs.Looping.{unmarked, Spreading, Queued, Earlier, Meets};
 
-use columns::{AttributeRow, EntryRow, Limits, ROW_OBJECT, Stretches, TablePairs};
+use columns::ROW_OBJECT;
 use info::little_endian::index;
-use needs::{need_at, slots_of};
+use needs::NeedColumns;
 use order::{WORK_MARK, WORK_PLACED, WorkRow, ordered, put, unmet};
-use reading::rows::Found;
-
-// The lowest object with an attribute that leads back to itself, where there is one.
-#[derive(Clone, Copy)]
-pub enum Looped {
-    Nothing,
-    At(u32),
-}
-
-// How many rows are in the queue then, or that the row that is searched for is met.
-#[derive(Clone, Copy)]
-pub enum Met {
-    Back,
-    To(usize),
-}
 
 // A row that does not have the mark gets it, and stands at the end of the queue.
 fn queued(work: &mut [WorkRow], row: usize, mark: u32, end: usize) -> usize
@@ -42,122 +28,79 @@ fn queued(work: &mut [WorkRow], row: usize, mark: u32, end: usize) -> usize
     end + 1
 }
 
-// All that the row at a place of the queue needs is met, but that it ends where the row that is searched for is among it.
+// All that the row at a place of the queue needs is met: the queue's end then; None where the row that is searched for is among it.
 fn meet(
     work: &mut [WorkRow],
-    book: &[u8],
-    pairs: &TablePairs,
-    stretches: &Stretches,
-    limits: &Limits,
-    rows: &[AttributeRow],
-    entries: &[EntryRow],
+    columns: &NeedColumns,
     row: usize,
     head: usize,
     end: usize,
-) -> Met
-    requires holding { KnowsNeeds (need_tables book pairs stretches limits rows entries) }
-    requires within { (row < length rows.now) × (head < end) }
-    requires spreading { Spreading (need_tables book pairs stretches limits rows entries) row (length rows.now) 0 head end work.old }
-    ensures meets { Meets (needs_read book pairs stretches limits rows entries) row (head + 1) result work.new }
+) -> Option<usize>
+    requires holding { KnowsNeeds (tables_of columns.now) }
+    requires within { (row < length columns.now.rows.now) × (head < end) }
+    requires spreading { Spreading (tables_of columns.now) row (length columns.now.rows.now) 0 head end work.old }
+    ensures meets { Meets (tables_of columns.now) row (head + 1) result work.new }
 {
     let mark = row as u32 + 1;
     let at = index(work[head][WORK_PLACED]);
-    let slots = slots_of(rows, at);
+    let slots = columns.slots_of(at);
     let mut last = end;
-    let mut s: usize = 0;
-    while s < slots {
-        let found = need_at(book, pairs, stretches, limits, rows, entries, at, s);
-        s += 1;
-        match found {
-            Found::Nothing => {}
-            Found::At(k) => {
-                if k == row {
-                    return Met::Back;
-                }
-                last = queued(work, k, mark, last);
-            }
+    for s in 0..slots {
+        let Some(k) = columns.need_at(at, s) else {
+            continue;
+        };
+        if k == row {
+            return None;
         }
+        last = queued(work, k, mark, last);
     }
-    Met::To(last)
+    Some(last)
 }
 
 // Whether a row leads back to itself: all that it leads to is met, nearest first. Marks are row numbers plus 1, so none is taken back.
-pub fn leads_back(
-    work: &mut [WorkRow],
-    book: &[u8],
-    pairs: &TablePairs,
-    stretches: &Stretches,
-    limits: &Limits,
-    rows: &[AttributeRow],
-    entries: &[EntryRow],
-    row: usize,
-) -> bool
-    requires holding { KnowsNeeds (need_tables book pairs stretches limits rows entries) }
-    requires room { (length rows.now ≤ length work.old) × (length rows.now < 2 ^ 32) }
-    requires within { row < length rows.now }
-    requires earlier { Earlier (length rows.now) row work.old }
-    ensures defined { (h : KnowsNeeds (needs_read book pairs stretches limits rows entries)) → result ≡ backs h.world row }
-    ensures earlier { Earlier (length rows.now) (row + 1) work.new }
+pub fn leads_back(work: &mut [WorkRow], columns: &NeedColumns, row: usize) -> bool
+    requires holding { KnowsNeeds (tables_of columns.now) }
+    requires room { (length columns.now.rows.now ≤ length work.old) × (length columns.now.rows.now < 2 ^ 32) }
+    requires within { row < length columns.now.rows.now }
+    requires earlier { Earlier (length columns.now.rows.now) row work.old }
+    ensures defined { (h : KnowsNeeds (tables_of columns.now)) → result ≡ backs h.world row }
+    ensures earlier { Earlier (length columns.now.rows.now) (row + 1) work.new }
 {
     let mut end = queued(work, row, row as u32 + 1, 0);
     let mut head: usize = 0;
+    // A while, since the queue grows as it is read: its end is no bound that a `for` could have.
     while head < end {
-        let met = meet(
-            work, book, pairs, stretches, limits, rows, entries, row, head, end,
-        );
+        let Some(last) = meet(work, columns, row, head, end) else {
+            return true;
+        };
+        end = last;
         head += 1;
-        match met {
-            Met::Back => return true,
-            Met::To(e) => end = e,
-        }
     }
     false
 }
 
 // The object of the first row that leads back to itself: rows ascend by object.
-pub fn lowest(
-    work: &mut [WorkRow],
-    book: &[u8],
-    pairs: &TablePairs,
-    stretches: &Stretches,
-    limits: &Limits,
-    rows: &[AttributeRow],
-    entries: &[EntryRow],
-) -> Looped
-    requires holding { KnowsNeeds (need_tables book pairs stretches limits rows entries) }
-    requires room { (length rows.now ≤ length work.old) × (length rows.now < 2 ^ 32) }
-    ensures defined { (h : KnowsNeeds (needs_read book pairs stretches limits rows entries)) → loop_of result ≡ loop_at h.world }
+pub fn lowest(work: &mut [WorkRow], columns: NeedColumns) -> Option<u32>
+    requires holding { KnowsNeeds (tables_of columns) }
+    requires room { (length columns.rows.now ≤ length work.old) × (length columns.rows.now < 2 ^ 32) }
+    ensures defined { (h : KnowsNeeds (tables_of columns.entry)) → option_of result ≡ loop_at h.world }
 {
-    let n = rows.len();
+    let n = columns.rows.len();
     unmet(work, n);
-    let mut i: usize = 0;
-    while i < n {
-        let back = leads_back(work, book, pairs, stretches, limits, rows, entries, i);
-        if back {
-            return Looped::At(rows[i][ROW_OBJECT]);
+    for i in 0..n {
+        if leads_back(work, &columns, i) {
+            return Some(columns.rows[i][ROW_OBJECT]);
         }
-        i += 1;
     }
-    Looped::Nothing
+    None
 }
 
 // LOOP: where the rows can be put in order there is none; else it is sought.
-pub fn loop_of(
-    work: &mut [WorkRow],
-    book: &[u8],
-    pairs: &TablePairs,
-    stretches: &Stretches,
-    limits: &Limits,
-    rows: &[AttributeRow],
-    entries: &[EntryRow],
-) -> Looped
-    requires holding { KnowsNeeds (need_tables book pairs stretches limits rows entries) }
-    requires room { (length rows.now ≤ length work.old) × (length rows.now < 2 ^ 32) }
-    ensures defined { (h : KnowsNeeds (needs_read book pairs stretches limits rows entries)) → loop_of result ≡ loop_at h.world }
+pub fn loop_of(work: &mut [WorkRow], columns: NeedColumns) -> Option<u32>
+    requires holding { KnowsNeeds (tables_of columns) }
+    requires room { (length columns.rows.now ≤ length work.old) × (length columns.rows.now < 2 ^ 32) }
+    ensures defined { (h : KnowsNeeds (tables_of columns.entry)) → option_of result ≡ loop_at h.world }
 {
-    let all = ordered(work, book, pairs, stretches, limits, rows, entries);
-    if all {
-        return Looped::Nothing;
-    }
-    lowest(work, book, pairs, stretches, limits, rows, entries)
+    let all = ordered(work, columns);
+    if all { None } else { lowest(work, columns) }
 }

@@ -1,12 +1,13 @@
 -- Maps made of keys, of an object's columns and keys, and of all objects.
-use Prim.Native.Nat.{ℕ, zero, suc, ◌+◌, ◌-◌, ◌*◌, ◌/◌, ◌%◌, ◌^◌, ◌≤◌, ◌<◌}
+use Rattle.std.specs.Prelude.{Option, Some, None}
+use Prim.Native.Nat.{ℕ, zero, suc, ◌+◌, ◌-◌, ◌*◌, ◌≤◌, ◌<◌}
 use native.Mathlib.Omega.{arith}
 use native.Mathlib.Nat.{zero-add, add-zero}
 use native.Mathlib.Numerals.{add-one}
 use mathlib.Core.Path.{◌≡◌, refl, sym, ap, subst, ◌∙◌}
 use mathlib.Core.Bool.{Bool, true, false, not, ◌&&◌, ◌||◌, cond}
 use mathlib.Core.List.{List, [], ◌∷◌, ◌++◌, append-nil}
-use lib.Dec.{eqb, leb, ltb}
+use lib.Dec.{eqb, ltb}
 use lib.ListN.{length, get_or, take, drop, replicate, length-append, length-take, take-append-drop, get_or-replicate}
 use lib.Seq.{take_all}
 use borrow.Author.Tests.{eqb-true, eqb-false, eq-eqb, ne_eqb, lt-ltb, le-ltb, ltb-true, le-leb, lt-leb}
@@ -21,14 +22,12 @@ use Rattle.rules.specs.Item.{object}
 use Rattle.rules.specs.declared.Item.{Item}
 use Rattle.info.specs.Stands.{is_fitted}
 use Rattle.hits.specs.Reach.{no_skill, required_bits, reach_of}
-use Rattle.maps.specs.Words.{map_word, MapAt, with_bit}
+use Rattle.maps.specs.Words.{map_word, with_bit}
 use Rattle.maps.specs.Keys.{head_at, key_row, is_key, keys_of, has_key, let_in, with_key, firsts, keys_before, width_of, words_for}
-use Rattle.maps.specs.Maps.{before, Mapped, Holding, Counting, Found, Zeroed, MadeBy, and_key, and_keys, and_columns, let_in_before, has_before, MapsOf, Built}
-use Rattle.maps.specs.declared.build.Made.{Made}
-use Rattle.maps.specs.declared.build.Made.TheVariants.{Maps, Full}
+use Rattle.maps.specs.Maps.{Mapped, Counting, Found, Zeroed, MadeBy, and_key, and_keys, and_columns, let_in_before, has_before, Built}
 use Rattle.maps.proofs.Bits.{map_none}
 use Rattle.maps.proofs.Index.{head_next, head_later, column_later}
-use Rattle.maps.proofs.Making.{map_as, mapped_bit, mapped_column}
+use Rattle.maps.proofs.Making.{mapped_bit, mapped_column}
 
 -- ---- one key
 
@@ -37,29 +36,26 @@ module _ {w : ℕ} {location has : ℕ → ℕ → Bool} {ks ws hs : List ℕ} (
   new_key g = ap (λ (t : Bool). cond t ks (ks ++ (x ∷ []))) g
 
   module _ (h : i < w * 64) where
-    pub mark_found : {m n at : ℕ} {us : List ℕ} → Found ks x m → 0 < m → n ≡ length ks → at ≡ head_at w (m - 1) → us ≡ with_bit ws (at + 1) i → MadeBy (Maps n) w location (and_key has x i) (with_key ks x) us hs
-    mark_found {m} {n} F p c a e =
-        subst (λ (l : List ℕ). MadeBy (Maps n) w location (and_key has x i) (with_key ks x) l hs) (sym (e ∙ ap (λ (b : ℕ). with_bit ws (b + 1) i) a)) at_it
+    pub mark_found : {m n at : ℕ} {us : List ℕ} → Found ks x (Some m) → n ≡ length ks → at ≡ head_at w m → us ≡ with_bit ws (at + 1) i → MadeBy (Some n) w location (and_key has x i) (with_key ks x) us hs
+    mark_found {m} {n} F c a e =
+        subst (λ (l : List ℕ). MadeBy (Some n) w location (and_key has x i) (with_key ks x) l hs) (sym (e ∙ ap (λ (b : ℕ). with_bit ws (b + 1) i) a)) at_it
       where
-        inside : m - 1 < length ks
-        inside = omega (arith, F.inside, p)
-
         known : with_key ks x ≡ ks
-        known = ap (λ (t : Bool). cond t ks (ks ++ (x ∷ []))) (some_by (eqb x) ks (m - 1) 0 inside (eq-eqb x (get_or ks (m - 1) 0) (sym (F.is p))))
+        known = ap (λ (t : Bool). cond t ks (ks ++ (x ∷ []))) (some_by (eqb x) ks m 0 F.0 (eq-eqb x (get_or ks m 0) (sym F.1)))
 
-        at_it : MadeBy (Maps n) w location (and_key has x i) (with_key ks x) (with_bit ws (head_at w (m - 1) + 1) i) hs
+        at_it : MadeBy (Some n) w location (and_key has x i) (with_key ks x) (with_bit ws (head_at w m + 1) i) hs
         at_it =
-            subst (λ (l : List ℕ). MadeBy (Maps n) w location (and_key has x i) l (with_bit ws (head_at w (m - 1) + 1) i) hs) (sym known)
-            (c, mapped_bit M i h (m - 1) inside x (F.is p))
+            subst (λ (l : List ℕ). MadeBy (Some n) w location (and_key has x i) l (with_bit ws (head_at w m + 1) i) hs) (sym known)
+            (c, mapped_bit M i h m F.0 x F.1)
 
     last_of : (l : List ℕ) → get_or (l ++ (x ∷ [])) (length l) 0 ≡ x
     last_of [] = refl
     last_of (y ∷ l) = last_of l
 
-    pub mark_new : {n at : ℕ} {vs gs us : List ℕ} → some? (eqb x) ks ≡ false → n ≡ length ks → Mapped w location has (ks ++ (x ∷ [])) vs gs → at ≡ head_at w n → us ≡ with_bit vs (at + 1) i → MadeBy (Maps (n + 1)) w location (and_key has x i) (with_key ks x) us gs
+    pub mark_new : {n at : ℕ} {vs gs us : List ℕ} → some? (eqb x) ks ≡ false → n ≡ length ks → Mapped w location has (ks ++ (x ∷ [])) vs gs → at ≡ head_at w n → us ≡ with_bit vs (at + 1) i → MadeBy (Some (n + 1)) w location (and_key has x i) (with_key ks x) us gs
     mark_new {n} {at} {vs} {gs} g c N a e =
-        subst (λ (l : List ℕ). MadeBy (Maps (n + 1)) w location (and_key has x i) (with_key ks x) l gs) (sym (e ∙ ap (λ (b : ℕ). with_bit vs (b + 1) i) a))
-        (subst (λ (l : List ℕ). MadeBy (Maps (n + 1)) w location (and_key has x i) l (with_bit vs (head_at w n + 1) i) gs) (sym (new_key g)) (more, there))
+        subst (λ (l : List ℕ). MadeBy (Some (n + 1)) w location (and_key has x i) (with_key ks x) l gs) (sym (e ∙ ap (λ (b : ℕ). with_bit vs (b + 1) i) a))
+        (subst (λ (l : List ℕ). MadeBy (Some (n + 1)) w location (and_key has x i) l (with_bit vs (head_at w n + 1) i) gs) (sym (new_key g)) (more, there))
       where
         more : n + 1 ≡ length (ks ++ (x ∷ []))
         more = omega (arith, c, length-append ks (x ∷ []))
@@ -128,7 +124,7 @@ module _ (w : ℕ) (location has : ℕ → ℕ → Bool) (ks : List ℕ) (row : 
 
   -- n maps, with the keys before place k of the row
   abbrev pub Keyed : ℕ → ℕ → List ℕ → List ℕ → Type 0
-  Keyed k n ws hs = MadeBy (Maps n) w location (and_keys has (keep is_key (take k row)) i) (firsts ks (keep is_key (take k row))) ws hs
+  Keyed k n ws hs = MadeBy (Some n) w location (and_keys has (keep is_key (take k row)) i) (firsts ks (keep is_key (take k row))) ws hs
 
   pub keyed_none : (n : ℕ) (ws hs : List ℕ) → Mapped w location has ks ws hs → n ≡ length ks → Keyed 0 n ws hs
   keyed_none n ws hs M c = (c, subst (λ (h : ℕ → ℕ → Bool). Mapped w location h ks ws hs) (λ t y j. none_more has i y j t) M)
@@ -145,10 +141,10 @@ module _ (w : ℕ) (location has : ℕ → ℕ → Bool) (ks : List ℕ) (row : 
 
     pub keyed_on : (n : ℕ) (ws hs : List ℕ) → is_key (get_or row k 0) ≡ false → Keyed k n ws hs → Keyed (k + 1) n ws hs
     keyed_on n ws hs e K =
-        subst (λ (l : List ℕ). MadeBy (Maps n) w location (and_keys has l i) (firsts ks l) ws hs) (sym (keys_on e)) K
+        subst (λ (l : List ℕ). MadeBy (Some n) w location (and_keys has l i) (firsts ks l) ws hs) (sym (keys_on e)) K
 
     -- what is made with one key more
-    pub keyed_here : (ws hs : List ℕ) (r : Made) → is_key (get_or row k 0) ≡ true → MadeBy r w location (and_key (and_keys has (keys k) i) (get_or row k 0) i) (with_key (firsts ks (keys k)) (get_or row k 0)) ws hs → MadeBy r w location (and_keys has (keys (k + 1)) i) (firsts ks (keys (k + 1))) ws hs
+    pub keyed_here : (ws hs : List ℕ) (r : Option ℕ) → is_key (get_or row k 0) ≡ true → MadeBy r w location (and_key (and_keys has (keys k) i) (get_or row k 0) i) (with_key (firsts ks (keys k)) (get_or row k 0)) ws hs → MadeBy r w location (and_keys has (keys (k + 1)) i) (firsts ks (keys (k + 1))) ws hs
     keyed_here ws hs r e K =
         subst (λ (l : List ℕ). MadeBy r w location (and_keys has l i) (firsts ks l) ws hs) (sym (keys_here e))
         (subst (λ (l : List ℕ). MadeBy r w location (and_keys has (keys k ++ (get_or row k 0 ∷ [])) i) l ws hs) (sym (firsts_snoc ks (keys k) (get_or row k 0)))
@@ -166,8 +162,8 @@ module _ (w : ℕ) (location has : ℕ → ℕ → Bool) (ks : List ℕ) (row : 
             (omega (arith, ap length (ap (firsts ks) (all_keys k) ∙ firsts_append ks (keys k) (keep is_key (drop k row))), firsts_longer (firsts ks (keys k)) (keep is_key (drop k row)))),
       )
 
-  pub keyed_done : (k n : ℕ) (ws hs : List ℕ) → take k row ≡ row → Keyed k n ws hs → MadeBy (Maps n) w location (and_keys has (keep is_key row) i) (firsts ks (keep is_key row)) ws hs
-  keyed_done k n ws hs e K = subst (λ (l : List ℕ). MadeBy (Maps n) w location (and_keys has (keep is_key l) i) (firsts ks (keep is_key l)) ws hs) e K
+  pub keyed_done : (k n : ℕ) (ws hs : List ℕ) → take k row ≡ row → Keyed k n ws hs → MadeBy (Some n) w location (and_keys has (keep is_key row) i) (firsts ks (keep is_key row)) ws hs
+  keyed_done k n ws hs e K = subst (λ (l : List ℕ). MadeBy (Some n) w location (and_keys has (keep is_key l) i) (firsts ks (keep is_key l)) ws hs) e K
 
   pub keyed_few : (k n : ℕ) (ws hs : List ℕ) → Keyed k n ws hs → n ≤ length ks + k
   keyed_few k n ws hs K = omega (arith, K.0, firsts_few ks (keys k), keep-length is_key (take k row), length-take k row)
@@ -191,22 +187,22 @@ module _ (w : ℕ) (location has : ℕ → ℕ → Bool) (ks : List ℕ) (row : 
     a_key : (get_or row k 0 ≡ 4294967296 → ⊥) → is_key (get_or row k 0) ≡ true
     a_key d = ap not (ne_eqb (get_or row k 0) no_skill d)
 
-    module _ (d : get_or row k 0 ≡ 4294967296 → ⊥) (ws hs : List ℕ) {r : Made} (made : MadeBy r w location (and_key (and_keys has (keep is_key (take k row)) i) (get_or row k 0) i) (with_key (firsts ks (keep is_key (take k row))) (get_or row k 0)) ws hs) where
-      so : (q : Made) → r ≡ q → MadeBy q w location (and_keys has (keep is_key (take (k + 1) row)) i) (firsts ks (keep is_key (take (k + 1) row))) ws hs
+    module _ (d : get_or row k 0 ≡ 4294967296 → ⊥) (ws hs : List ℕ) {r : Option ℕ} (made : MadeBy r w location (and_key (and_keys has (keep is_key (take k row)) i) (get_or row k 0) i) (with_key (firsts ks (keep is_key (take k row))) (get_or row k 0)) ws hs) where
+      so : (q : Option ℕ) → r ≡ q → MadeBy q w location (and_keys has (keep is_key (take (k + 1) row)) i) (firsts ks (keep is_key (take (k + 1) row))) ws hs
       so q e =
-          subst (λ (x : Made). MadeBy x w location (and_keys has (keep is_key (take (k + 1) row)) i) (firsts ks (keep is_key (take (k + 1) row))) ws hs) e
+          subst (λ (x : Option ℕ). MadeBy x w location (and_keys has (keep is_key (take (k + 1) row)) i) (firsts ks (keep is_key (take (k + 1) row))) ws hs) e
           (keyed_here w location has ks row i k inside ws hs r (a_key d) made)
 
-      pub keyed_short : r ≡ Full → length ws < head_at w (length (firsts ks (keep is_key row)))
-      keyed_short e = keyed_full w location has ks row i (k + 1) ws (so Full e)
+      pub keyed_short : r ≡ None → length ws < head_at w (length (firsts ks (keep is_key row)))
+      keyed_short e = keyed_full w location has ks row i (k + 1) ws (so None e)
 
-      pub keyed_marked : {m : ℕ} → r ≡ Maps m → Keyed w location has ks row i (k + 1) m ws hs
-      keyed_marked {m} e = so (Maps m) e
+      pub keyed_marked : {m : ℕ} → r ≡ Some m → Keyed w location has ks row i (k + 1) m ws hs
+      keyed_marked {m} e = so (Some m) e
 
     pub keyed_passed : get_or row k 0 ≡ 4294967296 → (ws hs : List ℕ) → Keyed w location has ks row i k n ws hs → Keyed w location has ks row i (k + 1) n ws hs
     keyed_passed e ws hs K = keyed_on w location has ks row i k inside n ws hs (ap not (eq-eqb (get_or row k 0) no_skill e)) K
 
-  pub keyed_end : (ws hs : List ℕ) → length row ≡ 7 → k ≤ 7 → 7 ≤ k → Keyed w location has ks row i k n ws hs → MadeBy (Maps n) w location (and_keys has (keep is_key row) i) (firsts ks (keep is_key row)) ws hs
+  pub keyed_end : (ws hs : List ℕ) → length row ≡ 7 → k ≤ 7 → 7 ≤ k → Keyed w location has ks row i k n ws hs → MadeBy (Some n) w location (and_keys has (keep is_key row) i) (firsts ks (keep is_key row)) ws hs
   keyed_end ws hs long l m K = keyed_done w location has ks row i k n ws hs (take_all k row (omega (arith, long, m))) K
 
 -- ---- the columns of an object, in a loop
@@ -277,7 +273,7 @@ pub group_in : (k : Book) (f : Fit) (o : Item) {row : List ℕ} → row ≡ reac
 unfolding reach_of
 group_in k f o e = ap (λ (r : List ℕ). get_or r 7 0) e
 
-pub object_made : (k : Book) (f : Fit) (o : Item) (w i : ℕ) (location has : ℕ → ℕ → Bool) (ks ws hs : List ℕ) (r : Made) {row keys : List ℕ} → row ≡ reach_of k f o → keys ≡ key_row f o → MadeBy r w (and_columns location row 6 i) (and_keys has (keep is_key keys) i) (firsts ks (keep is_key keys)) ws hs → MadeBy r w (and_columns location (reach_of k f o) 6 i) (and_keys has (keys_of f o) i) (firsts ks (keys_of f o)) ws hs
+pub object_made : (k : Book) (f : Fit) (o : Item) (w i : ℕ) (location has : ℕ → ℕ → Bool) (ks ws hs : List ℕ) (r : Option ℕ) {row keys : List ℕ} → row ≡ reach_of k f o → keys ≡ key_row f o → MadeBy r w (and_columns location row 6 i) (and_keys has (keep is_key keys) i) (firsts ks (keep is_key keys)) ws hs → MadeBy r w (and_columns location (reach_of k f o) 6 i) (and_keys has (keys_of f o) i) (firsts ks (keys_of f o)) ws hs
 object_made k f o w i location has ks ws hs r {row} {keys} e q M =
     subst (λ (l : List ℕ). MadeBy r w (and_columns location (reach_of k f o) 6 i) (and_keys has (keep is_key l) i) (firsts ks (keep is_key l)) ws hs) q
     (subst (λ (l : List ℕ). MadeBy r w (and_columns location l 6 i) (and_keys has (keep is_key keys) i) (firsts ks (keep is_key keys)) ws hs) e M)
@@ -328,7 +324,7 @@ module _ (k : Book) (f : Fit) where
 
   -- n maps of the first i objects
   abbrev pub Making : ℕ → ℕ → ℕ → List ℕ → List ℕ → Type 0
-  Making w i n ws hs = MadeBy (Maps n) w (let_in_before k f i) (has_before f i) (keys_before f i) ws hs
+  Making w i n ws hs = MadeBy (Some n) w (let_in_before k f i) (has_before f i) (keys_before f i) ws hs
 
   let_next : (i c j : ℕ) → and_columns (let_in_before k f i) (reach_of k f (object f i)) 6 i c j ≡ let_in_before k f (i + 1) c j
   let_next i c j =
@@ -340,12 +336,12 @@ module _ (k : Book) (f : Fit) where
       grow (ltb j i) (eqb j i) (has_key f x j) (has_key f x i) (λ e. ap (has_key f x) (eqb-true j i e))
       ∙ ap (λ (b : Bool). b && has_key f x j) (sym (ltb_next j i))
 
-  pub making_more : (w i : ℕ) (ws hs : List ℕ) {r : Made} (q : Made) → r ≡ q → MadeBy r w (and_columns (let_in_before k f i) (reach_of k f (object f i)) 6 i) (and_keys (has_before f i) (keys_of f (object f i)) i) (firsts (keys_before f i) (keys_of f (object f i))) ws hs → MadeBy q w (let_in_before k f (i + 1)) (has_before f (i + 1)) (keys_before f (i + 1)) ws hs
+  pub making_more : (w i : ℕ) (ws hs : List ℕ) {r : Option ℕ} (q : Option ℕ) → r ≡ q → MadeBy r w (and_columns (let_in_before k f i) (reach_of k f (object f i)) 6 i) (and_keys (has_before f i) (keys_of f (object f i)) i) (firsts (keys_before f i) (keys_of f (object f i))) ws hs → MadeBy q w (let_in_before k f (i + 1)) (has_before f (i + 1)) (keys_before f (i + 1)) ws hs
   making_more w i ws hs q e M =
       subst (λ (l : List ℕ). MadeBy q w (let_in_before k f (i + 1)) (has_before f (i + 1)) l ws hs) (sym (keys_next i))
       (subst (λ (g : ℕ → ℕ → Bool). MadeBy q w (let_in_before k f (i + 1)) g (firsts (keys_before f i) (keys_of f (object f i))) ws hs) (λ t x j. has_next i x j t)
       (subst (λ (g : ℕ → ℕ → Bool). MadeBy q w g (and_keys (has_before f i) (keys_of f (object f i)) i) (firsts (keys_before f i) (keys_of f (object f i))) ws hs) (λ t c j. let_next i c j t)
-      (subst (λ (x : Made). MadeBy x w (and_columns (let_in_before k f i) (reach_of k f (object f i)) 6 i) (and_keys (has_before f i) (keys_of f (object f i)) i) (firsts (keys_before f i) (keys_of f (object f i))) ws hs) e M)))
+      (subst (λ (x : Option ℕ). MadeBy x w (and_columns (let_in_before k f i) (reach_of k f (object f i)) 6 i) (and_keys (has_before f i) (keys_of f (object f i)) i) (firsts (keys_before f i) (keys_of f (object f i))) ws hs) e M)))
 
   pub making_counting : (w i n : ℕ) (ws hs : List ℕ) → Making w i n ws hs → Counting n w ws hs
   making_counting w i n ws hs M =
@@ -377,19 +373,19 @@ module _ (k : Book) (f : Fit) where
   making_start {w} {ws₀} {ws} {hs} e l h Z = subst (λ (x : List ℕ). Making w 0 0 ws x) (sym e) (making_none l h Z)
 
   module _ (w long : ℕ) (e : w ≡ width_of (length f.objects)) where
-    pub built_few : {ws hs : List ℕ} → length ws ≡ long → long < 6 * w → Built k f long 0 ws hs
+    pub built_few : {ws hs : List ℕ} → length ws ≡ long → long < 6 * w → Built k f long None ws hs
     unfolding head_at
     built_few l h =
         record {
-          served = ap (λ (t : Bool). cond t (words_for f) 0) (sym (lt-leb (words_for f) long (omega (arith, h, e))));
+          served = ap (λ (t : Bool). cond t (Some (words_for f)) None) (sym (lt-leb (words_for f) long (omega (arith, h, e))));
           kept = l;
           maps = λ g. absurd (omega (arith, h, g, e));
         }
 
-    pub built_full : (i : ℕ) {ws hs : List ℕ} → i + 1 ≤ length f.objects → length ws ≡ long → length ws < head_at w (length (keys_before f (i + 1))) → Built k f long 0 ws hs
+    pub built_full : (i : ℕ) {ws hs : List ℕ} → i + 1 ≤ length f.objects → length ws ≡ long → length ws < head_at w (length (keys_before f (i + 1))) → Built k f long None ws hs
     built_full i g l h =
         record {
-          served = ap (λ (t : Bool). cond t (words_for f) 0) (sym (lt-leb (words_for f) long short));
+          served = ap (λ (t : Bool). cond t (Some (words_for f)) None) (sym (lt-leb (words_for f) long short));
           kept = l;
           maps = λ q. absurd (omega (arith, short, q));
         }
@@ -403,10 +399,10 @@ module _ (k : Book) (f : Fit) where
         short : long < words_for f
         short = omega (arith, h, l, head_more w (length (keys_before f (i + 1))) (length (keys_before f (length f.objects))) later, ap (λ (n : ℕ). head_at n (length (keys_before f (length f.objects)))) e)
 
-    pub built_all : (i n : ℕ) {r : ℕ} {ws hs : List ℕ} → i ≡ length f.objects → length ws ≡ long → Making w i n ws hs → r ≡ head_at w n → Built k f long r ws hs
+    pub built_all : (i n : ℕ) {r : ℕ} {ws hs : List ℕ} → i ≡ length f.objects → length ws ≡ long → Making w i n ws hs → r ≡ head_at w n → Built k f long (Some r) ws hs
     built_all i n {r} {ws} {hs} g l M q =
         record {
-          served = q ∙ all ∙ ap (λ (t : Bool). cond t (words_for f) 0) (sym (le-leb (words_for f) long (omega (arith, sym all, ap (head_at w) M.0, M.1.fits, l))));
+          served = ap Some (q ∙ all) ∙ ap (λ (t : Bool). cond t (Some (words_for f)) None) (sym (le-leb (words_for f) long (omega (arith, sym all, ap (head_at w) M.0, M.1.fits, l))));
           kept = l;
           maps = λ z. subst (λ (v : ℕ). Mapped v (let_in_before k f (length f.objects)) (has_before f (length f.objects)) (keys_before f (length f.objects)) ws hs) e (subst (λ (j : ℕ). Mapped w (let_in_before k f j) (has_before f j) (keys_before f j) ws hs) g M.1);
         }

@@ -1,13 +1,13 @@
 -- The two stretches of an aim: what they have in common.
-use Prim.Native.Nat.{ℕ, ◌+◌, ◌-◌, ◌*◌, ◌≤◌, ◌<◌}
+use Rattle.std.specs.Prelude.{Some, None}
+use Prim.Native.Nat.{ℕ, ◌+◌, ◌*◌, ◌≤◌, ◌<◌}
 use native.Mathlib.Omega.{arith}
-use mathlib.Core.Path.{◌≡◌, refl, sym, ap, subst, ◌∙◌}
+use mathlib.Core.Path.{◌≡◌, refl, sym, ap, ◌∙◌}
 use mathlib.Core.Bool.{Bool, true, false, ◌&&◌}
 use mathlib.Core.List.{List, []}
-use lib.Dec.{eqb}
-use lib.ListN.{length, get_or}
-use Rattle.laws.specs.Lists.{some?, keep, from}
-use Rattle.laws.proofs.Bools.{and_false_right, and_true_right, not-passed, both_ways}
+use lib.ListN.{length}
+use Rattle.laws.specs.Lists.{keep, from}
+use Rattle.laws.proofs.Bools.{and_false_right, not-passed, both_ways}
 use Rattle.laws.proofs.Keep.{keep_same, keep-nothing}
 use Rattle.maps.specs.Words.{map_word, MapAt, ones_cut, cut_places}
 use Rattle.maps.specs.Keys.{head_at}
@@ -35,32 +35,29 @@ module _ {w : ℕ} {location has : ℕ → ℕ → Bool} {ks ws hs : List ℕ} (
       twice true = refl
       twice false = refl
 
-  module _ (x m : ℕ) (F : Found ks x m) where
-    -- cut by a key's map
-    module _ (p : 0 < m) where
-      there : m - 1 < length ks
-      there = omega (arith, F.inside, p)
+  -- cut by a key's map
+  module _ (x m : ℕ) (F : Found ks x (Some m)) where
+    pub test_inside : head_at w m + 1 + n ≤ length ws
+    test_inside = omega (arith, head_later w m (length ks) F.0, M.fits, h)
 
-      pub test_inside : head_at w (m - 1) + 1 + n ≤ length ws
-      test_inside = omega (arith, head_later w (m - 1) (length ks) there, M.fits, h)
+    own : MapAt ws (head_at w m + 1) n (has x)
+    own v g = M.keyed m F.0 v (omega (arith, g, h)) ∙ ap (λ (y : ℕ). map_word (has y) v) F.1
 
-      own : MapAt ws (head_at w (m - 1) + 1) n (has x)
-      own v g = M.keyed (m - 1) there v (omega (arith, g, h)) ∙ ap (λ (y : ℕ). map_word (has y) v) (F.is p)
+    pub both_keyed : Both ws (c * w) (head_at w m + 1) n n (λ i. location c i && has x i)
+    both_keyed =
+        record {
+          places = places-cut (location c) (has x) ws (c * w) (head_at w m + 1) n near own;
+          count = ones_cut_lem (location c) (has x) ws (c * w) (head_at w m + 1) n near own;
+        }
 
-      pub both_keyed : Both ws (c * w) (head_at w (m - 1) + 1) n n (λ i. location c i && has x i)
-      both_keyed =
-          record {
-            places = places-cut (location c) (has x) ws (c * w) (head_at w (m - 1) + 1) n near own;
-            count = ones_cut_lem (location c) (has x) ws (c * w) (head_at w (m - 1) + 1) n near own;
-          }
+  -- nobody has the key
+  module _ (x : ℕ) (F : Found ks x None) where
+    pub nobody : (i : ℕ) → location c i && has x i ≡ false
+    nobody i = ap (λ (b : Bool). location c i && b) (not-passed (has x i) (λ e. both_ways (M.only x i e) F)) ∙ and_false_right (location c i)
 
-    -- nobody has the key
-    pub nobody : m ≡ 0 → (i : ℕ) → location c i && has x i ≡ false
-    nobody z i = ap (λ (b : Bool). location c i && b) (not-passed (has x i) (λ e. both_ways (M.only x i e) (F.none z))) ∙ and_false_right (location c i)
-
-    pub both_none : m ≡ 0 → Both ws 0 0 0 n (λ i. location c i && has x i)
+    pub both_none : Both ws 0 0 0 n (λ i. location c i && has x i)
     unfolding cut_places ones_cut
-    both_none z = record { places = sym none; count = sym (ap length none) }
+    both_none = record { places = sym none; count = sym (ap length none) }
       where
         none : keep (λ i. location c i && has x i) (from 0 (n * 64)) ≡ []
-        none = keep_same (λ i. location c i && has x i) (λ i. false) (nobody z) (from 0 (n * 64)) ∙ keep-nothing (from 0 (n * 64))
+        none = keep_same (λ i. location c i && has x i) (λ i. false) nobody (from 0 (n * 64)) ∙ keep-nothing (from 0 (n * 64))

@@ -1,4 +1,5 @@
 -- The map of a key is sought: from the last of its residue to the ones before it.
+use Rattle.std.specs.Prelude.{Some, None}
 use Prim.Native.Nat.{ℕ, zero, suc, ◌+◌, ◌-◌, ◌*◌, ◌/◌, ◌%◌, ◌≤◌, ◌<◌}
 use native.Mathlib.Omega.{arith}
 use native.Mathlib.Nat.{eq-or-lt_of_le, mul-le-mul, mul-le-mul_right, add-mul}
@@ -9,7 +10,6 @@ use mathlib.Core.Logic.{◌⊎◌, inl, inr}
 use lib.Dec.{eqb}
 use lib.ListN.{length, get_or}
 use borrow.Author.Tests.{eqb-true, eqb-false, ne_eqb}
-use Rattle.laws.specs.Lists.{some?}
 use Rattle.laws.proofs.Every.{none_by}
 use Rattle.maps.specs.Keys.{head_at}
 use Rattle.maps.specs.Maps.{before, Mapped, Found}
@@ -121,8 +121,8 @@ module _ {w : ℕ} {location has : ℕ → ℕ → Bool} {ks ws hs : List ℕ} (
     pub seek_less : {head : ℕ} → head ≡ get_or ws (head_at w (m - 1)) 0 → head / 17179869184 < m
     seek_less e = omega (arith, rest_is e, before-le ks (get_or ks (m - 1) 0 % 1024) (m - 1))
 
-    pub seek_found : {head : ℕ} → head ≡ get_or ws (head_at w (m - 1)) 0 → head % 17179869184 ≡ x → Found ks x m
-    seek_found e h = record { inside = S.inside; none = λ z. absurd (omega (arith, z, p)); is = λ q. sym (key_is e) ∙ h }
+    pub seek_found : {head : ℕ} → head ≡ get_or ws (head_at w (m - 1)) 0 → head % 17179869184 ≡ x → Found ks x (Some (m - 1))
+    seek_found e h = (there, sym (key_is e) ∙ h)
 
     pub seek_next : {head : ℕ} → head ≡ get_or ws (head_at w (m - 1)) 0 → (head % 17179869184 ≡ x → ⊥) → Seeking ks x (head / 17179869184)
     seek_next {head} e n = subst (Seeking ks x) (sym (rest_is e)) next
@@ -149,10 +149,5 @@ module _ {w : ℕ} {location has : ℕ → ℕ → Bool} {ks ws hs : List ℕ} (
                     sides (inl v) = before_gap ks (get_or ks (m - 1) 0 % 1024) (m - 1) j l v (ap (λ (i : ℕ). i % 1024) q ∙ sym residue)
                     sides (inr v) = S.gone j (omega (arith, v, p, eqb-false j (m - 1) z)) h q
 
-  pub seek_none : {m : ℕ} → Seeking ks x m → m ≡ 0 → Found ks x 0
-  seek_none S z =
-      record {
-        inside = omega arith;
-        none = λ q. none_by (eqb x) ks 0 (λ j h. ne_eqb x (get_or ks j 0) (λ e. S.gone j (omega (arith, z)) h (sym e)));
-        is = λ q. absurd (omega (arith, q));
-      }
+  pub seek_none : {m : ℕ} → Seeking ks x m → m ≡ 0 → Found ks x None
+  seek_none S z = none_by (eqb x) ks 0 (λ j h. ne_eqb x (get_or ks j 0) (λ e. S.gone j (omega (arith, z)) h (sym e)))

@@ -1,5 +1,5 @@
 -- What stays and what is new when a bit is set, and when a map is added.
-use Prim.Native.Nat.{ℕ, zero, suc, ◌+◌, ◌-◌, ◌*◌, ◌/◌, ◌%◌, ◌^◌, ◌≤◌, ◌<◌}
+use Prim.Native.Nat.{ℕ, zero, suc, ◌+◌, ◌*◌, ◌/◌, ◌%◌, ◌^◌, ◌≤◌, ◌<◌}
 use native.Mathlib.Omega.{arith}
 use native.Mathlib.Nat.{eq-or-lt_of_le}
 use native.Mathlib.Numerals.{add-one}
@@ -13,7 +13,7 @@ use lib.ListN.{length, get_or, set, length-set, length-append, get_or-append}
 use lib.Seq.{get_or-set_same, get_or-set_other}
 use borrow.Author.Tests.{eqb-true, eqb-false, eq-eqb, ne_eqb}
 use Rattle.laws.specs.Lists.{some?}
-use Rattle.laws.proofs.Bools.{either, and_left, or_none_right, or_true_right, not-passed, both_ways}
+use Rattle.laws.proofs.Bools.{either, and_left, or_none_right, not-passed, both_ways}
 use Rattle.laws.proofs.Every.{some_by, some_snoc, none_at}
 use Rattle.maps.specs.Words.{map_word, MapAt, with_bit}
 use Rattle.maps.specs.Keys.{head_at}

@@ -1,15 +1,15 @@
 -- Whom an aim hits is whom its location's map and its test's map have in common.
-use Prim.Native.Nat.{ℕ, zero, suc, ◌+◌, ◌-◌, ◌*◌, ◌≤◌, ◌<◌}
+use Prim.Native.Nat.{ℕ, zero, suc, ◌≤◌, ◌<◌}
 use native.Mathlib.Omega.{arith}
-use mathlib.Core.Path.{◌≡◌, refl, sym, ap, subst, ◌∙◌}
+use mathlib.Core.Path.{◌≡◌, refl, sym, ap, ◌∙◌}
 use mathlib.Core.Bool.{Bool, true, false, not, ◌&&◌, ◌||◌, cond}
-use mathlib.Core.List.{List, [], ◌∷◌, ◌++◌, map}
+use mathlib.Core.List.{List, [], ◌∷◌}
 use mathlib.Core.Logic.{◌⊎◌, inl, inr}
-use lib.Dec.{eqb, leb, ltb}
-use lib.ListN.{length, get_or, replicate, length-map, get_or-eq_default}
-use borrow.Author.Tests.{eqb-true, eqb-false, eq-eqb, ne_eqb, lt-ltb, le-ltb}
+use lib.Dec.{eqb, leb}
+use lib.ListN.{length, get_or, replicate}
+use borrow.Author.Tests.{eqb-true, eq-eqb, ne_eqb, lt-ltb, le-ltb}
 use Rattle.laws.specs.Lists.{some?, put, keep, from}
-use Rattle.laws.proofs.Bools.{same_test, and_left, and_right, and_both, and_false_right, or_none_right, both_ways, true_or_false}
+use Rattle.laws.proofs.Bools.{same_test, and_left, and_right, and_both, and_false_right, or_none_right}
 use Rattle.laws.proofs.Every.{some_append, some_same, none_by}
 use Rattle.laws.proofs.Keep.{keep_same}
 use Rattle.laws.proofs.Maps.{map_at}
@@ -24,7 +24,6 @@ use Rattle.hits.specs.declared.Test.{Test}
 use Rattle.hits.specs.declared.Test.TheVariants.{All, OfGroup, Requiring}
 use Rattle.hits.specs.Reach.{no_skill, required_bits, reach_of}
 use Rattle.hits.specs.Who.{asked, passes_by, passes, within, Aims}
-use Rattle.hits.specs.Steps.{struck_by}
 use Rattle.hits.proofs.Ranges.{keep_range}
 use Rattle.maps.specs.Keys.{group_key, key_row, is_key, keys_of, has_key, let_in}
 use Rattle.maps.specs.Maps.{let_in_before, has_before}

@@ -1,13 +1,13 @@
 -- The keys of an object, in a row of seven.
 use Prim.Native.Nat.{ℕ, zero, suc, ◌+◌, ◌≤◌, ◌<◌}
 use native.Mathlib.Omega.{arith}
-use mathlib.Core.Path.{◌≡◌, refl, sym, ap, subst, ◌∙◌}
+use mathlib.Core.Path.{◌≡◌, sym, ap, subst, ◌∙◌}
 use mathlib.Core.Bool.{Bool, true, false, cond}
 use mathlib.Core.List.{List, [], ◌∷◌, ◌++◌, map}
 use mathlib.Core.Option.{Option, none, some}
 use lib.IntN.{ℤ}
 use lib.Ieee.Casts.{to_signed_in}
-use lib.ListN.{length, get_or, replicate}
+use lib.ListN.{get_or, replicate}
 use mir.Syntax.{w32}
 use mir.ValLaws.{of_z_fits}
 use Rattle.rules.specs.Bytes.{bits}

@@ -1,34 +1,45 @@
--- Words made zero one after another.
-use Prim.Native.Nat.{ℕ, ◌+◌, ◌≤◌, ◌<◌}
+-- Words made zero in the middle of others.
+use Prim.Native.Nat.{ℕ, ◌+◌, ◌-◌, ◌≤◌}
 use native.Mathlib.Omega.{arith}
-use native.Mathlib.Nat.{eq-or-lt_of_le, zero-add}
-use mathlib.Core.Path.{◌≡◌, refl, sym, ap, subst, ◌∙◌}
-use mathlib.Core.List.{List}
-use mathlib.Core.Logic.{◌⊎◌, inl, inr}
-use lib.ListN.{length, get_or, set, replicate, length-set, length-replicate, get_or-replicate}
-use lib.Seq.{ext_get_or, get_or-set_same, get_or-set_other}
+use mathlib.Core.Path.{◌≡◌, ap, ◌∙◌}
+use mathlib.Core.List.{List, ◌++◌}
+use lib.ListN.{length, get_or, take, drop, replicate, length-append, length-drop, length-replicate, get_or-append, get_or-replicate}
+use lib.Seq.{get_or-take, get_or-drop, length-take-le}
+use Rattle.std.proofs.lemmas.List.{get_or-append_right}
 use Rattle.maps.specs.Maps.{Zeroed}
 
-pub zeroed_none : {a : ℕ} {ws : List ℕ} → Zeroed a 0 ws ws
-zeroed_none = record { long = refl; zero = λ w h. absurd (omega (arith, h)); before = λ j h. refl; behind = λ j h. refl }
-
-pub zeroed_next : {a k : ℕ} {ws₀ ws : List ℕ} → Zeroed a k ws₀ ws → a + k < length ws → Zeroed a (k + 1) ws₀ (set ws (a + k) 0)
-zeroed_next {a} {k} {ws₀} {ws} Z h =
+zeroed-put : (a n : ℕ) (ws : List ℕ) → a + n ≤ length ws → Zeroed a n ws (take a ws ++ (replicate n 0 ++ drop n (drop a ws)))
+zeroed-put a n ws h =
     record {
-      long = length-set ws (a + k) 0 ∙ Z.long;
-      zero = λ w l. by w (eq-or-lt_of_le {n = w} {m = k} (omega (arith, l)));
-      before = λ j l. get_or-set_other ws (a + k) j 0 0 (λ e. omega (arith, e, l)) ∙ Z.before j l;
-      behind = λ j l. get_or-set_other ws (a + k) j 0 0 (λ e. omega (arith, e, l)) ∙ Z.behind j (omega (arith, l));
+      long = omega (arith, length-append (take a ws) rest, length-append (replicate n 0) (drop n (drop a ws)), front, length-replicate {A = ℕ} n 0, length-drop n (drop a ws), length-drop a ws);
+      zero = λ w l.
+          get_or-append_right (take a ws) rest a (a + w) 0 front (omega arith)
+          ∙ ap (λ (k : ℕ). get_or rest k 0) (within w)
+          ∙ get_or-append (replicate n 0) (drop n (drop a ws)) 0 w (omega (arith, l, length-replicate {A = ℕ} n 0))
+          ∙ get_or-replicate n w 0 0 l;
+      before = λ j l. get_or-append (take a ws) rest 0 j (omega (arith, l, front)) ∙ get_or-take a ws j 0 l;
+      behind = λ j l.
+          get_or-append_right (take a ws) rest a j 0 front (omega (arith, l))
+          ∙ get_or-append_right (replicate n 0) (drop n (drop a ws)) n (j - a) 0 (length-replicate {A = ℕ} n 0) (omega (arith, l))
+          ∙ get_or-drop n (drop a ws) (j - a - n) 0
+          ∙ get_or-drop a ws (n + (j - a - n)) 0
+          ∙ ap (λ (k : ℕ). get_or ws k 0) (past j l);
     }
   where
-    by : (w : ℕ) → (w ≡ k) ⊎ (w < k) → get_or (set ws (a + k) 0) (a + w) 0 ≡ 0
-    by w (inl e) = ap (λ (n : ℕ). get_or (set ws (a + k) 0) (a + n) 0) e ∙ get_or-set_same ws (a + k) 0 0 h
-    by w (inr l) = get_or-set_other ws (a + k) (a + w) 0 0 (λ e. omega (arith, e, l)) ∙ Z.zero w l
+    rest : List ℕ
+    rest = replicate n 0 ++ drop n (drop a ws)
 
-pub zeroed_done : {a k n : ℕ} {ws₀ ws : List ℕ} → Zeroed a k ws₀ ws → k ≤ n → n ≤ k → Zeroed a n ws₀ ws
-zeroed_done {a} {k} {n} {ws₀} {ws} Z l h = subst (λ (m : ℕ). Zeroed a m ws₀ ws) (omega (arith, l, h)) Z
+    front : length (take a ws) ≡ a
+    front = length-take-le a ws (omega arith)
 
-pub zeroed_all : {n : ℕ} {ws₀ ws : List ℕ} → Zeroed 0 n ws₀ ws → n ≡ length ws₀ → ws ≡ replicate (length ws₀) 0
-zeroed_all {n} {ws₀} {ws} Z e =
-    ext_get_or 0 ws (replicate (length ws₀) 0) (Z.long ∙ sym (length-replicate (length ws₀) 0))
-    (λ j h. ap (λ (m : ℕ). get_or ws m 0) (sym (zero-add j)) ∙ Z.zero j (omega (arith, h, Z.long, e)) ∙ sym (get_or-replicate (length ws₀) j 0 0 (omega (arith, h, Z.long))))
+    within : (w : ℕ) → a + w - a ≡ w
+    within w = omega arith
+
+    past : (j : ℕ) → a + n ≤ j → a + (n + (j - a - n)) ≡ j
+    past j l = omega (arith, l)
+
+pub zeroed-part : (a n : ℕ) (ws part : List ℕ) → a + n ≤ length ws → part ≡ replicate (length (take (a + n - a) (drop a ws))) 0 → Zeroed a n ws (take a ws ++ (part ++ drop (a + n - a) (drop a ws)))
+zeroed-part a n ws part h e =
+    let m : a + n - a ≡ n = omega arith in
+    let long : length (take n (drop a ws)) ≡ n = length-take-le n (drop a ws) (omega (arith, length-drop a ws)) in
+    rw (e, m, long) (zeroed-put a n ws h)

@@ -1,11 +1,9 @@
 -- What words hold where they hold maps. Definitions only.
-use Rattle.std.specs.Prelude.{ℕ, zero, suc, ◌+◌, ◌*◌, ◌-◌, ◌%◌, ◌≤◌, ◌<◌, ◌^◌, ◌≡◌, Bool, true, false, not, ◌&&◌, ◌||◌, cond, List, eqb, leb, ltb, length, get_or}
+use Rattle.std.specs.Prelude.{ℕ, zero, suc, ◌+◌, ◌*◌, ◌%◌, ◌≤◌, ◌<◌, ◌≡◌, Bool, true, false, not, ◌&&◌, ◌||◌, cond, List, eqb, leb, ltb, length, get_or, Option, Some, None}
 use Rattle.laws.specs.Lists.{some?}
 use Rattle.rules.specs.Sheet.{Book, Fit}
 use Rattle.maps.specs.Words.{MapAt}
 use Rattle.maps.specs.Keys.{head_at, has_key, let_in, keys_before, width_of, words_for}
-use Rattle.maps.specs.declared.build.Made.{Made}
-use Rattle.maps.specs.declared.build.Made.TheVariants.{Maps, Full}
 
 -- of the keys before m, the last of a residue, by its number plus 1; 0 where there is none
 abbrev pub before : List ℕ → ℕ → ℕ → ℕ
@@ -38,11 +36,10 @@ pub record Counting (n w : ℕ) (ws hs : List ℕ) : Type 0 where
   pub held : Holding w ws hs
   pub count : n ≡ length held.keys
 
--- the map of a key among ks, by its number plus 1; 0 where there is none
-pub record Found (ks : List ℕ) (x r : ℕ) : Type 0 where
-  pub inside : r ≤ length ks
-  pub none : r ≡ 0 → some? (eqb x) ks ≡ false
-  pub is : 0 < r → get_or ks (r - 1) 0 ≡ x
+-- the map of a key among ks, by its number
+abbrev pub Found : List ℕ → ℕ → Option ℕ → Type 0
+Found ks x (Some m) = (m < length ks) × (get_or ks m 0 ≡ x)
+Found ks x None = some? (eqb x) ks ≡ false
 
 -- so many words from a place on are zero, the others as they were
 pub record Zeroed (a n : ℕ) (ws₀ ws : List ℕ) : Type 0 where
@@ -52,9 +49,9 @@ pub record Zeroed (a n : ℕ) (ws₀ ws : List ℕ) : Type 0 where
   pub behind : (j : ℕ) → a + n ≤ j → get_or ws j 0 ≡ get_or ws₀ j 0
 
 -- maps of the keys ks were made, or the words are too few for them
-abbrev pub MadeBy : Made → ℕ → (ℕ → ℕ → Bool) → (ℕ → ℕ → Bool) → List ℕ → List ℕ → List ℕ → Type 0
-MadeBy (Maps n) w location has ks ws hs = (n ≡ length ks) × Mapped w location has ks ws hs
-MadeBy Full w location has ks ws hs = length ws < head_at w (length ks)
+abbrev pub MadeBy : Option ℕ → ℕ → (ℕ → ℕ → Bool) → (ℕ → ℕ → Bool) → List ℕ → List ℕ → List ℕ → Type 0
+MadeBy (Some n) w location has ks ws hs = (n ≡ length ks) × Mapped w location has ks ws hs
+MadeBy None w location has ks ws hs = length ws < head_at w (length ks)
 
 -- ---- what is let in or has a key, with one object more
 
@@ -79,8 +76,8 @@ abbrev pub MapsOf : Book → Fit → List ℕ → List ℕ → Type 0
 MapsOf k f ws hs =
     Mapped (width_of (length f.objects)) (let_in_before k f (length f.objects)) (has_before f (length f.objects)) (keys_before f (length f.objects)) ws hs
 
--- what is built in so many words: how many of them serve, 0 where they are too few; and the maps
-pub record Built (k : Book) (f : Fit) (long r : ℕ) (ws hs : List ℕ) : Type 0 where
-  pub served : r ≡ cond (leb (words_for f) long) (words_for f) 0
+-- what is built in so many words: how many of them serve, none where they are too few; and the maps
+pub record Built (k : Book) (f : Fit) (long : ℕ) (r : Option ℕ) (ws hs : List ℕ) : Type 0 where
+  pub served : r ≡ cond (leb (words_for f) long) (Some (words_for f)) None
   pub kept : length ws ≡ long
   pub maps : words_for f ≤ long → MapsOf k f ws hs

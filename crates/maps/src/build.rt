@@ -12,7 +12,7 @@ ghost use Rattle.maps.specs.Maps.{Mapped, Counting, MadeBy, Built, and_key, and_
 use super::{KEYS, clear_map, find, group_key, head_of, width_of};
 use columns::{TABLE_OBJECTS, TablePairs};
 use hits::ReachRow;
-use hits::reach::{reach_of, required_skills};
+use hits::reach::{NO_SKILL, reach_of, required_skills};
 use info::header::count_of;
 use info::records::object;
 use rules::{CHARGE, ITEM};
@@ -20,20 +20,10 @@ use rules::{CHARGE, ITEM};
 // The six locations, as the first columns of an object.
 const LOCATIONS: usize = 6;
 
-// No skill: above every 32 bits.
-const NO_SKILL: u64 = 4294967296;
-
 // The keys of an object.
 const KEY_WIDTH: usize = 7;
 
 type KeyRow = [u64; KEY_WIDTH];
-
-// How many maps there are; or that the words are too few for one more.
-#[derive(Clone, Copy)]
-pub enum Made {
-    Maps(usize),
-    Full,
-}
 
 // The bit of object i in the map at a place.
 fn set_bit(words: &mut [u64], at: usize, i: usize)
@@ -63,27 +53,33 @@ fn add_map(words: &mut [u64], heads: &mut [u32], width: usize, maps: usize, key:
     heads[slot] = (maps + 1) as u32;
 }
 
-// Object i has a key: its bit in the key's map, which is made where there is none.
-fn mark(words: &mut [u64], heads: &mut [u32], width: usize, maps: usize, key: u64, i: usize) -> Made
+// Object i has a key: its bit in the key's map, which is made where there is none. How many maps there are; none where the words are too few.
+fn mark(
+    words: &mut [u64],
+    heads: &mut [u32],
+    width: usize,
+    maps: usize,
+    key: u64,
+    i: usize,
+) -> Option<usize>
     requires counted { Counting maps width words.old heads.old }
     requires small { (key < 17179869184) × (maps < 7168) × (i < width * 64) }
     ensures marked { (location has : ℕ → ℕ → Bool) (ks : List ℕ) → Mapped width location has ks words.old heads.old → maps ≡ length ks
         → MadeBy result width location (and_key has key i) (with_key ks key) words.new heads.new }
 {
-    let m = find(words, heads, width, key);
-    if m != 0 {
-        let at = head_of(width, m - 1) + 1;
+    if let Some(m) = find(words, heads, width, key) {
+        let at = head_of(width, m) + 1;
         set_bit(words, at, i);
-        return Made::Maps(maps);
+        return Some(maps);
     }
     let at = head_of(width, maps);
     let long = words.len();
     if long < at + 1 + width {
-        return Made::Full;
+        return None;
     }
     add_map(words, heads, width, maps, key);
     set_bit(words, at + 1, i);
-    Made::Maps(maps + 1)
+    Some(maps + 1)
 }
 
 // Object i has the keys of a row; those that are no skill are passed over.
@@ -94,7 +90,7 @@ fn mark_keys(
     maps: usize,
     keys: KeyRow,
     i: usize,
-) -> Made
+) -> Option<usize>
     requires counted { Counting maps width words.old heads.old }
     requires small { (maps + 7 ≤ 7168) × (i < width * 64) }
     requires keys_small { (length keys ≡ 7) × ((k : ℕ) → k < 7 → get_or keys k 0 < 17179869184) }
@@ -102,19 +98,12 @@ fn mark_keys(
         → MadeBy result width location (and_keys has (keep is_key keys) i) (firsts ks (keep is_key keys)) words.new heads.new }
 {
     let mut n = maps;
-    let mut k = 0;
-    while k < KEY_WIDTH {
-        let key = keys[k];
-        k += 1;
+    for key in keys {
         if key != NO_SKILL {
-            let made = mark(words, heads, width, n, key, i);
-            let Made::Maps(m) = made else {
-                return Made::Full;
-            };
-            n = m;
+            n = mark(words, heads, width, n, key, i)?;
         }
     }
-    Made::Maps(n)
+    Some(n)
 }
 
 // The locations that let object i in, by its columns.
@@ -123,11 +112,9 @@ fn mark_columns(words: &mut [u64], width: usize, row: ReachRow, i: usize)
     ensures marked { (location has : ℕ → ℕ → Bool) (ks hs : List ℕ) → Mapped width location has ks words.old hs
         → Mapped width (and_columns location row 6 i) has ks words.new hs }
 {
-    let mut c = 0;
-    while c < LOCATIONS {
+    for c in 0..LOCATIONS {
         let at = c * width;
         let flag = row[c];
-        c += 1;
         if flag != 0 {
             set_bit(words, at, i);
         }
@@ -163,7 +150,7 @@ fn mark_object(
     width: usize,
     maps: usize,
     i: usize,
-) -> Made
+) -> Option<usize>
     requires held_book { HeldBook book.now pairs.now }
     requires sound_fit { SoundFit fit.now pairs.now }
     requires an_object { i < count_of pairs.now 6 }
@@ -180,14 +167,14 @@ fn mark_object(
     mark_keys(words, heads, width, maps, keys, i)
 }
 
-// The maps of all objects, with heads that are zero: how many words they take; 0 where the words are too few.
+// The maps of all objects, with heads that are zero: how many words they take; none where the words are too few.
 pub fn build(
     words: &mut [u64],
     heads: &mut [u32],
     book: &[u8],
     fit: &[u8],
     pairs: &TablePairs,
-) -> usize
+) -> Option<usize>
     requires fresh { heads.old ≡ replicate 1024 0 }
     requires held_book { HeldBook book.now pairs.now }
     requires sound_fit { SoundFit fit.now pairs.now }
@@ -198,18 +185,12 @@ pub fn build(
     let all = LOCATIONS * width;
     let long = words.len();
     if long < all {
-        return 0;
+        return None;
     }
     clear_map(words, 0, all);
     let mut n = 0;
-    let mut i = 0;
-    while i < objects {
-        let made = mark_object(words, heads, book, fit, pairs, width, n, i);
-        let Made::Maps(m) = made else {
-            return 0;
-        };
-        n = m;
-        i += 1;
+    for i in 0..objects {
+        n = mark_object(words, heads, book, fit, pairs, width, n, i)?;
     }
-    head_of(width, n)
+    Some(head_of(width, n))
 }

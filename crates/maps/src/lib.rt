@@ -36,22 +36,23 @@ pub fn head_of(width: usize, m: usize) -> usize
     6 * width + m * (width + 1)
 }
 
-// The map of a key, by its number plus 1; 0 where none has it.
-pub fn find(words: &[u64], heads: &[u32], width: usize, key: u64) -> usize
+// The map of a key, by its number.
+pub fn find(words: &[u64], heads: &[u32], width: usize, key: u64) -> Option<usize>
     requires maps { Holding width words.now heads.now }
     ensures found { (location has : ℕ → ℕ → Bool) (ks : List ℕ) → Mapped width location has ks words.now heads.now → Found ks key result }
 {
     let slot = (key % 1024) as usize;
     let last = heads[slot];
     let mut m = last as usize;
+    // a while: from a map to the one before it of the same residue, by their numbers plus 1, as the heads have them
     while m != 0 {
         let head = words[head_of(width, m - 1)];
         if head % KEYS == key {
-            return m;
+            return Some(m - 1);
         }
         m = (head / KEYS) as usize;
     }
-    0
+    None
 }
 
 // Two stretches of so many words: what a location lets in, and what passes a test.
@@ -71,14 +72,12 @@ pub fn entries_added(words: &[u64], c: Cut) -> usize
     let b = c.test;
     let n = c.words;
     let mut total: usize = 0;
-    let mut w: usize = 0;
-    while w < n {
+    for w in 0..n {
         let x = words[a + w];
         let y = words[b + w];
         let cut = x & y;
         let ones = u64::count_ones(cut);
         total += ones as usize;
-        w += 1;
     }
     total
 }
@@ -88,19 +87,14 @@ pub fn clear_map(words: &mut [u64], at: usize, n: usize)
     requires inside { at + n ≤ length words.old }
     ensures cleared { Zeroed at n words.old words.new }
 {
-    let mut k = 0;
-    while k < n {
-        words[at + k] = 0;
-        k += 1;
-    }
+    words[at..at + n].fill(0);
 }
 
 // All words are zero.
 pub fn clear_words(words: &mut [u64])
     ensures cleared { words.new ≡ replicate (length words.old) 0 }
 {
-    let n = words.len();
-    clear_map(words, 0, n);
+    words.fill(0);
 }
 
 pub mod build;

@@ -1,4 +1,5 @@
 -- An operator is applied: the value, or the refusal, and the penalties of both signs one after the other.
+use Rattle.std.specs.Prelude.{None, Some, Ok, Err}
 use Prim.Native.Nat.{ℕ, ◌<◌}
 use mathlib.Core.Path.{◌≡◌, refl, sym, ap, subst, ◌∙◌}
 use mathlib.Core.Bool.{Bool, true, false}
@@ -16,21 +17,19 @@ use Rattle.rules.specs.Value.{Mem, Gathered, own_sources, with_own, marked, mark
 use Rattle.rules.specs.declared.EffectOperator.{EffectOperator}
 use Rattle.rules.specs.declared.Refusal.TheVariants.{Number}
 use Rattle.rules.specs.declared.Source.{Source}
-use Rattle.rules.specs.declared.Step.TheVariants.{Finite, NotFinite}
 use Rattle.sources.specs.Keeping.{Keeping}
 use Rattle.sources.specs.Marks.{Fresh}
 use Rattle.sources.proofs.Marking.{left_fresh, marked-fresh, marked_none}
 use Rattle.memory.specs.Answers.{AppliedAs, applying}
-use Rattle.memory.specs.declared.apply.Part.TheVariants as part
 
 module _ (counts : List ℕ) (room : ℕ) (s₀ : List (List ℕ)) (f₀ : List (List Float)) (i : ℕ) (row : Row) (high : Bool) (op : EffectOperator) (found : Float) (g : Gathered) (s : List (List ℕ)) (f : List (List Float)) where
-  pub goes : {v : Float} {own used : ℕ} → applied high op found g.values ≡ Finite v → T (finite v) → Keeping counts room s₀ f₀ i (marked_by i g) s f own used
-      → AppliedAs counts room s₀ f₀ i (applying row high op found i g) (part.At v own used) s f
+  pub goes : {v : Float} {own used : ℕ} → applied high op found g.values ≡ Some v → T (finite v) → Keeping counts room s₀ f₀ i (marked_by i g) s f own used
+      → AppliedAs counts room s₀ f₀ i (applying row high op found i g) (Ok (record { value = v; counts = record { own = own; used = used } })) s f
   unfolding applying number_at
   goes e h k = rw e (refl, h, k)
 
-  pub stops : {object : ℕ} → applied high op found g.values ≡ NotFinite → row.object ≡ object
-      → AppliedAs counts room s₀ f₀ i (applying row high op found i g) (part.Refused (Number object)) s f
+  pub stops : {object : ℕ} → applied high op found g.values ≡ None → row.object ≡ object
+      → AppliedAs counts room s₀ f₀ i (applying row high op found i g) (Err (Number object)) s f
   unfolding applying number_at
   stops e h = rw e (ap Number (sym h))
 

@@ -1,4 +1,5 @@
 -- A row under calculation: its operators, then its limits, by the numbers of list 2 and the attribute's record.
+use Rattle.std.specs.Prelude.{Result, Ok, Err}
 use Prim.Native.Nat.{ℕ, ◌≤◌, ◌<◌}
 use native.Mathlib.Omega.{arith}
 use mathlib.Core.Path.{◌≡◌, refl, sym, ap, ap₂, subst, ◌∙◌}
@@ -26,7 +27,6 @@ use Rattle.memory.specs.Steps.{row_at, evaluation}
 use Rattle.memory.specs.Holding.{Tables, RowTold, Ready, Busy}
 use Rattle.memory.specs.Answers.{Returns, held_by}
 use Rattle.memory.specs.declared.apply.Got.{Got}
-use Rattle.memory.specs.declared.apply.Got.TheVariants as got
 use Rattle.memory.proofs.Falling.{operate-falls, limit-falls}
 use Rattle.memory.proofs.Holdings.{met, meets_same, goes_on_from, number_of}
 use Rattle.memory.proofs.Gathering.{no_length}
@@ -69,7 +69,7 @@ module _ {t : Tables} {run : Recording} {v : List Float} {s : List (List ℕ)} {
 
   pub plain-meets : (left : ℕ) → get_or (get_or t.rows i []) 3 0 ≡ 0
       → ((k : Book) → Limits k t.limits → ((get_dogma_attribute k (to_z w32 (get_or (get_or t.rows i []) 1 0))).min_attribute_id ≡ pos 0) × ((get_dogma_attribute k (to_z w32 (get_or (get_or t.rows i []) 1 0))).max_attribute_id ≡ pos 0))
-      → Returns w s₀ f₀ (evaluation w (value_of w left) i row m) (got.Value (get_or t.bases i nan) used) v s f
+      → Returns w s₀ f₀ (evaluation w (value_of w left) i row m) (Ok (record { value = get_or t.bases i nan; used = used })) v s f
   plain-meets left none_there free =
       let both = free w.book h.ready.told.limited in
       plain_row w s₀ f₀ v s f (value_of w left) i row m (no_length row.entries (omega (arith, told.count, none_there)))
@@ -79,7 +79,7 @@ module _ {t : Tables} {run : Recording} {v : List Float} {s : List (List ℕ)} {
   -- no limit: what the operators give
   pub free_meets : (left : ℕ)
       → ((k : Book) → Limits k t.limits → ((get_dogma_attribute k (to_z w32 (get_or (get_or t.rows i []) 1 0))).min_attribute_id ≡ pos 0) × ((get_dogma_attribute k (to_z w32 (get_or (get_or t.rows i []) 1 0))).max_attribute_id ≡ pos 0))
-      → (r : Got) (v' : List Float) (s' : List (List ℕ)) (f' : List (List Float))
+      → (r : Result Got Refusal) (v' : List Float) (s' : List (List ℕ)) (f' : List (List Float))
       → Returns w s₀ f₀ (operate w i row (value_of w left) operators (record { value = row.base; mem = m })) r v' s' f'
       → Returns w s₀ f₀ (evaluation w (value_of w left) i row m) r v' s' f'
   free_meets left free r v' s' f' k =
@@ -89,7 +89,7 @@ module _ {t : Tables} {run : Recording} {v : List Float} {s : List (List ℕ)} {
       (ap (λ (a : ℤ). (get_dogma_attribute w.book a).min_attribute_id) (sym id-is) ∙ both.0) (ap (λ (a : ℤ). (get_dogma_attribute w.book a).max_attribute_id) (sym id-is) ∙ both.1) m) k
 
   module _ (left : ℕ) (x : Float) (more : ℕ) (v' : List Float) (s' : List (List ℕ)) (f' : List (List Float))
-      (k : Returns w s₀ f₀ (operate w i row (value_of w left) operators (record { value = row.base; mem = m })) (got.Value x more) v' s' f') where
+      (k : Returns w s₀ f₀ (operate w i row (value_of w left) operators (record { value = row.base; mem = m })) (Ok (record { value = x; used = more })) v' s' f') where
     abbrev pub operated_on : Ready t run v' s' f' more
     operated_on = goes_on_from h.ready (operate w i row (value_of w left) operators (record { value = row.base; mem = m })) x more v' s' f' k
 
@@ -109,10 +109,10 @@ module _ {t : Tables} {run : Recording} {v : List Float} {s : List (List ℕ)} {
           ap₂ (λ (n : ℕ) (z : ℤ). clamped n (value_of w left) (held_by true) z (record { value = x; mem = operated_on.mem })) (sym (o_is ∙ object-is))
           (sym (a-is ∙ ap (λ (r : DogmaAttribute). r.min_attribute_id) record_is))
 
-      pub low-refused : (r : Got) (y : Refusal) → r ≡ got.Refused y → (v'' : List Float) (s'' : List (List ℕ)) (f'' : List (List Float)) → Returns w s₀ f₀ low r v'' s'' f'' → Returns w s₀ f₀ (evaluation w (value_of w left) i row m) r v'' s'' f''
+      pub low-refused : (r : Result Got Refusal) (y : Refusal) → r ≡ Err y → (v'' : List Float) (s'' : List (List ℕ)) (f'' : List (List Float)) → Returns w s₀ f₀ low r v'' s'' f'' → Returns w s₀ f₀ (evaluation w (value_of w left) i row m) r v'' s'' f''
       low-refused r y e v'' s'' f'' l = raise_refused w s₀ f₀ v' s' f' (value_of w left) i row m x more k low low-is r y e v'' s'' f'' l
 
-      module _ (b : ℤ) (b-is : b ≡ own_record.max_attribute_id) (y : Float) (still : ℕ) (v'' : List Float) (s'' : List (List ℕ)) (f'' : List (List Float)) (l : Returns w s₀ f₀ low (got.Value y still) v'' s'' f'') where
+      module _ (b : ℤ) (b-is : b ≡ own_record.max_attribute_id) (y : Float) (still : ℕ) (v'' : List Float) (s'' : List (List ℕ)) (f'' : List (List Float)) (l : Returns w s₀ f₀ low (Ok (record { value = y; used = still })) v'' s'' f'') where
         abbrev pub raised_on : Ready t run v'' s'' f'' still
         raised_on = goes_on_from operated_on low y still v'' s'' f'' l
 
@@ -130,5 +130,5 @@ module _ {t : Tables} {run : Recording} {v : List Float} {s : List (List ℕ)} {
             ap₂ (λ (n : ℕ) (z : ℤ). clamped n (value_of w left) (held_by false) z (record { value = y; mem = raised_on.mem })) (sym (o_is ∙ object-is))
             (sym (b-is ∙ ap (λ (r : DogmaAttribute). r.max_attribute_id) record_is))
 
-        pub evaluated_meets : (r : Got) (v''' : List Float) (s''' : List (List ℕ)) (f''' : List (List Float)) → Returns w s₀ f₀ high r v''' s''' f''' → Returns w s₀ f₀ (evaluation w (value_of w left) i row m) r v''' s''' f'''
+        pub evaluated_meets : (r : Result Got Refusal) (v''' : List Float) (s''' : List (List ℕ)) (f''' : List (List Float)) → Returns w s₀ f₀ high r v''' s''' f''' → Returns w s₀ f₀ (evaluation w (value_of w left) i row m) r v''' s''' f'''
         evaluated_meets r v''' s''' f''' q = lowers w s₀ f₀ v' s' f' (value_of w left) i row m x more k low low-is y still v'' s'' f'' l high high_is r v''' s''' f''' q

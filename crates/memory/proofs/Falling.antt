@@ -1,4 +1,5 @@
 -- The rows that are not started never grow in number.
+use Rattle.std.specs.Prelude.{Ok}
 use Prim.Native.Nat.{ℕ, ◌≤◌}
 use mathlib.Core.Path.{◌≡◌, sym, ap}
 use mathlib.Core.Bool.{Bool}
@@ -19,7 +20,6 @@ use Rattle.memory.specs.Holding.{Tables, Holds, Ready, Busy}
 use Rattle.memory.proofs.Growth.{value_grows, gather_grows, operate_grows, clamped_grows}
 use Rattle.memory.proofs.Nanned.{nans_grow}
 use Rattle.memory.specs.Answers.{Returns}
-use Rattle.memory.specs.declared.apply.Got.TheVariants as got
 use Rattle.memory.proofs.Holdings.{met}
 use Rattle.memory.proofs.Gathering.{Gathering}
 use Rattle.memory.proofs.Operating.{Operating}
@@ -30,7 +30,7 @@ module _ {w : World} {s₀ : List (List ℕ)} {f₀ : List (List Float)} {m m' :
 
 -- reading an attribute
 pub read-falls : {t : Tables} {run : Recording} {v : List Float} {s : List (List ℕ)} {f : List (List Float)} {used : ℕ} (h : Ready t run v s f used) (left o : ℕ) (a : ℤ) (y : Float) (more : ℕ) (v' : List Float) (s' : List (List ℕ)) (f' : List (List Float))
-    → Returns h.world h.sources₀ h.floats₀ (value_of h.world left o a h.mem) (got.Value y more) v' s' f' → nans v' ≤ nans v
+    → Returns h.world h.sources₀ h.floats₀ (value_of h.world left o a h.mem) (Ok (record { value = y; used = more })) v' s' f' → nans v' ≤ nans v
 read-falls h left o a y more v' s' f' k =
     let q = met h.world h.sources₀ h.floats₀ v' s' f' (value_of h.world left o a h.mem) y more k in
     let g = value_grows h.world left o a h.mem q.read q.is in
@@ -38,7 +38,7 @@ read-falls h left o a y more v' s' f' k =
 
 -- a limit
 pub limit-falls : {t : Tables} {run : Recording} {v : List Float} {s : List (List ℕ)} {f : List (List Float)} {used : ℕ} (h : Ready t run v s f used) (left o : ℕ) (clamp : Float → Float → Float) (a : ℤ) (x y : Float) (more : ℕ) (v' : List Float) (s' : List (List ℕ)) (f' : List (List Float))
-    → Returns h.world h.sources₀ h.floats₀ (clamped o (value_of h.world left) clamp a (record { value = x; mem = h.mem })) (got.Value y more) v' s' f' → nans v' ≤ nans v
+    → Returns h.world h.sources₀ h.floats₀ (clamped o (value_of h.world left) clamp a (record { value = x; mem = h.mem })) (Ok (record { value = y; used = more })) v' s' f' → nans v' ≤ nans v
 limit-falls h left o clamp a x y more v' s' f' k =
     let q = met h.world h.sources₀ h.floats₀ v' s' f' (clamped o (value_of h.world left) clamp a (record { value = x; mem = h.mem })) y more k in
     let g = clamped_grows 0 h.world (row_at h.world 0) (value_of h.world left) (value_grows h.world left) o clamp a (record { value = x; mem = h.mem }) q.read q.is in
@@ -46,7 +46,7 @@ limit-falls h left o clamp a x y more v' s' f' k =
 
 -- all operators
 pub operate-falls : {t : Tables} {run : Recording} {v : List Float} {s : List (List ℕ)} {f : List (List Float)} {used i own : ℕ} {ops : List EffectOperator} (h : Busy t run v s f used i own ops) (left : ℕ) (x y : Float) (more : ℕ) (v' : List Float) (s' : List (List ℕ)) (f' : List (List Float))
-    → Returns h.ready.world h.ready.sources₀ h.ready.floats₀ (operate h.ready.world i (row_at h.ready.world i) (value_of h.ready.world left) operators (record { value = x; mem = h.ready.mem })) (got.Value y more) v' s' f' → nans v' ≤ nans v
+    → Returns h.ready.world h.ready.sources₀ h.ready.floats₀ (operate h.ready.world i (row_at h.ready.world i) (value_of h.ready.world left) operators (record { value = x; mem = h.ready.mem })) (Ok (record { value = y; used = more })) v' s' f' → nans v' ≤ nans v
 operate-falls {i = i} h left x y more v' s' f' k =
     let w = h.ready.world in
     let q = met w h.ready.sources₀ h.ready.floats₀ v' s' f' (operate w i (row_at w i) (value_of w left) operators (record { value = x; mem = h.ready.mem })) y more k in

@@ -1,4 +1,5 @@
 -- An operator's entries gathered one after another, and then applied.
+use Rattle.std.specs.Prelude.{None, Some, Result, Ok, Err}
 use Prim.Native.Nat.{ℕ, ◌+◌, ◌≤◌, ◌<◌}
 use native.Mathlib.Omega.{arith}
 use mathlib.Core.Path.{◌≡◌, refl, sym, ap, subst, ◌∙◌}
@@ -28,8 +29,7 @@ use Rattle.rules.specs.declared.Effect.{Effect}
 use Rattle.rules.specs.declared.EffectOperator.{EffectOperator}
 use Rattle.rules.specs.declared.Refusal.{Refusal}
 use Rattle.rules.specs.declared.Source.{Source}
-use Rattle.rules.specs.declared.Step.{Step}
-use Rattle.rules.specs.declared.Step.TheVariants.{Finite, NotFinite}
+use Rattle.rules.specs.Number.{Step}
 use Rattle.reading.specs.Held.{no_row}
 use Rattle.sources.specs.declared.Recording.{Recording}
 use Rattle.sources.specs.Planned.{counts_of, planned_of, planned_for, planned_by, Started, Grown}
@@ -37,8 +37,6 @@ use Rattle.sources.specs.Keeping.{Keeping, Begins}
 use Rattle.sources.specs.Marks.{Fresh}
 use Rattle.sources.proofs.Planning.{counts_long, some_none, gather_gives, leaves-started}
 use Rattle.gather.specs.declared.Pile.{Pile}
-use Rattle.gather.specs.declared.Stop.{Stop}
-use Rattle.gather.specs.declared.Stop.TheVariants.{No, Because}
 use Rattle.gather.specs.Piles.{PileOf}
 use Rattle.memory.specs.Memory.{value_at}
 use Rattle.memory.specs.Steps.{row_at, entry_at, no_entry}
@@ -49,24 +47,14 @@ use Rattle.memory.proofs.Entering.{gather_fresh, gather_plain, marked_values}
 use Rattle.memory.proofs.Counting.{planned_append}
 use Rattle.memory.specs.Answers.{AppliedAs, PartReturns, applying}
 use Rattle.memory.specs.declared.apply.Part.{Part}
-use Rattle.memory.specs.declared.apply.Part.TheVariants as part
 use Rattle.memory.proofs.Holdings.{ready_on, noted_holds, floats_long}
 
 -- what the first k entries of row i gave operator op, which found the value `found`, from memory m on
 pub record Gathering (w : World) (s₀ : List (List ℕ)) (f₀ : List (List Float)) (left i : ℕ) (high : Bool) (op : EffectOperator) (found : Float) (m : Mem) (k : ℕ) (v : List Float) (s : List (List ℕ)) (f : List (List Float)) (p : Pile) : Type 0 where
   pub sofar : Gathered
   pub is : gather w i (row_at w i) (value_of w left) op (take k (row_at w i).entries) (record { mem = m; values = nothing }) ≡ ok sofar
-  pub going : p.stop ≡ No
   pub piled : PileOf (counts_of w) w.room s₀ f₀ i high op found sofar p s f
-  pub holds : Holds w s₀ f₀ sofar.mem v s f p.used
-
-abbrev Stopped : Stop → Type 0
-Stopped No = ⊥
-Stopped (Because y) = Unit {0}
-
-abbrev reason : Refusal → Stop → Refusal
-reason y No = y
-reason y (Because z) = z
+  pub holds : Holds w s₀ f₀ sofar.mem v s f p.counts.used
 
 -- none is planned where none is recorded
 pub counts-off : (w : World) (i : ℕ) → w.recording ≡ false → i < length w.rows → get_or (counts_of w) i 0 ≡ 0
@@ -103,10 +91,10 @@ module _ {t : Tables} {run : Recording} {v₀ : List Float} {s₁ : List (List �
   started : Started i m
   started = record { valued = λ e. some_none (sym h.begun ∙ e); there = omega (arith, h.within, counts_long w, keeping_now.long) }
 
-  pub gathering_starts : (left : ℕ) (high : Bool) (found : Float) (p : Pile) → PileOf (counts_of w) w.room s₀ f₀ i high op found begin p s₁ f₁ → p.stop ≡ No → p.used ≡ used → Gathering w s₀ f₀ left i high op found m 0 v₀ s₁ f₁ p
+  pub gathering_starts : (left : ℕ) (high : Bool) (found : Float) (p : Pile) → PileOf (counts_of w) w.room s₀ f₀ i high op found begin p s₁ f₁ → p.counts.used ≡ used → Gathering w s₀ f₀ left i high op found m 0 v₀ s₁ f₁ p
   unfolding gather
-  gathering_starts left high found p k z u =
-      record { sofar = begin; is = refl; going = z; piled = k; holds = subst (λ (n : ℕ). Holds w s₀ f₀ m v₀ s₁ f₁ n) (sym u) h.ready.holds }
+  gathering_starts left high found p k u =
+      record { sofar = begin; is = refl; piled = k; holds = subst (λ (n : ℕ). Holds w s₀ f₀ m v₀ s₁ f₁ n) (sym u) h.ready.holds }
 
   module _ {left : ℕ} {high : Bool} {found : Float} {k : ℕ} {v : List Float} {s : List (List ℕ)} {f : List (List Float)} {p : Pile} (G : Gathering w s₀ f₀ left i high op found m k v s f p) where
     abbrev read : Reader
@@ -147,42 +135,41 @@ module _ {t : Tables} {run : Recording} {v₀ : List Float} {s₁ : List (List �
             values = G.sofar.values;
             found = found;
             piled = G.piled;
-            going = G.going;
             enough = room_for;
           }
 
       -- one entry more
-      module _ (p' : Pile) (v' : List Float) (s' : List (List ℕ)) (f' : List (List Float)) where
+      module _ (v' : List Float) (s' : List (List ℕ)) (f' : List (List Float)) where
         one_more : gather w i row read op (take (k + 1) row.entries) begin ≡ gather w i row read op (e ∷ []) G.sofar
         one_more =
             ap (λ (l : List Effect). gather w i row read op l begin) next ∙ gather_append w i row read op (take k row.entries) (e ∷ []) begin
             ∙ ap (λ (x : Res Gathered). x >>= λ g. gather w i row read op (e ∷ []) g) G.is
 
-        abbrev Answer : Res Gathered → Type 0
-        Answer x = PileMeets w s₀ f₀ i high op found x p' v' s' f'
+        abbrev Answer : Res Gathered → Result Pile Refusal → Type 0
+        Answer x r = PileMeets w s₀ f₀ i high op found x r v' s' f'
 
-        pub gathering_next : Answer (gather w i row read op (e ∷ []) G.sofar) → p'.stop ≡ No → Gathering w s₀ f₀ left i high op found m (k + 1) v' s' f' p'
-        gathering_next a z = by (gather w i row read op (e ∷ []) G.sofar) one_more a
+        pub gathering_next : (p' : Pile) → Answer (gather w i row read op (e ∷ []) G.sofar) (Ok p') → Gathering w s₀ f₀ left i high op found m (k + 1) v' s' f' p'
+        gathering_next p' a = by (gather w i row read op (e ∷ []) G.sofar) one_more a
           where
-            by : (x : Res Gathered) → gather w i row read op (take (k + 1) row.entries) begin ≡ x → Answer x → Gathering w s₀ f₀ left i high op found m (k + 1) v' s' f' p'
-            by (ok g) q b = record { sofar = g; is = q; going = b.0; piled = b.1; holds = b.2 }
-            by (refused y) q b = absurd (subst Stopped (sym b ∙ z) tt)
+            by : (x : Res Gathered) → gather w i row read op (take (k + 1) row.entries) begin ≡ x → Answer x (Ok p') → Gathering w s₀ f₀ left i high op found m (k + 1) v' s' f' p'
+            by (ok g) q b = record { sofar = g; is = q; piled = b.0; holds = b.1 }
+            by (refused y) q b = absurd b
 
-        operate-refused : (y : Refusal) → Answer (gather w i row read op (e ∷ []) G.sofar) → p'.stop ≡ Because y → operate w i row read (op ∷ []) (record { value = found; mem = m }) ≡ refused y
+        operate-refused : (y : Refusal) → Answer (gather w i row read op (e ∷ []) G.sofar) (Err y) → operate w i row read (op ∷ []) (record { value = found; mem = m }) ≡ refused y
         unfolding operate
-        operate-refused y a z = ap (λ (x : Res Gathered). x >>= λ g. number_at row.object (applied (high_is_good (get_dogma_attribute w.book row.id)) op found g.values) >>= λ n. ok (record { value = n; mem = marked_by i g })) whole
+        operate-refused y a = ap (λ (x : Res Gathered). x >>= λ g. number_at row.object (applied (high_is_good (get_dogma_attribute w.book row.id)) op found g.values) >>= λ n. ok (record { value = n; mem = marked_by i g })) whole
           where
-            stops : (x : Res Gathered) → gather w i row read op (take (k + 1) row.entries) begin ≡ x → Answer x → gather w i row read op (take (k + 1) row.entries) begin ≡ refused y
-            stops (ok g) q b = absurd (subst Stopped (sym z ∙ b.0) tt)
-            stops (refused r) q b = q ∙ ap refused (ap (reason r) (sym b ∙ z))
+            stops : (x : Res Gathered) → gather w i row read op (take (k + 1) row.entries) begin ≡ x → Answer x (Err y) → gather w i row read op (take (k + 1) row.entries) begin ≡ refused y
+            stops (ok g) q b = absurd b
+            stops (refused r) q b = q ∙ ap refused (sym b)
 
             whole : gather w i row read op row.entries begin ≡ refused y
             whole =
                 ap (λ (l : List Effect). gather w i row read op l begin) split ∙ gather_append w i row read op (take (k + 1) row.entries) (drop (k + 1) row.entries) begin
                 ∙ ap (λ (x : Res Gathered). x >>= λ g. gather w i row read op (drop (k + 1) row.entries) g) (stops (gather w i row read op (e ∷ []) G.sofar) one_more a)
 
-        pub gathering_refused : (y : Refusal) → Answer (gather w i row read op (e ∷ []) G.sofar) → p'.stop ≡ Because y → PartReturns w s₀ f₀ i (operate w i row read (op ∷ []) (record { value = found; mem = m })) (part.Refused y) v' s' f'
-        gathering_refused y a z = rw (operate-refused y a z) refl
+        pub gathering_refused : (y : Refusal) → Answer (gather w i row read op (e ∷ []) G.sofar) (Err y) → PartReturns w s₀ f₀ i (operate w i row read (op ∷ []) (record { value = found; mem = m })) (Err y) v' s' f'
+        gathering_refused y a = rw (operate-refused y a) refl
 
     pub floats_there : run.room ≤ length f
     floats_there = omega (arith, floats_long G.holds h.ready.told.roomy.1, h.ready.told.recorded.room)
@@ -204,7 +191,7 @@ module _ {t : Tables} {run : Recording} {v₀ : List Float} {s₁ : List (List �
       pub all_plain : has_penalty op ≡ false → (G.sofar.values.positive ≡ []) × (G.sofar.values.negative ≡ [])
       all_plain e = gather_plain w i row read op row.entries m G.sofar e gathered_all
 
-      abbrev Applied : Res Read → Part → List (List ℕ) → List (List Float) → Type 0
+      abbrev Applied : Res Read → Result Part Refusal → List (List ℕ) → List (List Float) → Type 0
       Applied x r s' f' = AppliedAs (counts_of w) w.room s₀ f₀ i x r s' f'
 
       abbrev asked : Res Read
@@ -222,15 +209,15 @@ module _ {t : Tables} {run : Recording} {v₀ : List Float} {s₁ : List (List �
           let same = marked_values i G.sofar in
           noted_holds G.holds i grown (marked_by i G.sofar) same.0 same.2 kept
 
-      pub gathering_applied : ((x : Float) (g : Values) → applied high op x g ≡ applied (high_is_good (get_dogma_attribute w.book row.id)) op x g) → (r : Part) (s' : List (List ℕ)) (f' : List (List Float)) → Applied (applying row high op found i G.sofar) r s' f' → PartReturns w s₀ f₀ i asked r v s' f'
+      pub gathering_applied : ((x : Float) (g : Values) → applied high op x g ≡ applied (high_is_good (get_dogma_attribute w.book row.id)) op x g) → (r : Result Part Refusal) (s' : List (List ℕ)) (f' : List (List Float)) → Applied (applying row high op found i G.sofar) r s' f' → PartReturns w s₀ f₀ i asked r v s' f'
       unfolding applying number_at
       gathering_applied z r s' f' a = rw (asked_is z) (by (applied high op found G.sofar.values) r a)
         where
-          by : (x : Step) (r : Part) → Applied (number_at row.object x >>= λ n. ok (record { value = n; mem = marked_by i G.sofar })) r s' f' → PartReturns w s₀ f₀ i (number_at row.object x >>= λ n. ok (record { value = n; mem = marked_by i G.sofar })) r v s' f'
-          by (Finite n) (part.At y a b) q = (q.0, q.1, q.2.mine, marked-holds q.2)
-          by (Finite n) (part.Refused y) q = absurd q
-          by NotFinite (part.At y a b) q = absurd q
-          by NotFinite (part.Refused y) q = q
+          by : (x : Step) (r : Result Part Refusal) → Applied (number_at row.object x >>= λ n. ok (record { value = n; mem = marked_by i G.sofar })) r s' f' → PartReturns w s₀ f₀ i (number_at row.object x >>= λ n. ok (record { value = n; mem = marked_by i G.sofar })) r v s' f'
+          by (Some n) (Ok p) q = (q.0, q.1, q.2.mine, marked-holds q.2)
+          by (Some n) (Err y) q = absurd q
+          by None (Ok p) q = absurd q
+          by None (Err y) q = q
 
 -- a row's attribute by the numbers of list 2
 pub high_is : {t : Tables} {run : Recording} {v : List Float} {s : List (List ℕ)} {f : List (List Float)} {used : ℕ} (h : Ready t run v s f used) (i : ℕ) → i < length h.world.rows

@@ -1,4 +1,5 @@
 -- The memory grows: what is started keeps its value and its source rows through every calculation.
+use Rattle.std.specs.Prelude.{None, Some}
 use Prim.Native.Nat.{ℕ, zero, suc, ◌-◌, min}
 use mathlib.Core.Path.{◌≡◌, refl, sym, ap, subst, ◌∙◌}
 use mathlib.Core.Bool.{Bool, true, false, cond, ◌&&◌, ◌||◌}
@@ -24,8 +25,7 @@ use Rattle.rules.specs.Value.{World, Mem, Read, Reader, Gathered, Found, own_sou
 use Rattle.rules.specs.declared.Effect.{Effect}
 use Rattle.rules.specs.declared.Source.{Source}
 use Rattle.rules.specs.declared.EffectOperator.{EffectOperator}
-use Rattle.rules.specs.declared.OptionalId.{OptionalId}
-use Rattle.rules.specs.declared.OptionalId.TheVariants.{Absent, Given}
+use Rattle.rules.specs.Ids.{OptionalId}
 use Rattle.rules.specs.declared.Origin.{Origin}
 use Rattle.rules.specs.declared.Origin.TheVariants as origin
 use Rattle.rules.specs.declared.Refusal.{Refusal}
@@ -122,8 +122,8 @@ module _ (i : ℕ) where
     module _ (read : Reader) (growing : GrowingReader read) where
       pub resisted_grows : (o : OptionalId) (r q : Read) → resisted w i row read o r ≡ ok q → Grows r.mem q.mem
       unfolding resisted
-      resisted_grows Absent r q e = subst (λ (y : Read). Grows r.mem y.mem) (got e) (grows_same r.mem)
-      resisted_grows (Given a) r q e =
+      resisted_grows None r q e = subst (λ (y : Read). Grows r.mem y.mem) (got e) (grows_same r.mem)
+      resisted_grows (Some a) r q e =
           let t = then (read 0 a r.mem) _ q e in
           let u = then (number_at row.object (times r.value t.given.value)) _ q t.rest in
           subst (λ (y : Read). Grows r.mem y.mem) (got u.rest) (growing 0 a r.mem t.given t.first)

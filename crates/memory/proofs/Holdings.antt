@@ -1,4 +1,5 @@
 -- What the columns hold, carried over a step: a value that is set, source rows of one row that arise, another memory.
+use Rattle.std.specs.Prelude.{Result, Ok, Err}
 use Prim.Native.Nat.{ℕ, ◌≤◌, ◌<◌}
 use native.Mathlib.Omega.{arith}
 use mathlib.Core.Path.{◌≡◌, refl, sym, ap, subst, ◌∙◌}
@@ -30,7 +31,6 @@ use Rattle.memory.proofs.Nanned.{set_shown}
 use Rattle.memory.proofs.Nanned.{shown_length as shown-long}
 use Rattle.memory.specs.Answers.{Returns}
 use Rattle.memory.specs.declared.apply.Got.{Got}
-use Rattle.memory.specs.declared.apply.Got.TheVariants as got
 
 -- what is kept says as much of every row
 pub keeping_any : {counts : List ℕ} {room : ℕ} {s₀ : List (List ℕ)} {f₀ : List (List Float)} {i : ℕ} {m : Mem} {s : List (List ℕ)} {f : List (List Float)} {own used : ℕ}
@@ -112,25 +112,25 @@ pub record Met (w : World) (s₀ : List (List ℕ)) (f₀ : List (List Float)) (
   pub holds : Holds w s₀ f₀ read.mem v s f used
 
 module _ (w : World) (s₀ : List (List ℕ)) (f₀ : List (List Float)) (v : List Float) (s : List (List ℕ)) (f : List (List Float)) where
-  unfoldable pub met : (x : Res Read) (y : Float) (used : ℕ) → Returns w s₀ f₀ x (got.Value y used) v s f → Met w s₀ f₀ x y v s f used
+  unfoldable pub met : (x : Res Read) (y : Float) (used : ℕ) → Returns w s₀ f₀ x (Ok (record { value = y; used = used })) v s f → Met w s₀ f₀ x y v s f used
   met (ok q) y used h = record { read = q; is = refl; value = h.0; number = h.1; holds = h.2 }
   met (refused z) y used h = absurd h
 
-  pub missed : (x : Res Read) (z : Refusal) → Returns w s₀ f₀ x (got.Refused z) v s f → x ≡ refused z
+  pub missed : (x : Res Read) (z : Refusal) → Returns w s₀ f₀ x (Err z) v s f → x ≡ refused z
   missed (ok q) z h = absurd h
   missed (refused y) z h = ap refused (sym h)
 
-  pub meets-value : (x : Res Read) (q : Read) {y : Float} {used : ℕ} → x ≡ ok q → y ≡ q.value → T (finite y) → Holds w s₀ f₀ q.mem v s f used → Returns w s₀ f₀ x (got.Value y used) v s f
+  pub meets-value : (x : Res Read) (q : Read) {y : Float} {used : ℕ} → x ≡ ok q → y ≡ q.value → T (finite y) → Holds w s₀ f₀ q.mem v s f used → Returns w s₀ f₀ x (Ok (record { value = y; used = used })) v s f
   meets-value x q e a b h = rw e (a, b, h)
 
-  pub meets-refused : (x : Res Read) {z : Refusal} → x ≡ refused z → Returns w s₀ f₀ x (got.Refused z) v s f
+  pub meets-refused : (x : Res Read) {z : Refusal} → x ≡ refused z → Returns w s₀ f₀ x (Err z) v s f
   meets-refused x e = rw e refl
 
-  pub meets_same : (x y : Res Read) (r : Got) → x ≡ y → Returns w s₀ f₀ y r v s f → Returns w s₀ f₀ x r v s f
+  pub meets_same : (x y : Res Read) (r : Result Got Refusal) → x ≡ y → Returns w s₀ f₀ y r v s f → Returns w s₀ f₀ x r v s f
   meets_same x y r e h = rw e h
 
 -- after an answer with a value
-module _ {t : Tables} {run : Recording} {v : List Float} {s : List (List ℕ)} {f : List (List Float)} {used : ℕ} (h : Ready t run v s f used) (x : Res Read) (y : Float) (more : ℕ) (v' : List Float) (s' : List (List ℕ)) (f' : List (List Float)) (k : Returns h.world h.sources₀ h.floats₀ x (got.Value y more) v' s' f') where
+module _ {t : Tables} {run : Recording} {v : List Float} {s : List (List ℕ)} {f : List (List Float)} {used : ℕ} (h : Ready t run v s f used) (x : Res Read) (y : Float) (more : ℕ) (v' : List Float) (s' : List (List ℕ)) (f' : List (List Float)) (k : Returns h.world h.sources₀ h.floats₀ x (Ok (record { value = y; used = more })) v' s' f') where
   abbrev pub goes_on_from : Ready t run v' s' f' more
   goes_on_from = ready_on h (met h.world h.sources₀ h.floats₀ v' s' f' x y more k).read.mem (met h.world h.sources₀ h.floats₀ v' s' f' x y more k).holds
 

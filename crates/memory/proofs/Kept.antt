@@ -1,4 +1,5 @@
 -- What each step of gathering keeps, gathering keeps.
+use Rattle.std.specs.Prelude.{None, Some}
 use Prim.Native.Nat.{ℕ, zero, suc, ◌-◌, min}
 use mathlib.Core.Path.{◌≡◌, refl, sym, subst, ◌∙◌}
 use mathlib.Core.Bool.{Bool, true, false, ◌&&◌, ◌||◌}
@@ -17,8 +18,7 @@ use Rattle.rules.specs.Operate.{simplified, has_penalty}
 use Rattle.rules.specs.Value.{World, Mem, Read, Reader, Gathered, own_sources, to_source, with_copy, with_stack, note, copies, penalised, unpenalised, contribute, resisted, gather_from, gather}
 use Rattle.rules.specs.declared.Effect.{Effect}
 use Rattle.rules.specs.declared.EffectOperator.{EffectOperator}
-use Rattle.rules.specs.declared.OptionalId.{OptionalId}
-use Rattle.rules.specs.declared.OptionalId.TheVariants.{Absent, Given}
+use Rattle.rules.specs.Ids.{OptionalId}
 use Rattle.rules.specs.declared.Origin.{Origin}
 use Rattle.rules.specs.declared.Origin.TheVariants as origin
 use Rattle.rules.specs.declared.Source.{Source}
@@ -83,8 +83,8 @@ module _ (w : World) (i : ℕ) (row : Row) (Keeps : Gathered → Type 0)
   module _ (read : Reader) (reading : (o : ℕ) (a : ℤ) (g : Gathered) (q : Read) → read o a g.mem ≡ ok q → Keeps g → Keeps (record { mem = q.mem; values = g.values })) where
     resisted_kept : (o : OptionalId) (r q : Read) (g : Gathered) → resisted w i row read o r ≡ ok q → Keeps (record { mem = r.mem; values = g.values }) → Keeps (record { mem = q.mem; values = g.values })
     unfolding resisted
-    resisted_kept Absent r q g p k = subst (λ (y : Read). Keeps (record { mem = y.mem; values = g.values })) (got p) k
-    resisted_kept (Given a) r q g p k =
+    resisted_kept None r q g p k = subst (λ (y : Read). Keeps (record { mem = y.mem; values = g.values })) (got p) k
+    resisted_kept (Some a) r q g p k =
         let t = then (read 0 a r.mem) _ q p in
         let u = then (number_at row.object (times r.value t.given.value)) _ q t.rest in
         subst (λ (y : Read). Keeps (record { mem = y.mem; values = g.values })) (got u.rest) (reading 0 a (record { mem = r.mem; values = g.values }) t.given t.first k)

@@ -1,4 +1,5 @@
 -- The operators of a row in their order, one after another.
+use Rattle.std.specs.Prelude.{Ok, Err}
 use Prim.Native.Nat.{ℕ, ◌+◌, ◌-◌, ◌≤◌, ◌<◌}
 use native.Mathlib.Omega.{arith}
 use mathlib.Core.Path.{◌≡◌, refl, sym, ap, ◌∙◌}
@@ -32,8 +33,6 @@ use Rattle.memory.proofs.Gathers.{operate_append}
 use Rattle.memory.proofs.Counting.{by_append}
 use Rattle.memory.proofs.Codes.{operators-at, take-operators, has_operator}
 use Rattle.memory.specs.Answers.{Returns, PartReturns}
-use Rattle.memory.specs.declared.apply.Got.TheVariants as got
-use Rattle.memory.specs.declared.apply.Part.TheVariants as part
 use Rattle.memory.proofs.Holdings.{ready_on, meets-value, meets-refused}
 
 -- what the first operators have made of row i, from memory m on
@@ -143,20 +142,20 @@ module _ {t : Tables} {run : Recording} {v₀ : List Float} {s₁ : List (List �
           ap (λ (l : List EffectOperator). operate w i row read l begin) next ∙ operate_append w i row read (take code operators) (o ∷ []) begin
           ∙ ap (λ (a : Res Read). a >>= λ b. operate w i row read (o ∷ []) b) O.is ∙ ap (operate w i row read (o ∷ [])) (sym now_is)
 
-      pub operating_next : (y : Float) (a b : ℕ) (v' : List Float) (s' : List (List ℕ)) (f' : List (List Float)) → PartReturns w s₀ f₀ i (operate w i row read (o ∷ []) now) (part.At y a b) v' s' f' → Operating w s₀ f₀ left i m (code + 1) v' s' f' y a b
+      pub operating_next : (y : Float) (a b : ℕ) (v' : List Float) (s' : List (List ℕ)) (f' : List (List Float)) → PartReturns w s₀ f₀ i (operate w i row read (o ∷ []) now) (Ok (record { value = y; counts = record { own = a; used = b } })) v' s' f' → Operating w s₀ f₀ left i m (code + 1) v' s' f' y a b
       operating_next y a b v' s' f' k = by (operate w i row read (o ∷ []) now) one_more k
         where
-          by : (z : Res Read) → operate w i row read (take (code + 1) operators) begin ≡ z → PartReturns w s₀ f₀ i z (part.At y a b) v' s' f' → Operating w s₀ f₀ left i m (code + 1) v' s' f' y a b
+          by : (z : Res Read) → operate w i row read (take (code + 1) operators) begin ≡ z → PartReturns w s₀ f₀ i z (Ok (record { value = y; counts = record { own = a; used = b } })) v' s' f' → Operating w s₀ f₀ left i m (code + 1) v' s' f' y a b
           by (ok q) e k = record { sofar = q; is = e; value = k.0; number = k.1; mine = k.2; holds = k.3 }
           by (refused q) e k = absurd k
 
-      pub operating_refused : (y : Refusal) (v' : List Float) (s' : List (List ℕ)) (f' : List (List Float)) → PartReturns w s₀ f₀ i (operate w i row read (o ∷ []) now) (part.Refused y) v' s' f' → Returns w s₀ f₀ (operate w i row read operators begin) (got.Refused y) v' s' f'
+      pub operating_refused : (y : Refusal) (v' : List Float) (s' : List (List ℕ)) (f' : List (List Float)) → PartReturns w s₀ f₀ i (operate w i row read (o ∷ []) now) (Err y) v' s' f' → Returns w s₀ f₀ (operate w i row read operators begin) (Err y) v' s' f'
       operating_refused y v' s' f' k =
           meets-refused w s₀ f₀ v' s' f' (operate w i row read operators begin)
           (ap (λ (l : List EffectOperator). operate w i row read l begin) split ∙ operate_append w i row read (take (code + 1) operators) (drop (code + 1) operators) begin
           ∙ ap (λ (a : Res Read). a >>= λ b. operate w i row read (drop (code + 1) operators) b) (one_more ∙ stops (operate w i row read (o ∷ []) now) k))
         where
-          stops : (z : Res Read) → PartReturns w s₀ f₀ i z (part.Refused y) v' s' f' → z ≡ refused y
+          stops : (z : Res Read) → PartReturns w s₀ f₀ i z (Err y) v' s' f' → z ≡ refused y
           stops (ok q) k = absurd k
           stops (refused q) k = ap refused (sym k)
 
@@ -172,7 +171,7 @@ module _ {t : Tables} {run : Recording} {v₀ : List Float} {s₁ : List (List �
             holds = O.holds;
           }
 
-    pub operating_ends : 9 ≤ code → Returns w s₀ f₀ (operate w i row read operators begin) (got.Value x used) v s f
+    pub operating_ends : 9 ≤ code → Returns w s₀ f₀ (operate w i row read operators begin) (Ok (record { value = x; used = used })) v s f
     operating_ends all =
         meets-value w s₀ f₀ v s f (operate w i row read operators begin) O.sofar
         (ap (λ (l : List EffectOperator). operate w i row read l begin) (sym (take_all code operators all)) ∙ O.is) O.value O.number O.holds

@@ -1,4 +1,5 @@
 -- A row's value: it is there, or no depth is left, or its calculation starts and ends; and an attribute that has no row.
+use Rattle.std.specs.Prelude.{Ok, Err}
 use Prim.Native.Nat.{ℕ, zero, suc, ◌+◌, ◌*◌, ◌-◌, ◌≤◌, ◌<◌}
 use native.Mathlib.Omega.{arith}
 use mathlib.Core.Path.{◌≡◌, refl, sym, ap, ap₂, subst, ◌∙◌}
@@ -31,7 +32,6 @@ use Rattle.memory.proofs.Nanned.{valued, unvalued, nans-start, set_shown}
 use Rattle.memory.proofs.Readings.{absent, known, deep, starting, its_row, at_row, nowhere, calculate_evaluation}
 use Rattle.memory.specs.Answers.{Returns}
 use Rattle.memory.specs.declared.apply.Got.{Got}
-use Rattle.memory.specs.declared.apply.Got.TheVariants as got
 use Rattle.memory.proofs.Holdings.{set_holds, ready_on, Met, met, missed, meets-value, meets-refused, meets_same}
 
 -- how many source rows are planned for row i
@@ -60,13 +60,13 @@ module _ {t : Tables} {run : Recording} {v : List Float} {s : List (List ℕ)} {
   is_unvalued e = unvalued h.mem.values i h.holds.numbers (sym (ap (λ (x : Float). eq x x) shown) ∙ e)
 
   pub known_row : (left : ℕ) → eq here here ≡ true
-      → Returns h.world h.sources₀ h.floats₀ (value_of h.world left (row_at h.world i).object (row_at h.world i).id h.mem) (got.Value here used) v s f
+      → Returns h.world h.sources₀ h.floats₀ (value_of h.world left (row_at h.world i).object (row_at h.world i).id h.mem) (Ok (record { value = here; used = used })) v s f
   known_row left e =
       let has = is-valued e in
       meets-value h.world h.sources₀ h.floats₀ v s f _ (record { value = here; mem = h.mem }) (known h.world _ _ h.mem its_row_here left has) refl (h.holds.numbers i here has) h.holds
 
   pub deep_row : (left : ℕ) {object : ℕ} → left ≡ 0 → object ≡ get_or (get_or t.rows i []) 0 0 → eq here here ≡ false
-      → Returns h.world h.sources₀ h.floats₀ (value_of h.world left (row_at h.world i).object (row_at h.world i).id h.mem) (got.Refused (Depth object)) v s f
+      → Returns h.world h.sources₀ h.floats₀ (value_of h.world left (row_at h.world i).object (row_at h.world i).id h.mem) (Err (Depth object)) v s f
   deep_row left {object} z o e =
       meets-refused h.world h.sources₀ h.floats₀ v s f _
       (ap (λ (d : ℕ). value_of h.world d (row_at h.world i).object (row_at h.world i).id h.mem) z ∙ deep h.world _ _ h.mem its_row_here (is_unvalued e)
@@ -123,14 +123,14 @@ module _ {t : Tables} {run : Recording} {v : List Float} {s : List (List ℕ)} {
           ∙ starting h.world _ _ h.mem its_row_here (left - 1) (is_unvalued e)
           ∙ calculate_evaluation h.world (value_of h.world (left - 1)) i (row_at h.world i) h.mem
 
-      pub ends : (x : Float) (more : ℕ) → Returns h.world h.sources₀ h.floats₀ evaluating (got.Value x more) v' s' f' → Returns h.world h.sources₀ h.floats₀ asked (got.Value x more) (set v' i x) s' f'
+      pub ends : (x : Float) (more : ℕ) → Returns h.world h.sources₀ h.floats₀ evaluating (Ok (record { value = x; used = more })) v' s' f' → Returns h.world h.sources₀ h.floats₀ asked (Ok (record { value = x; used = more })) (set v' i x) s' f'
       ends x more k =
           let q = met h.world h.sources₀ h.floats₀ v' s' f' evaluating x more k in
           meets-value h.world h.sources₀ h.floats₀ (set v' i x) s' f' asked (record { value = q.read.value; mem = set_value i q.read.value q.read.mem })
           (asked_is ∙ ap (λ (r : Res Read). r >>= λ c. ok (record { value = c.value; mem = set_value i c.value c.mem })) q.is) q.value q.number
           (subst (λ (y : Float). Holds h.world h.sources₀ h.floats₀ (set_value i y q.read.mem) (set v' i x) s' f' more) q.value (set_holds q.holds i x within q.number))
 
-      pub ends_refused : (z : Refusal) → Returns h.world h.sources₀ h.floats₀ evaluating (got.Refused z) v' s' f' → Returns h.world h.sources₀ h.floats₀ asked (got.Refused z) v' s' f'
+      pub ends_refused : (z : Refusal) → Returns h.world h.sources₀ h.floats₀ evaluating (Err z) v' s' f' → Returns h.world h.sources₀ h.floats₀ asked (Err z) v' s' f'
       ends_refused z k =
           meets-refused h.world h.sources₀ h.floats₀ v' s' f' asked
           (asked_is ∙ ap (λ (r : Res Read). r >>= λ c. ok (record { value = c.value; mem = set_value i c.value c.mem })) (missed h.world h.sources₀ h.floats₀ v' s' f' evaluating z k))

@@ -1,4 +1,5 @@
 -- One entry goes to an operator's pile: another operator's and an idle one change nothing; else its strength is read, and it is added.
+use Rattle.std.specs.Prelude.{Result, Ok, Err}
 use Prim.Native.Nat.{ℕ, ◌+◌, ◌≤◌, ◌<◌, ◌^◌, min}
 use native.Mathlib.Omega.{arith}
 use mathlib.Core.Path.{◌≡◌, refl, sym, ap, ap₂, subst, ◌∙◌}
@@ -31,7 +32,6 @@ use Rattle.sources.specs.Planned.{counts_of, planned_of, planned_if, planned_for
 use Rattle.sources.specs.Keeping.{Keeping, Begins}
 use Rattle.sources.proofs.Planning.{counts_long}
 use Rattle.gather.specs.declared.Pile.{Pile}
-use Rattle.gather.specs.declared.Stop.TheVariants.{No, Because}
 use Rattle.gather.specs.Piles.{PileOf, PiledAs, entered, entered_count}
 use Rattle.memory.specs.Memory.{value_at, Grows}
 use Rattle.memory.specs.Steps.{row_at, entry_at, no_entry, strength_of}
@@ -40,7 +40,6 @@ use Rattle.memory.proofs.Growth.{value_grows}
 use Rattle.memory.proofs.Gathers.{gather_one, gather_other, from_idle, from-read, strength_grows}
 use Rattle.memory.proofs.Entering.{entered_values, same_operator_lem}
 use Rattle.memory.specs.Answers.{Returns}
-use Rattle.memory.specs.declared.apply.Got.TheVariants as got
 use Rattle.memory.proofs.Fitting.{fits_below}
 use Rattle.memory.proofs.Holdings.{Met, met, missed, noted_holds, sources_long, floats_long}
 
@@ -106,7 +105,7 @@ module _ {t : Tables} {run : Recording} {v : List Float} {s : List (List ℕ)} {
   pub entry-object : {object : ℕ} → object ≡ get_or (get_or t.rows i []) 0 0 → row.object ≡ object
   entry-object e = sym (e ∙ h.ready.told.held.object i h.within)
 
-  abbrev Answer : Res Gathered → Pile → List Float → List (List ℕ) → List (List Float) → Type 0
+  abbrev Answer : Res Gathered → Result Pile Refusal → List Float → List (List ℕ) → List (List Float) → Type 0
   Answer x r v' s' f' = PileMeets w s₀ f₀ i high op h.found x r v' s' f'
 
   module _ (left : ℕ) where
@@ -116,13 +115,13 @@ module _ {t : Tables} {run : Recording} {v : List Float} {s : List (List ℕ)} {
     abbrev asked : Res Gathered
     asked = gather w i row read op (entry_at w i k ∷ []) g
 
-    unchanged : asked ≡ ok g → Answer asked p v s f
-    unchanged e = rw e (h.going, h.piled, h.ready.holds)
+    unchanged : asked ≡ ok g → Answer asked (Ok p) v s f
+    unchanged e = rw e (h.piled, h.ready.holds)
 
     same_code : get_or (get_or t.entries place []) 6 0 ≡ operator_code (entry_at w i k).operator
     same_code = ap (λ (l : List ℕ). get_or l 6 0) entry-held.numbers ∙ code_at (entry_at w i k)
 
-    pub entry_other : (get_or (get_or t.entries place []) 6 0 ≡ operator_code op → ⊥) → Answer asked p v s f
+    pub entry_other : (get_or (get_or t.entries place []) 6 0 ≡ operator_code op → ⊥) → Answer asked (Ok p) v s f
     entry_other n = unchanged (gather_other w i row read op (entry_at w i k) g (ne_eqb (operator_code (entry_at w i k).operator) (operator_code op) (λ e. n (same_code ∙ e))))
 
     -- the entry x is of the operator
@@ -142,7 +141,7 @@ module _ {t : Tables} {run : Recording} {v : List Float} {s : List (List ℕ)} {
       asked_is : asked ≡ defined.gather_from w i row read x x.origin g
       asked_is = ap (λ (e : Effect). gather w i row read op (e ∷ []) g) (sym is) ∙ gather_one w i row read op x g same
 
-      pub entry_idle : is_running t.states x.origin ≡ false → run.recording ≡ false → Answer asked p v s f
+      pub entry_idle : is_running t.states x.origin ≡ false → run.recording ≡ false → Answer asked (Ok p) v s f
       entry_idle a b = unchanged (asked_is ∙ from_idle w i row read x x.origin g (sym runs-is ∙ a) (h.ready.told.recorded.recording ∙ b))
 
       module _ (runs : Bool) (r-is : runs ≡ is_running t.states x.origin) (wanted : (runs || run.recording) ≡ true) where
@@ -161,10 +160,10 @@ module _ {t : Tables} {run : Recording} {v : List Float} {s : List (List ℕ)} {
             ∙ from-read w i row read x x.origin g (ap₂ (λ (a b : Bool). a || b) (sym runs_here) h.ready.told.recorded.recording ∙ wanted)
             ∙ ap (λ (b : Bool). strong >>= λ q. entered w i row b x q.value (record { mem = q.mem; values = h.values })) (sym runs_here)
 
-        pub entry-refused : (y : Refusal) (r : Pile) (v' : List Float) (s' : List (List ℕ)) (f' : List (List Float)) → Returns w s₀ f₀ strong (got.Refused y) v' s' f' → r.stop ≡ Because y → Answer asked r v' s' f'
-        entry-refused y r v' s' f' a z = rw (read_is ∙ ap (λ (q : Res Read). q >>= adding) (missed w s₀ f₀ v' s' f' strong y a)) z
+        pub entry-refused : (y : Refusal) (v' : List Float) (s' : List (List ℕ)) (f' : List (List Float)) → Returns w s₀ f₀ strong (Err y) v' s' f' → Answer asked (Err y) v' s' f'
+        entry-refused y v' s' f' a = rw (read_is ∙ ap (λ (q : Res Read). q >>= adding) (missed w s₀ f₀ v' s' f' strong y a)) refl
 
-        module _ (y : Float) (more : ℕ) (v' : List Float) (s' : List (List ℕ)) (f' : List (List Float)) (a : Returns w s₀ f₀ strong (got.Value y more) v' s' f') where
+        module _ (y : Float) (more : ℕ) (v' : List Float) (s' : List (List ℕ)) (f' : List (List Float)) (a : Returns w s₀ f₀ strong (Ok (record { value = y; used = more })) v' s' f') where
           abbrev pub q : Met w s₀ f₀ strong y v' s' f' more
           q = met w s₀ f₀ v' s' f' strong y more a
 
@@ -183,20 +182,21 @@ module _ {t : Tables} {run : Recording} {v : List Float} {s : List (List ℕ)} {
           pub entry-number : T (finite y)
           entry-number = q.number
 
-          pub entry_pile : (r : Pile) → r.own ≡ p.own → r.used ≡ more → r.running ≡ p.running → r.positive ≡ p.positive → r.negative ≡ p.negative → PileOf (counts_of w) w.room s₀ f₀ i high op h.found after r s' f'
-          entry_pile r own used a b c =
+          -- the pile with so many source rows of all rows
+          pub entry_pile : PileOf (counts_of w) w.room s₀ f₀ i high op h.found after (record { running = p.running; positive = p.positive; negative = p.negative; counts = record { own = p.counts.own; used = more } }) s' f'
+          entry_pile =
               record {
-                keeping = rw (own ∙ h.piled.keeping.mine ∙ sym (ap length own_same), used) (q.holds.sources i);
-                running = rw a h.piled.running;
-                positive = rw b h.piled.positive;
-                negative = rw c h.piled.negative;
+                keeping = subst (λ (n : ℕ). Keeping (counts_of w) w.room s₀ f₀ i q.read.mem s' f' n more) (ap length own_same ∙ sym h.piled.keeping.mine) (q.holds.sources i);
+                running = h.piled.running;
+                positive = h.piled.positive;
+                negative = h.piled.negative;
               }
 
-          pub entry-lengths : (r : Pile) → r.own ≡ p.own → r.used ≡ more → (run.room ≤ length s') × (run.room ≤ length f') × (r.own ≤ r.used)
-          entry-lengths r own used = (
+          pub entry-lengths : (run.room ≤ length s') × (run.room ≤ length f') × (p.counts.own ≤ more)
+          entry-lengths = (
             omega (arith, sources_long q.holds h.ready.told.roomy.0, h.ready.told.recorded.room),
             omega (arith, floats_long q.holds h.ready.told.roomy.1, h.ready.told.recorded.room),
-            omega (arith, own, used, h.piled.keeping.mine, ap length own_same, (q.holds.sources i).few i, (q.holds.sources i).all),
+            omega (arith, h.piled.keeping.mine, ap length own_same, (q.holds.sources i).few i, (q.holds.sources i).all),
           )
 
           pub entry_room : w.recording ≡ true → length (own_sources i after.mem) + entered_count runs x ≤ get_or (counts_of w) i 0
@@ -206,11 +206,13 @@ module _ {t : Tables} {run : Recording} {v : List Float} {s : List (List ℕ)} {
               in
               omega (arith, planned, ap length own_same, h.enough on)
 
-          pub entry-added : (r : Pile) (s'' : List (List ℕ)) (f'' : List (List Float)) → PiledAs (counts_of w) w.room s₀ f₀ i high op h.found (entered w i row runs x y after) r s'' f'' → Answer asked r v' s'' f''
-          entry-added r s'' f'' b = rw (read_is ∙ ap (λ (z : Res Read). z >>= adding) q.is ∙ ap (λ (n : Float). entered w i row runs x n after) (sym q.value)) (by (entered w i row runs x y after) refl b)
+          pub entry-added : (r : Result Pile Refusal) (s'' : List (List ℕ)) (f'' : List (List Float)) → PiledAs (counts_of w) w.room s₀ f₀ i high op h.found (entered w i row runs x y after) r s'' f'' → Answer asked r v' s'' f''
+          entry-added r s'' f'' b = rw (read_is ∙ ap (λ (z : Res Read). z >>= adding) q.is ∙ ap (λ (n : Float). entered w i row runs x n after) (sym q.value)) (by (entered w i row runs x y after) refl r b)
             where
-              by : (z : Res Gathered) → entered w i row runs x y after ≡ z → PiledAs (counts_of w) w.room s₀ f₀ i high op h.found z r s'' f'' → Answer z r v' s'' f''
-              by (ok u) e b =
+              by : (z : Res Gathered) → entered w i row runs x y after ≡ z → (r : Result Pile Refusal) → PiledAs (counts_of w) w.room s₀ f₀ i high op h.found z r s'' f'' → Answer z r v' s'' f''
+              by (ok u) e (Ok p) b =
                   let kept = entered_values w i row runs x y after u e in
-                  (b.0, b.1, noted_holds q.holds i still u.mem kept.0 kept.2 b.1.keeping)
-              by (refused u) e b = b
+                  (b, noted_holds q.holds i still u.mem kept.0 kept.2 b.keeping)
+              by (ok u) e (Err y) b = absurd b
+              by (refused u) e (Ok p) b = absurd b
+              by (refused u) e (Err y) b = b

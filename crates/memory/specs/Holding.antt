@@ -1,5 +1,5 @@
 -- What the columns say of the world and of the memory, and what an answer says. Definitions only.
-use Rattle.std.specs.Prelude.{ℕ, ◌+◌, ◌≤◌, ◌<◌, ◌≡◌, Bool, true, List, [], ◌∷◌, map, T, Float, length, get_or, take}
+use Rattle.std.specs.Prelude.{ℕ, ◌+◌, ◌≤◌, ◌<◌, ◌≡◌, Bool, true, List, [], ◌∷◌, map, T, Float, Result, Ok, Err, length, get_or, take}
 use Rattle.std.proofs.Math.Option.{Option, none, some}
 use Rattle.std.specs.Float.{nan}
 use Rattle.std.specs.Int.{w32}
@@ -15,6 +15,7 @@ use Rattle.rules.specs.Operate.{Values}
 use Rattle.rules.specs.Value.{World, Mem, Gathered, own_sources, state_of}
 use Rattle.rules.specs.declared.Effect.{Effect}
 use Rattle.rules.specs.declared.EffectOperator.{EffectOperator}
+use Rattle.rules.specs.declared.Refusal.{Refusal}
 use Rattle.info.specs.Sound.{SoundBook}
 use Rattle.reading.specs.Held.{RowsHeld, EntryHeld, Sourced}
 use Rattle.reading.specs.Stretched.{Stretched, Limits}
@@ -23,8 +24,8 @@ use Rattle.sources.specs.Shown.{first32}
 use Rattle.sources.specs.Planned.{counts_of, planned_for, planned_by}
 use Rattle.sources.specs.Keeping.{RunOf, Keeping}
 use Rattle.gather.specs.declared.Pile.{Pile}
-use Rattle.gather.specs.declared.Stop.TheVariants.{No, Because}
 use Rattle.gather.specs.Piles.{PileOf}
+use Rattle.memory.specs.declared.ReadColumns.{ReadColumns}
 use Rattle.memory.specs.Memory.{value_at, value_column, AllFinite}
 use Rattle.memory.specs.Steps.{row_at, entry_at}
 
@@ -42,6 +43,10 @@ pub record Tables : Type 0 where
 
 abbrev pub tables : List ℕ → List (List ℕ) → List (List ℕ) → List (List ℕ) → List ℕ → List (List ℕ) → List Float → List (List ℕ) → List Float → Tables
 tables b p s x l r c e v = record { book = b; pairs = p; states = s; stretches = x; limits = l; rows = r; bases = c; entries = e; values = v }
+
+-- the same of the columns that the code is passed
+abbrev pub tables_of : ReadColumns → Tables
+tables_of c = tables c.book.now c.pairs.now c.states.now c.stretches.now c.limits.now c.rows.now c.bases.now c.entries.now c.entry_values.now
 
 -- whether high is good of row i's attribute
 abbrev pub high_at : Tables → ℕ → Bool
@@ -112,17 +117,18 @@ pub record Busy (t : Tables) (run : Recording) (v : List Float) (s : List (List 
 
 -- the same while one operator's entries are gathered: the pile holds what the entries before entry k gave
 pub record Piling (t : Tables) (run : Recording) (v : List Float) (s : List (List ℕ)) (f : List (List Float)) (i k : ℕ) (high : Bool) (op : EffectOperator) (p : Pile) : Type 0 where
-  pub ready : Ready t run v s f p.used
+  pub ready : Ready t run v s f p.counts.used
   pub within : i < length ready.world.rows
   pub begun : Begun ready.world ready.mem i
   pub inside : k < length (row_at ready.world i).entries
   pub values : Values
   pub found : Float
   pub piled : PileOf (counts_of ready.world) ready.world.room ready.sources₀ ready.floats₀ i high op found (record { mem = ready.mem; values = values }) p s f
-  pub going : p.stop ≡ No
   pub enough : ready.world.recording ≡ true → length (own_sources i ready.mem) + planned_for ready.world op (entry_at ready.world i k ∷ []) ≤ get_or (counts_of ready.world) i 0
 
 -- an operator's pile as an answer
-abbrev pub PileMeets : World → List (List ℕ) → List (List Float) → ℕ → Bool → EffectOperator → Float → Res Gathered → Pile → List Float → List (List ℕ) → List (List Float) → Type 0
-PileMeets w s₀ f₀ i high op found (ok g) p v s f = (p.stop ≡ No) × PileOf (counts_of w) w.room s₀ f₀ i high op found g p s f × Holds w s₀ f₀ g.mem v s f p.used
-PileMeets w s₀ f₀ i high op found (refused y) p v s f = p.stop ≡ Because y
+abbrev pub PileMeets : World → List (List ℕ) → List (List Float) → ℕ → Bool → EffectOperator → Float → Res Gathered → Result Pile Refusal → List Float → List (List ℕ) → List (List Float) → Type 0
+PileMeets w s₀ f₀ i high op found (ok g) (Ok p) v s f = PileOf (counts_of w) w.room s₀ f₀ i high op found g p s f × Holds w s₀ f₀ g.mem v s f p.counts.used
+PileMeets w s₀ f₀ i high op found (ok g) (Err z) v s f = ⊥
+PileMeets w s₀ f₀ i high op found (refused y) (Ok p) v s f = ⊥
+PileMeets w s₀ f₀ i high op found (refused y) (Err z) v s f = z ≡ y

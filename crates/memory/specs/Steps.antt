@@ -1,5 +1,5 @@
 -- The steps of a calculation, each by a name of its own. Definitions only.
-use Rattle.std.specs.Prelude.{ℕ, false, List, pos, Float, get_or}
+use Rattle.std.specs.Prelude.{ℕ, false, List, pos, Float, get_or, None}
 use Rattle.laws.specs.Floats.{zero_f}
 use Rattle.rules.specs.Answer.{Res, ok, ◌>>=◌}
 use Rattle.rules.specs.Codes.{operators}
@@ -8,7 +8,6 @@ use Rattle.rules.specs.Info.{get_dogma_attribute}
 use Rattle.rules.specs.Value.{World, Mem, Read, Reader, resisted, operate, clamped, at_least, at_most}
 use Rattle.rules.specs.declared.Effect.{Effect}
 use Rattle.rules.specs.declared.EffectOperator.TheVariants.{PreAssign}
-use Rattle.rules.specs.declared.OptionalId.TheVariants.{Absent}
 use Rattle.rules.specs.declared.Origin.{Origin}
 use Rattle.rules.specs.declared.Origin.TheVariants as origin
 use Rattle.reading.specs.Held.{no_row}
@@ -19,7 +18,7 @@ row_at w i = get_or w.rows i no_row
 
 -- its entry k
 abbrev pub no_entry : Effect
-no_entry = record { origin = origin.Buff (pos 0) zero_f; operator = PreAssign; penalty = false; quantity = 0; resistance = Absent; number = 0 }
+no_entry = record { origin = origin.Buff (pos 0) zero_f; operator = PreAssign; penalty = false; quantity = 0; resistance = None; number = 0 }
 
 abbrev pub entry_at : World → ℕ → ℕ → Effect
 entry_at w i k = get_or (row_at w i).entries k no_entry

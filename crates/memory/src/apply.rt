@@ -6,55 +6,54 @@ use columns::SourceFloats;
 use gather::Pile;
 use numbers::less;
 use operate::finished;
-use rules::{Refusal, Step};
-use sources::Recording;
+use rules::Refusal;
 use sources::marks::set_penalties;
+use sources::{Recording, SourceCounts};
 
-// A value with the number of source rows so far, or the refusal.
+// A value with the number of source rows so far.
 #[derive(Clone, Copy)]
-pub enum Got {
-    Value(f64, u32),
-    Refused(Refusal),
+pub struct Got {
+    pub value: f64,
+    pub used: u32,
 }
 
-// The same after one operator, with the row's own source rows between.
+// The same after some operators, with the row's own source rows beside.
 #[derive(Clone, Copy)]
-pub enum Part {
-    At(f64, u32, u32),
-    Refused(Refusal),
+pub struct Part {
+    pub value: f64,
+    pub counts: SourceCounts,
 }
 
 // The operator's values are applied, and its source rows get their penalties.
-pub fn apply(floats: &mut [SourceFloats], run: Recording, first: u32, object: u32, p: Pile) -> Part
+pub fn apply(
+    floats: &mut [SourceFloats],
+    run: Recording,
+    first: u32,
+    object: u32,
+    p: Pile,
+) -> Result<Part, Refusal>
     requires roomy { run.room ≤ length floats.old }
     ensures defined { Applies run first object p floats result applying }
 {
-    let running = p.running;
-    let positive = p.positive;
-    let negative = p.negative;
-    let step = finished(running, positive, negative);
-    match step {
-        Step::Finite(v) => {
-            set_penalties(floats, run, first, positive);
-            set_penalties(floats, run, first, negative);
-            Part::At(v, p.own, p.used)
-        }
-        Step::NotFinite => Part::Refused(Refusal::Number(object)),
-    }
+    let Some(value) = finished(p.running, p.positive, p.negative) else {
+        return Err(Refusal::Number(object));
+    };
+    set_penalties(floats, run, first, p.positive);
+    set_penalties(floats, run, first, p.negative);
+    Ok(Part {
+        value,
+        counts: p.counts,
+    })
 }
 
 // A value that is at least, or at most, a limit: equal values keep the current one.
 pub fn held_to(value: f64, limit: f64, least: bool) -> f64
     ensures defined { result ≡ held_by least value limit }
 {
-    if least {
-        if less(value, limit) {
-            return limit;
-        }
-        return value;
-    }
-    if less(limit, value) {
-        return limit;
-    }
-    value
+    let passed = if least {
+        less(value, limit)
+    } else {
+        less(limit, value)
+    };
+    if passed { limit } else { value }
 }

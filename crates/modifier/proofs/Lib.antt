@@ -1,6 +1,5 @@
 pub mod Tests
 pub mod MovesLaws
 pub mod Runs
-pub mod Numbers
 pub mod Ends
 pub mod Loops

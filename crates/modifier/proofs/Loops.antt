@@ -11,7 +11,7 @@ use Rattle.laws.proofs.Spans.{span_all}
 use Rattle.rules.specs.Collect.{Move}
 use Rattle.rules.specs.declared.Refusal.{Refusal}
 use Rattle.modifier.specs.declared.moves.CollectedRooms.{CollectedRooms}
-use Rattle.modifier.specs.Ran.{Stand, at, stop, ran, Lent}
+use Rattle.modifier.specs.Ran.{Stand, stop, ran, Lent}
 use Rattle.modifier.proofs.Runs.{turn, ended_at, halted}
 
 pub record Left (q : CollectedRooms) {A X : Type 0} (F : X → A → List Move) (M : List A) (first e : ℕ) (s₀ s : X → Stand) (i : ℕ) : Type 0 where

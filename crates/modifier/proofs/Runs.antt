@@ -1,23 +1,17 @@
 -- Laws of moves that are run: one part after another, a loop's turn, and what a stopped run stays.
+use Rattle.std.specs.Prelude.{Result, Ok, Err}
 use Prim.Native.Nat.{ℕ, ◌+◌, ◌-◌, ◌≤◌, ◌<◌}
 use mathlib.Core.Path.{◌≡◌, refl, sym, ap, ◌∙◌}
 use mathlib.Core.List.{List, [], ◌∷◌, ◌++◌}
-use borrow.Author.Tests.{le-ltb, lt-ltb}
-use lib.IntN.{ℤ}
-use lib.ListN.{length, get_or, set}
+use lib.ListN.{length, get_or}
 use lib.Ieee.{Float}
 use Rattle.laws.specs.Lists.{flat, span}
 use Rattle.laws.proofs.Spans.{span_left, span_end}
-use Rattle.rules.specs.Bytes.{bits}
-use Rattle.rules.specs.Collect.{Move, taken, plain, refuse}
-use Rattle.rules.specs.Columns.{collected_numbers}
-use Rattle.rules.specs.declared.Pass2Effect.{Pass2Effect}
+use Rattle.rules.specs.Collect.{Move, refuse}
 use Rattle.rules.specs.declared.Refusal.{Refusal}
-use Rattle.rules.specs.declared.Refusal.TheVariants.{Room}
+use Rattle.modifier.specs.declared.moves.CollectedCounts.{CollectedCounts}
 use Rattle.modifier.specs.declared.moves.CollectedRooms.{CollectedRooms}
-use Rattle.modifier.specs.declared.moves.Counted.{Counted}
-use Rattle.modifier.specs.declared.moves.Counted.TheVariants.{At, Refused}
-use Rattle.modifier.specs.Ran.{Stand, at, stop, stand_of, value_of, moved, ran}
+use Rattle.modifier.specs.Ran.{Stand, at, stop, stand_of, moved, ran}
 
 module _ (q : CollectedRooms) where
   pub ran_append : (xs ys : List Move) (s : Stand) → ran q (xs ++ ys) s ≡ ran q ys (ran q xs s)
@@ -56,32 +50,16 @@ module _ (q : CollectedRooms) {A : Type 0} (F : A → List Move) (M : List A) (i
 pub halted : (q : CollectedRooms) (xs : List Move) (whole t : Stand) (x : Refusal) → whole ≡ ran q xs t → t ≡ stop x → stop x ≡ whole
 halted q xs whole t x w e = sym (w ∙ ap (ran q xs) e ∙ ran-stop q xs x)
 
--- an answer, as a pattern found it
-pub answered : {r : Counted} {n p : ℕ} → r ≡ At n p → (c : List (List ℕ)) (v : List Float) (l : List (List ℕ)) → stand_of r c v l ≡ at n p c v l
-answered e c v l = ap (λ (r : Counted). stand_of r c v l) e
+-- an answer that is known
+pub answered : {r : Result CollectedCounts Refusal} {n : CollectedCounts} → r ≡ Ok n → (c : List (List ℕ)) (v : List Float) (l : List (List ℕ)) → stand_of r c v l ≡ at n.collected n.plain c v l
+answered e c v l = ap (λ (r : Result CollectedCounts Refusal). stand_of r c v l) e
 
-pub was_refused : {r : Counted} {x : Refusal} → r ≡ Refused x → (c : List (List ℕ)) (v : List Float) (l : List (List ℕ)) → stand_of r c v l ≡ stop x
-was_refused e c v l = ap (λ (r : Counted). stand_of r c v l) e
+pub was_refused : {r : Result CollectedCounts Refusal} {x : Refusal} → r ≡ Err x → (c : List (List ℕ)) (v : List Float) (l : List (List ℕ)) → stand_of r c v l ≡ stop x
+was_refused e c v l = ap (λ (r : Result CollectedCounts Refusal). stand_of r c v l) e
 
--- ---- a row pushed
+-- ---- a refusal
 
 module _ (q : CollectedRooms) (n p : ℕ) (c : List (List ℕ)) (v : List Float) (l : List (List ℕ)) where
-  pub no_room : (t : Pass2Effect) → q.collected ≤ n → stop (Room 1) ≡ ran q (taken t ∷ []) (at n p c v l)
-  unfolding ran moved
-  no_room t h = rw (le-ltb n q.collected h) refl
-
-  pub pushed : (t : Pass2Effect) {xs : List ℕ} {x : Float} → n < q.collected → xs ≡ collected_numbers t → x ≡ value_of t → at (n + 1) p (set c n xs) (set v n x) l ≡ ran q (taken t ∷ []) (at n p c v l)
-  unfolding ran moved
-  pushed t h e g = rw (lt-ltb n q.collected h, e, g) refl
-
-  pub no_plain_room : (o : ℕ) (e : ℤ) → q.plain ≤ p → stop (Room 4) ≡ ran q (plain o e ∷ []) (at n p c v l)
-  unfolding ran moved
-  no_plain_room o e h = rw (le-ltb p q.plain h) refl
-
-  pub pushed_plain : (o : ℕ) (e : ℤ) {x : ℕ} → p < q.plain → x ≡ bits e → at n (p + 1) c v (set l p (o ∷ x ∷ [])) ≡ ran q (plain o e ∷ []) (at n p c v l)
-  unfolding ran moved
-  pushed_plain o e h g = rw (lt-ltb p q.plain h, g) refl
-
   pub refused-one : (x : Refusal) → stop x ≡ ran q (refuse x ∷ []) (at n p c v l)
   unfolding ran moved
   refused-one x = refl

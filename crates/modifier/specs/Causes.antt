@@ -1,5 +1,5 @@
 -- What a modifier gives, by what it is collected for.
-use Rattle.std.specs.Prelude.{ℕ, ◌≡◌, List, [], ◌∷◌}
+use Rattle.std.specs.Prelude.{ℕ, ◌≡◌, List, [], ◌∷◌, Option, Some, None, Result, Ok, Err}
 use Rattle.rules.specs.Sheet.{Book, Fit}
 use Rattle.rules.specs.Collect.{Move, taken, refuse, modifier_moves, projected_modifier_moves, buff_modifier_moves, named, unless_zero}
 use Rattle.rules.specs.declared.Modifier.{Modifier}
@@ -8,20 +8,18 @@ use Rattle.rules.specs.declared.DogmaModifier.{DogmaModifier}
 use Rattle.rules.specs.declared.DogmaEffect.{DogmaEffect}
 use Rattle.rules.specs.declared.Item.{Item}
 use Rattle.rules.specs.declared.EffectCategory.{EffectCategory}
+use Rattle.rules.specs.declared.ProjectedBuff.{ProjectedBuff}
 use Rattle.rules.specs.declared.Origin.TheVariants.{Effect}
 use Rattle.rules.specs.declared.Pass2Effect.{Pass2Effect}
-use Rattle.rules.specs.declared.OptionalId.{OptionalId}
-use Rattle.rules.specs.declared.OptionalId.TheVariants.{Absent}
-use Rattle.modifier.specs.Tests.{OwnerOf}
-use Rattle.modifier.specs.declared.causes.Moved.{Moved}
-use Rattle.modifier.specs.declared.causes.Moved.TheVariants as move
-use Rattle.modifier.specs.declared.causes.Cause.{Cause}
-use Rattle.modifier.specs.declared.causes.Cause.TheVariants as cause
+use Rattle.rules.specs.Ids.{OptionalId}
+use Rattle.rules.specs.declared.Refusal.{Refusal}
+use Rattle.modifier.specs.declared.codes.Owner.{Owner}
 
-abbrev pub moves_of : Moved → List Move
-moves_of (move.Taken t) = taken t ∷ []
-moves_of move.Over = []
-moves_of (move.Bad x) = refuse x ∷ []
+-- what is taken, nothing where the modifier is passed over, or a refusal
+abbrev pub moves_of : Result (Option Pass2Effect) Refusal → List Move
+moves_of (Ok (Some t)) = taken t ∷ []
+moves_of (Ok None) = []
+moves_of (Err x) = refuse x ∷ []
 
 -- the collected effect of an object's modifier, by what its tests gave
 abbrev pub effect_of : Item → DogmaEffect → DogmaModifier → EffectCategory → OptionalId → Modifier → EffectOperator → ℕ → Pass2Effect
@@ -37,16 +35,20 @@ effect_of o e m c r func op target =
     }
 
 abbrev pub resistance_of : Fit → Item → DogmaEffect → OptionalId
-resistance_of f o e = unless_zero (named f o) (unless_zero e.resistance_attribute_id Absent)
+resistance_of f o e = unless_zero (named f o) (unless_zero e.resistance_attribute_id None)
+
+-- what modifiers are collected for: an object's own effect, its projected effect, a buff
+pub data Cause : Type 0 where
+  own : Owner → DogmaEffect → EffectCategory → Cause
+  projected : Owner → DogmaEffect → EffectCategory → OptionalId → Cause
+  buff : ProjectedBuff → EffectOperator → Cause
 
 -- what a modifier gives, by what it is collected for
 abbrev pub cause_moves : Book → Fit → Cause → DogmaModifier → List Move
-cause_moves k f (cause.Own w e c) m = modifier_moves k f w.item e c m
-cause_moves k f (cause.Projected w e c r) m = projected_modifier_moves f w.item e c m
-cause_moves k f (cause.Buff b o) m = buff_modifier_moves b o m
+cause_moves k f (own w e c) m = modifier_moves k f w.item e c m
+cause_moves k f (projected w e c r) m = projected_modifier_moves f w.item e c m
+cause_moves k f (buff b o) m = buff_modifier_moves b o m
 
--- what it is collected for is the fit's, with the resistance that a projected effect meets
-abbrev pub CauseOf : Fit → Cause → Type 0
-CauseOf f (cause.Own w e c) = OwnerOf f w
-CauseOf f (cause.Projected w e c r) = OwnerOf f w × (r ≡ resistance_of f w.item e)
-CauseOf f (cause.Buff b o) = Unit
+-- what g makes of each modifier is what a way of giving, R, makes of it
+abbrev pub Gives : (DogmaModifier → Result (Option Pass2Effect) Refusal → Type 0) → (DogmaModifier → List Move) → Type 0
+Gives R g = (m : DogmaModifier) (r : Result (Option Pass2Effect) Refusal) → R m r → moves_of r ≡ g m

@@ -1,5 +1,5 @@
 -- What moves do to lists 1 and 4: the counts so far and the columns, or the refusal that ended collection.
-use Rattle.std.specs.Prelude.{ℕ, ◌+◌, ◌≤◌, ◌≡◌, Bool, true, false, List, [], ◌∷◌, ltb, Float, length, set}
+use Rattle.std.specs.Prelude.{ℕ, ◌+◌, ◌≤◌, ◌≡◌, Bool, true, false, List, [], ◌∷◌, ltb, Float, length, set, Result, Ok, Err}
 use Rattle.rules.specs.Answer.{Res, ok, refused}
 use Rattle.rules.specs.Collect.{Move, taken, plain, refuse, taken_of, plain_of}
 use Rattle.rules.specs.Columns.{collected_numbers, plain_numbers, origin_value}
@@ -9,8 +9,7 @@ use Rattle.rules.specs.declared.Refusal.TheVariants.{Room}
 use Rattle.laws.specs.Columns.{laid}
 use Rattle.columns.specs.Lending.{LentColumn}
 use Rattle.modifier.specs.declared.moves.CollectedRooms.{CollectedRooms}
-use Rattle.modifier.specs.declared.moves.Counted.{Counted}
-use Rattle.modifier.specs.declared.moves.Counted.TheVariants.{At, Refused}
+use Rattle.modifier.specs.declared.moves.CollectedCounts.{CollectedCounts}
 
 -- n rows of list 1 stand in the columns c and v, p rows of list 4 in l; or collection has stopped
 pub data Stand : Type 0 where
@@ -18,9 +17,9 @@ pub data Stand : Type 0 where
   stop : Refusal → Stand
 
 -- what an answer says, with the columns as they are then. After a refusal they may hold anything: who lent them clears them
-abbrev pub stand_of : Counted → List (List ℕ) → List Float → List (List ℕ) → Stand
-stand_of (At n p) c v l = at n p c v l
-stand_of (Refused x) c v l = stop x
+abbrev pub stand_of : Result CollectedCounts Refusal → List (List ℕ) → List Float → List (List ℕ) → Stand
+stand_of (Ok n) c v l = at n.collected n.plain c v l
+stand_of (Err x) c v l = stop x
 
 abbrev pub value_of : Pass2Effect → Float
 value_of t = origin_value t.origin
@@ -56,16 +55,16 @@ abbrev pub ended : Res Unit → List Move → List (List ℕ) → List Float →
 ended (ok u) ms c v l = at (length (taken_of ms)) (length (plain_of ms)) (laid collected_numbers (taken_of ms) c) (laid value_of (taken_of ms) v) (laid plain_numbers (plain_of ms) l)
 ended (refused x) ms c v l = stop x
 
--- ---- what a call answers that runs the moves ms, where n rows of list 1 stood and p rows of list 4
+-- ---- what a call answers that runs the moves ms, where n.collected rows of list 1 stood and n.plain rows of list 4
 
 -- the columns hold what the moves leave
-abbrev pub Runs : CollectedRooms → Counted → ℕ → ℕ → List Move → LentColumn (List ℕ) → LentColumn Float → LentColumn (List ℕ) → Type 0
-Runs q r n p ms c v l = stand_of r c.exit.now v.exit.now l.exit.now ≡ ran q ms (at n p c.entry.now v.entry.now l.entry.now)
+abbrev pub Runs : CollectedRooms → Result CollectedCounts Refusal → CollectedCounts → List Move → LentColumn (List ℕ) → LentColumn Float → LentColumn (List ℕ) → Type 0
+Runs q r n ms c v l = stand_of r c.exit.now v.exit.now l.exit.now ≡ ran q ms (at n.collected n.plain c.entry.now v.entry.now l.entry.now)
 
 -- those of list 1 do, whatever list 4 holds
-abbrev pub RunsCollected : CollectedRooms → Counted → ℕ → ℕ → List Move → LentColumn (List ℕ) → LentColumn Float → Type 0
-RunsCollected q r n p ms c v = (l : List (List ℕ)) → stand_of r c.exit.now v.exit.now l ≡ ran q ms (at n p c.entry.now v.entry.now l)
+abbrev pub RunsCollected : CollectedRooms → Result CollectedCounts Refusal → CollectedCounts → List Move → LentColumn (List ℕ) → LentColumn Float → Type 0
+RunsCollected q r n ms c v = (l : List (List ℕ)) → stand_of r c.exit.now v.exit.now l ≡ ran q ms (at n.collected n.plain c.entry.now v.entry.now l)
 
 -- that of list 4 does, whatever list 1 holds
-abbrev pub RunsPlain : CollectedRooms → Counted → ℕ → ℕ → List Move → LentColumn (List ℕ) → Type 0
-RunsPlain q r n p ms l = (c : List (List ℕ)) (v : List Float) → stand_of r c v l.exit.now ≡ ran q ms (at n p c v l.entry.now)
+abbrev pub RunsPlain : CollectedRooms → Result CollectedCounts Refusal → CollectedCounts → List Move → LentColumn (List ℕ) → Type 0
+RunsPlain q r n ms l = (c : List (List ℕ)) (v : List Float) → stand_of r c v l.exit.now ≡ ran q ms (at n.collected n.plain c v l.entry.now)

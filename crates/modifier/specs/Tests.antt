@@ -1,41 +1,39 @@
 -- What the code's tests and its struct of an object mean.
-use Rattle.std.specs.Prelude.{ℕ, suc, ◌≡◌, ◌&&◌, not, cond, List, eqb}
+use Rattle.std.specs.Prelude.{ℕ, suc, ◌≡◌, ◌&&◌, not, cond, List, eqb, Option, Some, None, Result, Ok, Err}
 use Rattle.rules.specs.Sheet.{Fit}
-use Rattle.rules.specs.Item.{is_item, is_skill, item_of, has_charge, char_of, structure_fit}
+use Rattle.rules.specs.Item.{is_item, is_charge, is_skill, item_of, has_charge, char_of, structure_fit}
 use Rattle.rules.specs.Collect.{Move, Test, go, over, bad, then, unless, test_domain}
-use Rattle.rules.specs.declared.Modifier.{Modifier}
-use Rattle.rules.specs.declared.EffectOperator.{EffectOperator}
 use Rattle.rules.specs.declared.DogmaModifier.{DogmaModifier}
 use Rattle.rules.specs.declared.Item.{Item}
-use Rattle.modifier.specs.declared.codes.FuncTest.{FuncTest}
-use Rattle.modifier.specs.declared.codes.FuncTest.TheVariants as func
-use Rattle.modifier.specs.declared.codes.OperationTest.{OperationTest}
-use Rattle.modifier.specs.declared.codes.OperationTest.TheVariants as operation
-use Rattle.modifier.specs.declared.codes.TargetTest.{TargetTest}
-use Rattle.modifier.specs.declared.codes.TargetTest.TheVariants as target
+use Rattle.rules.specs.declared.Refusal.{Refusal}
+use Rattle.rules.specs.declared.Refusal.TheVariants.{Other}
 use Rattle.modifier.specs.declared.codes.Owner.{Owner}
 
-abbrev pub func_of : FuncTest → Test Modifier
-func_of (func.Go m) = go m
-func_of func.Over = over
-func_of (func.Bad x) = bad x
+-- what a code stands for, nothing where the modifier is passed over, or a refusal
+abbrev pub test_of : {A : Type 0} → Result (Option A) Refusal → Test A
+test_of (Ok (Some a)) = go a
+test_of (Ok None) = over
+test_of (Err x) = bad x
 
-abbrev pub operation_of : OperationTest → Test EffectOperator
-operation_of (operation.Go o) = go o
-operation_of operation.Over = over
-operation_of (operation.Bad x) = bad x
-
-abbrev pub target_of : TargetTest → Test ℕ
-target_of (target.Go n) = go n
-target_of target.Over = over
-target_of (target.Bad x) = bad x
+-- the other of an item and its charge: an item's charge where it has one, and a charge's item
+abbrev pub other_in : Fit → Item → Option ℕ
+other_in f o = cond (is_item o) (cond (has_charge f o) (Some (suc o.number)) None) (cond (is_charge o) (Some (item_of f o).number) None)
 
 -- w is its object with what the fit says of it
 pub record OwnerOf (f : Fit) (w : Owner) : Type 0 where
-  pub charged : w.charged ≡ has_charge f w.item
-  pub other : w.other ≡ cond (is_item w.item) (suc w.item.number) (item_of f w.item).number
+  pub other : w.other ≡ other_in f w.item
   pub structure : w.structure ≡ structure_fit f
   pub character : w.character ≡ char_of f
+
+-- the domain OtherID, where an item without charge is passed over
+abbrev pub test_other : Fit → Item → DogmaModifier → Test ℕ
+test_other f o m =
+    cond (is_item o) (cond (has_charge f o) (go (suc o.number)) over)
+    (cond (is_charge o) (go (item_of f o).number) (bad (Other m.number)))
+
+-- "item without charge, target domain"
+abbrev pub test_own_domain : Fit → Item → DogmaModifier → Test ℕ
+test_own_domain f o m = cond (eqb m.domain 3) (test_other f o m) (test_domain f o m)
 
 -- "item without charge, ship domain skipped, target domain", and then g
 abbrev pub own_target : Fit → Item → DogmaModifier → (ℕ → List Move) → List Move

@@ -6,33 +6,16 @@ ghost use Rattle.rules.specs.Sheet.{Book, Fit};
 ghost use Rattle.rules.specs.Item.{is_rig};
 ghost use Rattle.rules.specs.Collect.{modifier_moves, projected_modifier_moves, buff_modifier_moves};
 ghost use Rattle.modifier.specs.Tests.{OwnerOf};
-ghost use Rattle.modifier.specs.Causes.{CauseOf, moves_of, cause_moves, effect_of, resistance_of};
+ghost use Rattle.modifier.specs.Causes.{moves_of, effect_of, resistance_of};
 
 use super::codes::{
-    FuncTest, OperationTest, Owner, TargetTest, get_effect_operator, get_modifier_func,
-    get_own_target, get_projected_object,
+    Owner, get_effect_operator, get_modifier_func, get_own_target, get_projected_object,
 };
 use item::locations::is_rig;
 use rules::{
     ATTRIBUTE_UPGRADE_LOAD_ID, DogmaEffect, DogmaModifier, EffectCategory, EffectOperator, Item,
-    Modifier, OptionalId, Origin, Pass2Effect, ProjectedBuff, Refusal,
+    Modifier, Origin, Pass2Effect, ProjectedBuff, Refusal,
 };
-
-// What a modifier gives.
-#[derive(Clone, Copy)]
-pub enum Moved {
-    Taken(Pass2Effect),
-    Over,
-    Bad(Refusal),
-}
-
-// What modifiers are collected for: an object's own effect, its projected effect, a buff.
-#[derive(Clone, Copy)]
-pub enum Cause {
-    Own(Owner, DogmaEffect, EffectCategory),
-    Projected(Owner, DogmaEffect, EffectCategory, OptionalId),
-    Buff(ProjectedBuff, EffectOperator),
-}
 
 // On attribute 1152 a rig keeps Passive.
 fn source_category(o: Item, category: EffectCategory, attribute: i32) -> EffectCategory
@@ -50,7 +33,7 @@ fn effect_of(
     e: DogmaEffect,
     m: DogmaModifier,
     source: EffectCategory,
-    resistance: OptionalId,
+    resistance: Option<i32>,
     modifier: Modifier,
     operator: EffectOperator,
     target: u32,
@@ -64,116 +47,88 @@ fn effect_of(
             source_category: source,
             attribute_id: m.modifying_attribute_id,
         },
-        modifier: modifier,
-        operator: operator,
+        modifier,
+        operator,
         source_quantity: o.quantity,
-        target: target,
+        target,
         target_attribute_id: m.modified_attribute_id,
-        resistance: resistance,
+        resistance,
     }
 }
 
-// An own modifier: func, operation, item without charge, ship domain skipped, target domain.
-pub fn own_move(w: Owner, e: DogmaEffect, category: EffectCategory, m: DogmaModifier) -> Moved
-    ensures defined { (k : Book) (f : Fit) → OwnerOf f w → moves_of result ≡ modifier_moves k f w.item e category m }
-{
-    let o = w.item;
-    let func = get_modifier_func(m);
-    match func {
-        FuncTest::Go(modifier) => {
-            let operation = get_effect_operator(m.operation, m.number);
-            match operation {
-                OperationTest::Go(operator) => {
-                    let aim = get_own_target(w, m);
-                    match aim {
-                        TargetTest::Go(target) => {
-                            let source = source_category(o, category, m.modified_attribute_id);
-                            let absent = OptionalId::Absent;
-                            let t = effect_of(o, e, m, source, absent, modifier, operator, target);
-                            Moved::Taken(t)
-                        }
-                        TargetTest::Over => Moved::Over,
-                        TargetTest::Bad(x) => Moved::Bad(x),
-                    }
-                }
-                OperationTest::Over => Moved::Over,
-                OperationTest::Bad(x) => Moved::Bad(x),
-            }
-        }
-        FuncTest::Over => Moved::Over,
-        FuncTest::Bad(x) => Moved::Bad(x),
-    }
-}
-
-// A projected modifier: domain, func, operation.
-fn projected_move(
+// An own modifier: func, operation, item without charge, ship domain skipped, target domain. None is passed over.
+#[tactic(auto, using(crate::proofs::Tests::given_on), unfolding(rules::specs::Collect::modifier_moves))]
+pub fn own_move(
     w: Owner,
     e: DogmaEffect,
     category: EffectCategory,
-    resistance: OptionalId,
     m: DogmaModifier,
-) -> Moved
+) -> Result<Option<Pass2Effect>, Refusal>
+    ensures defined { (k : Book) (f : Fit) → OwnerOf f w → moves_of result ≡ modifier_moves k f w.item e category m }
+{
+    let o = w.item;
+    let Some(modifier) = get_modifier_func(m)? else {
+        return Ok(None);
+    };
+    let Some(operator) = get_effect_operator(m.operation, m.number)? else {
+        return Ok(None);
+    };
+    let Some(target) = get_own_target(w, m)? else {
+        return Ok(None);
+    };
+    let source = source_category(o, category, m.modified_attribute_id);
+    let t = effect_of(o, e, m, source, None, modifier, operator, target);
+    Ok(Some(t))
+}
+
+// A projected modifier: domain, func, operation.
+#[tactic(auto, using(crate::proofs::Tests::given_on), unfolding(rules::specs::Collect::projected_modifier_moves))]
+pub fn projected_move(
+    w: Owner,
+    e: DogmaEffect,
+    category: EffectCategory,
+    resistance: Option<i32>,
+    m: DogmaModifier,
+) -> Result<Option<Pass2Effect>, Refusal>
     ensures defined { (f : Fit) → OwnerOf f w → resistance ≡ resistance_of f w.item e
         → moves_of result ≡ projected_modifier_moves f w.item e category m }
 {
     let o = w.item;
-    let aim = get_projected_object(w, m);
-    match aim {
-        TargetTest::Go(target) => {
-            let func = get_modifier_func(m);
-            match func {
-                FuncTest::Go(modifier) => {
-                    let operation = get_effect_operator(m.operation, m.number);
-                    match operation {
-                        OperationTest::Go(op) => {
-                            let t = effect_of(o, e, m, category, resistance, modifier, op, target);
-                            Moved::Taken(t)
-                        }
-                        OperationTest::Over => Moved::Over,
-                        OperationTest::Bad(x) => Moved::Bad(x),
-                    }
-                }
-                FuncTest::Over => Moved::Over,
-                FuncTest::Bad(x) => Moved::Bad(x),
-            }
-        }
-        TargetTest::Over => Moved::Over,
-        TargetTest::Bad(x) => Moved::Bad(x),
-    }
+    let Some(target) = get_projected_object(w, m)? else {
+        return Ok(None);
+    };
+    let Some(modifier) = get_modifier_func(m)? else {
+        return Ok(None);
+    };
+    let Some(operator) = get_effect_operator(m.operation, m.number)? else {
+        return Ok(None);
+    };
+    let t = effect_of(o, e, m, category, resistance, modifier, operator, target);
+    Ok(Some(t))
 }
 
 // A modifier of a buff: func.
-fn buff_move(b: ProjectedBuff, operator: EffectOperator, m: DogmaModifier) -> Moved
+#[tactic(auto, using(crate::proofs::Tests::given_on), unfolding(rules::specs::Collect::buff_modifier_moves))]
+pub fn buff_move(
+    b: ProjectedBuff,
+    operator: EffectOperator,
+    m: DogmaModifier,
+) -> Result<Option<Pass2Effect>, Refusal>
     ensures defined { moves_of result ≡ buff_modifier_moves b operator m }
 {
-    let tested = get_modifier_func(m);
-    match tested {
-        FuncTest::Go(modifier) => Moved::Taken(Pass2Effect {
-            origin: Origin::Buff {
-                buff_id: b.id,
-                value: b.value,
-            },
-            modifier: modifier,
-            operator: operator,
-            source_quantity: 1,
-            target: 0,
-            target_attribute_id: m.modified_attribute_id,
-            resistance: OptionalId::Absent,
-        }),
-        FuncTest::Over => Moved::Over,
-        FuncTest::Bad(x) => Moved::Bad(x),
-    }
-}
-
-// What a modifier gives, by what it is collected for.
-pub fn move_of(cause: Cause, m: DogmaModifier) -> Moved
-    ensures defined { (k : Book) (f : Fit) → CauseOf f cause → moves_of result ≡ cause_moves k f cause m }
-{
-    match cause {
-        Cause::Own(w, e, category) => own_move(w, e, category, m),
-        Cause::Projected(w, e, category, resistance) => {
-            projected_move(w, e, category, resistance, m)
-        }
-        Cause::Buff(b, operator) => buff_move(b, operator, m),
-    }
+    let Some(modifier) = get_modifier_func(m)? else {
+        return Ok(None);
+    };
+    Ok(Some(Pass2Effect {
+        origin: Origin::Buff {
+            buff_id: b.id,
+            value: b.value,
+        },
+        modifier,
+        operator,
+        source_quantity: 1,
+        target: 0,
+        target_attribute_id: m.modified_attribute_id,
+        resistance: None,
+    }))
 }

@@ -2,35 +2,33 @@
 ghost use Rattle.std.specs.Prelude.{◌≡◌, [], ◌∷◌, ◌≤◌, length};
 ghost use Rattle.rules.specs.Collect as rules;
 ghost use Rattle.rules.specs.Columns.{collected_numbers, modifier_numbers, optional_numbers, origin_numbers, origin_value};
-ghost use Rattle.modifier.specs.Causes.{moves_of};
 ghost use Rattle.modifier.specs.Ran.{Lent, RunsCollected, RunsPlain};
 
-use super::causes::Moved;
 use columns::{
     COLLECTED_BUFF, COLLECTED_EFFECT, COLLECTED_MODIFYING_ATTRIBUTE, COLLECTED_ORIGIN,
     COLLECTED_SOURCE, COLLECTED_SOURCE_CATEGORY, CollectedRow, PlainRow,
 };
 use item::codes::{category_code, operator_code};
 use numbers::integers::{bits, optional_numbers};
-use rules::{Modifier, OptionalId, Origin, Pass2Effect, Refusal};
+use rules::{Modifier, Origin, Pass2Effect, Refusal};
 
 // The first six numbers of a row of list 1, what the effect comes from, and the next two.
 type OriginNumbers = [u32; 6];
 
 type ModifierNumbers = [u32; 2];
 
-// The rooms of lists 1 and 4.
+// The rooms of lists 1 and 4: a type of its own, since a room is no count.
 #[derive(Clone, Copy)]
 pub struct CollectedRooms {
     pub collected: usize,
     pub plain: usize,
 }
 
-// How many rows stand in lists 1 and 4; or the refusal that ended collection.
+// How many rows stand in lists 1 and 4.
 #[derive(Clone, Copy)]
-pub enum Counted {
-    At(usize, usize),
-    Refused(Refusal),
+pub struct CollectedCounts {
+    pub collected: usize,
+    pub plain: usize,
 }
 
 // Numbers 0 to 5 of a row of list 1: effect or buff, the effect, its source, its category, the attribute, the buff (`origin_numbers`).
@@ -116,66 +114,51 @@ fn collected_numbers(e: Pass2Effect) -> CollectedRow
 }
 
 // A collected effect goes to the end of list 1.
+#[tactic(auto, unfolding(crate::specs::Ran::ran, crate::specs::Ran::moved))]
 pub fn push(
     collected: &mut [CollectedRow],
     collected_values: &mut [f64],
     rooms: CollectedRooms,
-    used: usize,
-    used_plain: usize,
+    used: CollectedCounts,
     e: Pass2Effect,
-) -> Counted
+) -> Result<CollectedCounts, Refusal>
     requires lent { Lent rooms collected.old collected_values.old }
-    ensures defined { RunsCollected rooms result used used_plain (rules.taken e ∷ []) collected collected_values }
+    ensures defined { RunsCollected rooms result used (rules.taken e ∷ []) collected collected_values }
 {
-    let room = rooms.collected;
-    if room <= used {
-        return Counted::Refused(Refusal::Room(1));
+    let n = used.collected;
+    if rooms.collected <= n {
+        return Err(Refusal::Room(1));
     }
     let row = collected_numbers(e);
-    let origin = e.origin;
-    let value = origin_value(origin);
-    collected[used] = row;
-    collected_values[used] = value;
-    Counted::At(used + 1, used_plain)
-}
-
-// What a modifier gives goes to list 1.
-pub fn put(
-    collected: &mut [CollectedRow],
-    collected_values: &mut [f64],
-    rooms: CollectedRooms,
-    used: usize,
-    used_plain: usize,
-    x: Moved,
-) -> Counted
-    requires lent { Lent rooms collected.old collected_values.old }
-    ensures defined { RunsCollected rooms result used used_plain (moves_of x) collected collected_values }
-{
-    match x {
-        Moved::Taken(e) => push(collected, collected_values, rooms, used, used_plain, e),
-        Moved::Over => Counted::At(used, used_plain),
-        Moved::Bad(y) => Counted::Refused(y),
-    }
+    let value = origin_value(e.origin);
+    collected[n] = row;
+    collected_values[n] = value;
+    Ok(CollectedCounts {
+        collected: n + 1,
+        ..used
+    })
 }
 
 // A plain effect goes to the end of list 4.
+#[tactic(auto, unfolding(crate::specs::Ran::ran, crate::specs::Ran::moved))]
 pub fn push_plain(
     plain: &mut [PlainRow],
     rooms: CollectedRooms,
-    used: usize,
-    used_plain: usize,
+    used: CollectedCounts,
     object: u32,
     id: i32,
-) -> Counted
+) -> Result<CollectedCounts, Refusal>
     requires lent { rooms.plain ≤ length plain.old }
-    ensures defined { RunsPlain rooms result used used_plain (rules.plain object id ∷ []) plain }
+    ensures defined { RunsPlain rooms result used (rules.plain object id ∷ []) plain }
 {
-    let room = rooms.plain;
-    if room <= used_plain {
-        return Counted::Refused(Refusal::Room(4));
+    let n = used.plain;
+    if rooms.plain <= n {
+        return Err(Refusal::Room(4));
     }
     let code = bits(id);
-    let row = [object, code];
-    plain[used_plain] = row;
-    Counted::At(used, used_plain + 1)
+    plain[n] = [object, code];
+    Ok(CollectedCounts {
+        plain: n + 1,
+        ..used
+    })
 }

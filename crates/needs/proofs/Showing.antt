@@ -1,38 +1,37 @@
 -- What the numbers of an entry, and a row's record, say of the slots.
-use Prim.Native.Nat.{ℕ, zero, suc, ◌+◌, ◌*◌, ◌≤◌, ◌<◌}
+use Prim.Native.Nat.{ℕ, zero, suc, ◌+◌, ◌*◌, ◌<◌, ◌^◌}
 use native.Mathlib.Nat.{not-suc-le-zero}
 use native.Mathlib.Omega.{arith}
 use mathlib.Core.Path.{◌≡◌, refl, sym, ap, ap₂, subst, ◌∙◌}
-use mathlib.Core.Bool.{true, false, cond}
+use mathlib.Core.Bool.{true}
 use mathlib.Core.List.{List, [], ◌∷◌, ◌++◌}
 use mathlib.Core.Logic.{inl, inr}
 use mathlib.Core.Option.{Option, none, some}
+use borrow.Author.Rules.{sfits_of}
 use borrow.Author.Tests.{ltb-true, ltb-false}
 use lib.Dec.{ltb}
 use lib.IntN.{ℤ, pos}
 use lib.ListN.{length, get_or, get_or-eq_default}
+use lib.Signed.{mag}
 use mir.Syntax.{w32}
-use mir.Val.{to_z, of_z, SFits}
+use mir.Val.{to_z, of_z}
 use mir.Facts.{to_z-of_z}
 use Rattle.laws.specs.Lists.{eq_z}
 use Rattle.laws.proofs.Bools.{true_or_false}
 use Rattle.laws.proofs.Order.{eq_z_same}
-use Rattle.rules.specs.Columns.{origin_numbers, optional_numbers, entry_numbers}
+use Rattle.rules.specs.Columns.{origin_numbers}
 use Rattle.rules.specs.Dispatch.{Row, Key}
 use Rattle.rules.specs.Info.{get_dogma_attribute}
 use Rattle.rules.specs.Sheet.{Book, book_of}
 use Rattle.rules.specs.Value.{World, Found, find_row}
 use Rattle.rules.specs.declared.DogmaAttribute.{DogmaAttribute}
 use Rattle.rules.specs.declared.Effect.{Effect}
-use Rattle.rules.specs.declared.OptionalId.{OptionalId}
-use Rattle.rules.specs.declared.OptionalId.TheVariants.{Absent, Given}
 use Rattle.rules.specs.declared.Origin.{Origin}
 use Rattle.rules.specs.declared.Origin.TheVariants as origin
-use Rattle.info.specs.Stands.{NarrowOrigin, NarrowId}
 use Rattle.reading.specs.Held.{Sourced, no_row, index_of}
 use Rattle.reading.specs.Stretched.{Unlimited}
 use Rattle.reading.proofs.Finds.{found_in}
-use Rattle.needs.specs.Slots.{source_slot, ship_slot, resistance_slot, limit_slot, limit_slots, slots_of, row_in, need_at}
+use Rattle.needs.specs.Slots.{source_slot, resistance_slot, limit_slot, limit_slots, slots_of, row_in, need_at}
 use Rattle.needs.specs.Telling.{NeedTables, EntryShown, TellsNeeds}
 use Rattle.needs.proofs.Slotted.{slots_long, at_source, at_resistance, past_entries}
 
@@ -46,58 +45,11 @@ module _ {entry : List ℕ} {e : Effect} (S : EntryShown e entry) where
   pub source_few : get_or entry 2 0 < 1024
   source_few = is-object e.origin _ S.numbers S.sourced
 
-  module _ (rs : List Row) where
-    -- the attribute that the row of an effect's entry names
-    effect_source : (g : Origin) (rest : List ℕ) → entry ≡ origin_numbers g ++ rest → NarrowOrigin g → get_or entry 0 0 ≡ 0 → (x : ℤ) → of_z w32 x ≡ get_or entry 4 0
-        → index_of (find_row (get_or entry 2 0) (to_z w32 (of_z w32 x)) 0 rs) ≡ row_in rs (source_slot g)
-    effect_source (origin.Effect f o c a) rest h n z x q =
-        ap₂ (λ (m : ℕ) (y : ℤ). index_of (find_row m y 0 rs)) (ap (λ (l : List ℕ). get_or l 2 0) h) (ap (to_z w32) (q ∙ ap (λ (l : List ℕ). get_or l 4 0) h) ∙ to_z-of_z n.1)
-    effect_source (origin.Buff b v) rest h n z x q = absurd (omega (arith, z, ap (λ (l : List ℕ). get_or l 0 0) h))
-
-    pub source_found : get_or entry 0 0 ≡ 0 → (x : ℤ) → of_z w32 x ≡ get_or entry 4 0 → {r : Option ℕ} → r ≡ index_of (find_row (get_or entry 2 0) (to_z w32 (of_z w32 x)) 0 rs) → r ≡ row_in rs (source_slot e.origin)
-    source_found z x q p = p ∙ effect_source e.origin _ S.numbers S.origin z x q
-
-    buff_source : (g : Origin) (rest : List ℕ) → entry ≡ origin_numbers g ++ rest → (get_or entry 0 0 ≡ 0 → ⊥) → none ≡ row_in rs (source_slot g)
-    buff_source (origin.Effect f o c a) rest h z = absurd (z (ap (λ (l : List ℕ). get_or l 0 0) h))
-    buff_source (origin.Buff b v) rest h z = refl
-
-    pub source_none : (get_or entry 0 0 ≡ 0 → ⊥) → none ≡ row_in rs (source_slot e.origin)
-    source_none z = buff_source e.origin _ S.numbers z
-
-    buff_resistance : (res : OptionalId) (g : Origin) (rest : List ℕ) → entry ≡ origin_numbers g ++ rest → (get_or entry 0 0 ≡ 0 → ⊥) → none ≡ row_in rs (resistance_slot res g)
-    buff_resistance res (origin.Effect f o c a) rest h z = absurd (z (ap (λ (l : List ℕ). get_or l 0 0) h))
-    buff_resistance res (origin.Buff b v) rest h z = refl
-
-    pub resistance_none : (get_or entry 0 0 ≡ 0 → ⊥) → none ≡ row_in rs (resistance_slot e.resistance e.origin)
-    resistance_none z = buff_resistance e.resistance e.origin _ S.numbers z
-
-    -- its resistance, behind three numbers
-    ship_found : (res : OptionalId) (g : Origin) (p q n k : ℕ) → entry ≡ origin_numbers g ++ (p ∷ q ∷ n ∷ (optional_numbers res ++ (k ∷ []))) → NarrowId res → get_or entry 0 0 ≡ 0 → get_or entry 9 0 ≡ 1 → (x : ℤ) → of_z w32 x ≡ get_or entry 10 0
-        → index_of (find_row 0 (to_z w32 (of_z w32 x)) 0 rs) ≡ row_in rs (resistance_slot res g)
-    ship_found res (origin.Buff b v) p q n k h m z y x u = absurd (omega (arith, z, ap (λ (l : List ℕ). get_or l 0 0) h))
-    ship_found Absent (origin.Effect f o c a) p q n k h m z y x u = absurd (omega (arith, y, ap (λ (l : List ℕ). get_or l 9 0) h))
-    ship_found (Given a) (origin.Effect f o c b) p q n k h m z y x u =
-        ap (λ (y : ℤ). index_of (find_row 0 y 0 rs)) (ap (to_z w32) (u ∙ ap (λ (l : List ℕ). get_or l 10 0) h) ∙ to_z-of_z m)
-
-    pub resistance_found : get_or entry 0 0 ≡ 0 → get_or entry 9 0 ≡ 1 → (x : ℤ) → of_z w32 x ≡ get_or entry 10 0 → {r : Option ℕ} → r ≡ index_of (find_row 0 (to_z w32 (of_z w32 x)) 0 rs) → r ≡ row_in rs (resistance_slot e.resistance e.origin)
-    resistance_found z y x q p = p ∙ ship_found e.resistance e.origin _ _ _ _ S.numbers S.resistance z y x q
-
-    ship_none : (res : OptionalId) (g : Origin) (p q n k : ℕ) → entry ≡ origin_numbers g ++ (p ∷ q ∷ n ∷ (optional_numbers res ++ (k ∷ []))) → get_or entry 0 0 ≡ 0 → (get_or entry 9 0 ≡ 1 → ⊥) → none ≡ row_in rs (resistance_slot res g)
-    ship_none res (origin.Buff b v) p q n k h z y = refl
-    ship_none Absent (origin.Effect f o c a) p q n k h z y = refl
-    ship_none (Given x) (origin.Effect f o c a) p q n k h z y = absurd (y (ap (λ (l : List ℕ). get_or l 9 0) h))
-
-    pub resistance_absent : get_or entry 0 0 ≡ 0 → (get_or entry 9 0 ≡ 1 → ⊥) → none ≡ row_in rs (resistance_slot e.resistance e.origin)
-    resistance_absent z y = ship_none e.resistance e.origin _ _ _ _ S.numbers z y
-
 -- ---- limits
 
 module _ (rs : List Row) (o : ℕ) (a : ℤ) where
   pub limit_none : eq_z a (pos 0) ≡ true → none ≡ row_in rs (limit_slot o a)
   limit_none e = rw e refl
-
-  pub limit_found : eq_z a (pos 0) ≡ false → {r : Option ℕ} → r ≡ index_of (find_row o a 0 rs) → r ≡ row_in rs (limit_slot o a)
-  limit_found e p = p ∙ rw e refl
 
 -- ---- which slot it is
 
@@ -120,6 +72,10 @@ module _ (w : World) (i s : ℕ) where
 
 -- ---- the columns of a row
 
+-- a number that is read as signed, and passed on
+pub passed : {x y : ℤ} → mag x < 2 ^ 31 → x ≡ y → to_z w32 (of_z w32 x) ≡ y
+passed m e = to_z-of_z {w = w32} (sfits_of m) ∙ e
+
 -- an element of a list that has one
 pub any : {A : Type 0} (l : List A) (k : ℕ) → k < length l → A
 any [] k h = absurd (not-suc-le-zero h)
@@ -134,9 +90,6 @@ module _ {w : World} {t : NeedTables} (T : TellsNeeds w t) (i : ℕ) (h : i < le
 
   pub row_count : get_or (get_or t.rows i []) 3 0 ≡ length held.entries
   row_count = (T.row i row_within).count
-
-  pub row-object : get_or (get_or t.rows i []) 0 0 < 1024
-  row-object = omega (arith, T.held.object i row_within, (T.row i row_within).object)
 
   row-id : {x : ℤ} → x ≡ to_z w32 (get_or (get_or t.rows i []) 1 0) → x ≡ held.id
   row-id e = e ∙ ap (to_z w32) (T.held.id i row_within) ∙ to_z-of_z (T.held.narrow i row_within)
@@ -168,9 +121,6 @@ module _ {w : World} {t : NeedTables} (T : TellsNeeds w t) (i : ℕ) (h : i < le
   module _ (k : ℕ) (l : k < get_or (get_or t.rows i []) 3 0) where
     pub short : k < length held.entries
     short = omega (arith, l, row_count)
-
-    pub entry-inside : (at : ℕ) → at ≡ get_or (get_or t.rows i []) 2 0 + k → at < length t.entries
-    entry-inside at e = omega (arith, short, e, (T.row i row_within).inside)
 
     abbrev pub the_entry : Effect
     the_entry = get_or held.entries k (any held.entries k short)

@@ -1,5 +1,6 @@
 -- The slots of a row: how many there are, what stands in each, and that they hold just what the row needs.
-use Prim.Native.Nat.{ℕ, zero, suc, ◌+◌, ◌*◌, ◌≤◌, ◌<◌}
+use Rattle.std.specs.Prelude.{None, Some}
+use Prim.Native.Nat.{ℕ, zero, suc, ◌+◌, ◌*◌, ◌<◌}
 use native.Mathlib.Nat.{not-suc-le-zero, le_of_suc-le-suc}
 use native.Mathlib.Omega.{arith}
 use mathlib.Core.Path.{◌≡◌, refl, sym, ap, ap₂, ◌∙◌}
@@ -15,8 +16,7 @@ use Rattle.rules.specs.Info.{get_dogma_attribute}
 use Rattle.rules.specs.Sheet.{Book}
 use Rattle.rules.specs.Fresh.{limit, entry_needs, needs_of}
 use Rattle.rules.specs.declared.Effect.{Effect}
-use Rattle.rules.specs.declared.OptionalId.{OptionalId}
-use Rattle.rules.specs.declared.OptionalId.TheVariants.{Absent, Given}
+use Rattle.rules.specs.Ids.{OptionalId}
 use Rattle.rules.specs.declared.Origin.{Origin}
 use Rattle.rules.specs.declared.Origin.TheVariants as origin
 use Rattle.needs.specs.Slots.{source_slot, resistance_slot, limit_slot, entry_slots, limit_slots, slots_of}
@@ -67,8 +67,8 @@ present xs = flat one xs
 
 of_entry : (res : OptionalId) (g : Origin) (l : List (Option Key)) → present (source_slot g ∷ resistance_slot res g ∷ l) ≡ entry_needs res g ++ present l
 of_entry res (origin.Buff b v) l = refl
-of_entry Absent (origin.Effect f o c a) l = refl
-of_entry (Given x) (origin.Effect f o c a) l = refl
+of_entry None (origin.Effect f o c a) l = refl
+of_entry (Some x) (origin.Effect f o c a) l = refl
 
 of_entries : (es : List Effect) → present (flat entry_slots es) ≡ flat (λ e. entry_needs e.resistance e.origin) es
 of_entries [] = refl

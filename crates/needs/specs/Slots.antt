@@ -1,5 +1,5 @@
 -- What a row needs, slot by slot: of each entry its source and its resistance, then min and max. Definitions only.
-use Rattle.std.specs.Prelude.{ℕ, cond, List, [], ◌∷◌, ◌++◌, ℤ, pos, get_or}
+use Rattle.std.specs.Prelude.{ℕ, cond, List, [], ◌∷◌, ◌++◌, ℤ, pos, get_or, None, Some}
 use Rattle.std.proofs.Math.Option.{Option, none, some}
 use Rattle.laws.specs.Lists.{eq_z, flat}
 use Rattle.rules.specs.Dispatch.{Row, Key}
@@ -7,8 +7,7 @@ use Rattle.rules.specs.Info.{get_dogma_attribute}
 use Rattle.rules.specs.Sheet.{Book}
 use Rattle.rules.specs.Value.{World, find_row}
 use Rattle.rules.specs.declared.Effect.{Effect}
-use Rattle.rules.specs.declared.OptionalId.{OptionalId}
-use Rattle.rules.specs.declared.OptionalId.TheVariants.{Absent, Given}
+use Rattle.rules.specs.Ids.{OptionalId}
 use Rattle.rules.specs.declared.Origin.{Origin}
 use Rattle.rules.specs.declared.Origin.TheVariants as origin
 use Rattle.reading.specs.Held.{no_row, index_of}
@@ -20,8 +19,8 @@ source_slot (origin.Effect f o c a) = some (record { object = o; id = a })
 
 -- the ship's attribute
 abbrev pub ship_slot : OptionalId → Option Key
-ship_slot Absent = none
-ship_slot (Given a) = some (record { object = 0; id = a })
+ship_slot None = none
+ship_slot (Some a) = some (record { object = 0; id = a })
 
 abbrev pub resistance_slot : OptionalId → Origin → Option Key
 resistance_slot res (origin.Buff b v) = none

@@ -1,7 +1,5 @@
 -- What the columns that needs are read off hold. Definitions only.
 use Rattle.std.specs.Prelude.{ℕ, ◌+◌, ◌≤◌, ◌<◌, ◌≡◌, List, [], length, get_or}
-use Rattle.std.specs.Borrow.{Bor}
-use Rattle.info.specs.At.{Numbers, Rows}
 use Rattle.rules.specs.Columns.{entry_numbers}
 use Rattle.rules.specs.Sheet.{book_of}
 use Rattle.rules.specs.Value.{World}
@@ -10,6 +8,7 @@ use Rattle.info.specs.Sound.{SoundBook}
 use Rattle.info.specs.Stands.{NarrowOrigin, NarrowId}
 use Rattle.reading.specs.Held.{RowsHeld, Sourced, no_row}
 use Rattle.reading.specs.Stretched.{Stretched, Limits}
+use Rattle.needs.specs.declared.NeedColumns.{NeedColumns}
 
 pub record NeedTables : Type 0 where
   pub book : List ℕ
@@ -19,13 +18,9 @@ pub record NeedTables : Type 0 where
   pub rows : List (List ℕ)
   pub entries : List (List ℕ)
 
--- in the order of the arguments: as a `requires` has them, and as an `ensures` has them
-abbrev pub need_tables : Bor (List ℕ) → Bor (List (List ℕ)) → Bor (List (List ℕ)) → Bor (List ℕ) → Bor (List (List ℕ)) → Bor (List (List ℕ)) → NeedTables
-need_tables b p s l r e = record { book = b.now; pairs = p.now; stretches = s.now; limits = l.now; rows = r.now; entries = e.now }
-
-abbrev pub needs_read :
-    Numbers → Rows → Rows → Numbers → Rows → Rows → NeedTables
-needs_read b p s l r e = need_tables b.entry p.entry s.entry l.entry r.entry e.entry
+-- what the code is lent
+abbrev pub tables_of : NeedColumns → NeedTables
+tables_of c = record { book = c.book.now; pairs = c.pairs.now; stretches = c.stretches.now; limits = c.limits.now; rows = c.rows.now; entries = c.entries.now }
 
 -- e stands in list 3 as these numbers, and its source is an object
 pub record EntryShown (e : Effect) (row : List ℕ) : Type 0 where

@@ -1,5 +1,5 @@
 -- The hundredths of a float, by its bit pattern.
-use Rattle.std.proofs.Common.{◌≡◌, ℕ, zero, suc, ◌+◌, ◌*◌, ◌/◌, ◌%◌, ◌^◌, ◌<◌, ◌≤◌, min, Bool, true, false, cond, not, ◌&&◌, T, eqb, leb, sym, refl, ap, ◌∙◌, subst, true≢false, mul_comm, add-mul, mul-one, mul_left_comm, arith, lit≤, pow_pos, le-ltb, lt-ltb, eqb-true, le-leb}
+use Rattle.std.proofs.Common.{◌≡◌, ℕ, zero, suc, ◌+◌, ◌*◌, ◌/◌, ◌%◌, ◌^◌, ◌<◌, ◌≤◌, min, Bool, true, false, cond, not, ◌&&◌, T, eqb, leb, sym, refl, ap, ◌∙◌, subst, true≢false, mul_comm, add-mul, mul-one, mul_left_comm, arith, lit≤, pow_pos, le-ltb, lt-ltb, eqb-true, le-leb, None}
 use native.Mathlib.Nat.{mul-mul-mul_comm}
 use lib.Ieee.{Float, nan, inf, fin, binary64, up, down, odd, of_fields, of_bits, to_bits, fits, is_nan, ne, eq}
 use lib.Ieee.Bits.{of_bits-to_bits}
@@ -8,8 +8,7 @@ use lib.Ieee.Exact.{HasValue, odd_sign}
 use lib.Ieee.Fits.{down_pos}
 use lib.Ieee.Nearest.{div_same}
 use borrow.Author.Tests.{lt-leb}
-use Rattle.rules.specs.declared.Hundredths.TheVariants.{Star, Rounded}
-use Rattle.rules.specs.Number.{rounded_at}
+use Rattle.rules.specs.Number.{rounded_at, rounded}
 use Rattle.rules.specs.Number.{hundredths_of}
 use Rattle.numbers.specs.Counted.{units_of, count_of}
 use Rattle.numbers.proofs.Counts.{high}
@@ -17,10 +16,10 @@ use Rattle.numbers.proofs.Counts.{high}
 -- ---- the three answers, from the held count r of c
 
 module _ (s : Bool) (r c : ℕ) (e : r ≡ min c (10 ^ 14)) where
-  star_at : 10 ^ 14 ≤ r → Star ≡ rounded_at s c
+  star_at : 10 ^ 14 ≤ r → None ≡ rounded_at s c
   star_at l = rw (le-leb (10 ^ 14) c (omega arith))
 
-  zero-at : r < 10 ^ 14 → r ≡ 0 → Rounded false r ≡ rounded_at s c
+  zero-at : r < 10 ^ 14 → r ≡ 0 → rounded false r ≡ rounded_at s c
   zero-at l z =
       let k : c ≡ r = omega arith in
       rw (lt-leb (10 ^ 14) c (omega arith), le-ltb 0 c (omega arith), no_sign s, k)
@@ -29,7 +28,7 @@ module _ (s : Bool) (r c : ℕ) (e : r ≡ min c (10 ^ 14)) where
       no_sign true = refl
       no_sign false = refl
 
-  some_at : r < 10 ^ 14 → (r ≡ 0 → ⊥) → Rounded s r ≡ rounded_at s c
+  some_at : r < 10 ^ 14 → (r ≡ 0 → ⊥) → rounded s r ≡ rounded_at s c
   some_at l z =
       let k : c ≡ r = omega arith in
       let p : 0 < r = omega arith in
@@ -73,7 +72,7 @@ of_fields_lem s zero t f =
     of_value (odd 53 s t 0 1074) s (t * 1) (2 ^ 1074) (pow_pos 1074) (odd_sign 53 s t 0 1074) ∙ ap (λ (n : ℕ). rounded_at s ((n * 200 + 2 ^ 1074) / (2 * 2 ^ 1074))) (mul-one t)
 of_fields_lem s (suc y) t f = go (eqb (suc y) 2047) (eqb t 0) refl f
   where
-    infinite : eqb (suc y) 2047 ≡ true → Star ≡ rounded_at s ((units_of (suc y) t * 200 + 2 ^ 1074) / (2 * 2 ^ 1074))
+    infinite : eqb (suc y) 2047 ≡ true → None ≡ rounded_at s ((units_of (suc y) t * 200 + 2 ^ 1074) / (2 * 2 ^ 1074))
     infinite e =
         let k = eqb-true (suc y) 2047 e in
         let h : 10 ^ 14 ≡ min ((units_of (suc y) t * 200 + 2 ^ 1074) / (2 * 2 ^ 1074)) (10 ^ 14) = unfold count_of in high (suc y) t (omega arith) in
@@ -90,7 +89,7 @@ of_bits_lem : (n : ℕ) → T (not (is_nan (of_bits binary64 n)))
 unfolding of_bits
 of_bits_lem n f = of_fields_lem (leb (2 ^ 63) n) (n % 2 ^ 63 / 2 ^ 52) (n % 2 ^ 52) f
 
-pub star_of_nan : (x : Float) → ne x x ≡ true → Star ≡ hundredths_of x
+pub star_of_nan : (x : Float) → ne x x ≡ true → None ≡ hundredths_of x
 unfolding hundredths_of
 star_of_nan x h = rw (differs_from_itself x (subst T (sym h) tt))
 
@@ -108,14 +107,14 @@ module _ (x : Float) (t : fits binary64 x ≡ true) (f : ne x x ≡ false) where
       sym (of_bits_lem (to_bits binary64 x) (subst (λ (y : Float). T (not (is_nan y))) (sym e) (no_nan x f))) ∙ ap hundredths_of e
 
   module _ {r : ℕ} (e : r ≡ count_of (to_bits binary64 x % 2 ^ 63 / 2 ^ 52) (to_bits binary64 x % 2 ^ 52)) where
-    pub star : 10 ^ 14 ≤ r → Star ≡ hundredths_of x
+    pub star : 10 ^ 14 ≤ r → None ≡ hundredths_of x
     unfolding count_of
     star l = star_at (leb (2 ^ 63) (to_bits binary64 x)) r _ e l ∙ of_float
 
-    pub plain : r < 10 ^ 14 → r ≡ 0 → Rounded false r ≡ hundredths_of x
+    pub plain : r < 10 ^ 14 → r ≡ 0 → rounded false r ≡ hundredths_of x
     unfolding count_of
     plain l z = zero-at (leb (2 ^ 63) (to_bits binary64 x)) r _ e l z ∙ of_float
 
-    pub signed : r < 10 ^ 14 → (r ≡ 0 → ⊥) → Rounded (leb (2 ^ 63) (to_bits binary64 x)) r ≡ hundredths_of x
+    pub signed : r < 10 ^ 14 → (r ≡ 0 → ⊥) → rounded (leb (2 ^ 63) (to_bits binary64 x)) r ≡ hundredths_of x
     unfolding count_of
     signed l z = some_at (leb (2 ^ 63) (to_bits binary64 x)) r _ e l z ∙ of_float

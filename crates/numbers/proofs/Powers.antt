@@ -1,11 +1,10 @@
 -- One turn of `power`: what is left of the digits decides.
-use Rattle.std.proofs.Common.{◌≡◌, ℕ, zero, suc, ◌/◌, ◌%◌, ◌^◌, ◌<◌, not, eqb, sym, refl, ap, ◌∙◌, arith, ne_eqb}
+use Rattle.std.proofs.Common.{◌≡◌, ℕ, zero, suc, ◌/◌, ◌%◌, ◌^◌, ◌<◌, not, eqb, sym, refl, ap, ◌∙◌, arith, ne_eqb, None, Some}
 use native.Mathlib.Nat.{pow-succ'}
 use mathlib.Core.Path.{fun_ext}
 use lib.Ieee.{Float}
 use Rattle.laws.specs.Floats.{one_f}
-use Rattle.rules.specs.declared.Step.{Step}
-use Rattle.rules.specs.declared.Step.TheVariants.{Finite, NotFinite}
+use Rattle.rules.specs.Number.{Step}
 use Rattle.rules.specs.Number.{◌>>=◌, times, times_if, power_from, power}
 use Rattle.numbers.proofs.Steps.{bound, refused}
 
@@ -19,14 +18,14 @@ pub start : (x : Float) (n : ℕ) → n < 2 ^ 32 → Left one_f x n (power x n)
 unfolding power
 start x n h = record { digits = 32; few = h; same = refl }
 
-none : (d : ℕ) (r x : Float) → power_from d r x 0 ≡ Finite r
+none : (d : ℕ) (r x : Float) → power_from d r x 0 ≡ Some r
 unfolding power_from
 none zero r x = refl
 none (suc d) r x = refl
 
 -- the square, h digits being left; h and j are one number
 square : (d : ℕ) (p x : Float) (h j : ℕ) → h ≡ j
-    → elim h [ zero ↦ Finite p | suc k ↦ times x x >>= λ q. power_from d p q j ] ≡ (times_if (not (eqb h 0)) x x >>= λ q. power_from d p q j)
+    → elim h [ zero ↦ Some p | suc k ↦ times x x >>= λ q. power_from d p q j ] ≡ (times_if (not (eqb h 0)) x x >>= λ q. power_from d p q j)
 unfolding times_if ◌>>=◌
 square d p x zero j e = sym (none d p x) ∙ ap (power_from d p x) e
 square d p x (suc h) j e = rw (ne_eqb (suc h) 0 (λ z. omega arith))
@@ -43,7 +42,7 @@ turn d r x zero = unfold times_if in unfold ◌>>=◌ in none d r x
 turn d r x (suc k) = ap (λ (f : Float → Step). times_if (eqb (suc k % 2) 1) r x >>= f) (fun_ext λ p. sym (square d p x (suc k / 2) (suc k / 2) refl))
 
 module _ {r x : Float} {k : ℕ} {w : Step} (l : Left r x k w) where
-  pub done : k ≡ 0 → Finite r ≡ w
+  pub done : k ≡ 0 → Some r ≡ w
   done z = sym (none l.digits r x) ∙ ap (power_from l.digits r x) (sym z) ∙ l.same
 
   module _ (z : k ≡ 0 → ⊥) {g : Step} (made : g ≡ times_if (eqb (k % 2) 1) r x) where
@@ -54,12 +53,12 @@ module _ {r x : Float} {k : ℕ} {w : Step} (l : Left r x k w) where
         go zero f e = absurd (z (omega arith))
         go (suc d) f e = record { fewer = d; few = let p = pow-succ' 2 d in omega arith; is = turn d r x k ∙ e }
 
-    pub no_product : g ≡ NotFinite → NotFinite ≡ w
+    pub no_product : g ≡ None → None ≡ w
     no_product n = sym (refused _ (sym made ∙ n)) ∙ turned.is
 
-    module _ {p : Float} (y : g ≡ Finite p) {s : Step} (squared : s ≡ times_if (not (eqb (k / 2) 0)) x x) where
-      pub no_square : s ≡ NotFinite → NotFinite ≡ w
+    module _ {p : Float} (y : g ≡ Some p) {s : Step} (squared : s ≡ times_if (not (eqb (k / 2) 0)) x x) where
+      pub no_square : s ≡ None → None ≡ w
       no_square n = sym (refused _ (sym squared ∙ n)) ∙ sym (bound _ (sym made ∙ y)) ∙ turned.is
 
-      pub again : {q : Float} → s ≡ Finite q → Left p q (k / 2) w
+      pub again : {q : Float} → s ≡ Some q → Left p q (k / 2) w
       again n = record { digits = turned.fewer; few = turned.few; same = sym (bound _ (sym squared ∙ n)) ∙ sym (bound _ (sym made ∙ y)) ∙ turned.is }

@@ -31,26 +31,26 @@ fn counted(field: u64, digits: u64) -> u64
 }
 
 // The nearest hundredth of a value, halves away from zero, or that it is too large to print.
-pub fn in_hundredths(x: f64) -> Hundredths
+pub fn in_hundredths(x: f64) -> Option<Hundredths>
     ensures defined { result ≡ hundredths_of x }
 {
     if x != x {
-        return Hundredths::Star;
+        return None;
     }
     let pattern = f64::to_bits(x);
     let field = pattern % 0x8000_0000_0000_0000 / 0x10_0000_0000_0000;
     let count = counted(field, pattern % 0x10_0000_0000_0000);
     if LIMIT <= count {
-        return Hundredths::Star;
+        return None;
     }
     if count == 0 {
-        return Hundredths::Rounded {
+        return Some(Hundredths {
             minus: false,
             count,
-        };
+        });
     }
-    Hundredths::Rounded {
+    Some(Hundredths {
         minus: 0x8000_0000_0000_0000 <= pattern,
         count,
-    }
+    })
 }

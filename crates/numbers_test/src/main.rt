@@ -4,10 +4,27 @@
 
 ghost use Rattle.std.specs.Prelude.{◌+◌, ◌<◌, ◌≤◌, length};
 
-use program::{fill, put, put_number};
-use rules::{Hundredths, Step};
+use program::fill;
+use rules::Hundredths;
+use std::num::{f64_from_bits_with_nan as from_bits, f64_to_bits_with_nan as to_bits};
 
-#[derive(Clone, Copy)]
+// The kinds of values, and the letter of each.
+const KINDS: [(&str, u8); 12] = [
+    ("sums", b'+'),
+    ("differences", b'-'),
+    ("products", b'*'),
+    ("quotients", b'/'),
+    ("powers", b'^'),
+    ("weights", b'w'),
+    ("cuts", b'c'),
+    ("signs", b'i'),
+    ("quantities", b'q'),
+    ("hundredths", b'h'),
+    ("sizes", b'<'),
+    ("finite", b'f'),
+];
+
+#[derive(Clone, Copy, Default)]
 struct Tally {
     seen: u64,
     wrong: u64,
@@ -17,152 +34,88 @@ fn digit(b: u8) -> u64
     ensures inside { result < 16 }
 {
     match b {
-        48..=57 => b as u64 - 48,
-        97..=102 => b as u64 - 87,
+        b'0'..=b'9' => u64::from(b - b'0'),
+        b'a'..=b'f' => u64::from(b - b'a') + 10,
         _ => 0,
     }
 }
 
 // 16 hexadecimal digits.
-fn field(s: &[u8], at: usize) -> u64
-    requires inside { at + 16 ≤ length s.now }
+fn field(line: &[u8], at: usize) -> u64
+    requires inside { at + 16 ≤ length line.now }
 {
-    let mut n: u64 = 0;
-    let mut i: usize = 0;
-    while i < 16 {
-        let d = digit(s[at + i]);
-        n = n % 0x1000_0000_0000_0000 * 16 + d;
-        i += 1;
+    let mut n = 0;
+    for b in &line[at..at + 16] {
+        n = n % 0x1000_0000_0000_0000 * 16 + digit(*b);
     }
     n
 }
 
 fn low(n: u64) -> u32 {
-    (n % 4294967296) as u32
+    (n & 0xffff_ffff) as u32
 }
 
-fn float(n: u64) -> f64 {
-    if 0x7ff0_0000_0000_0000 < n % 0x8000_0000_0000_0000 {
-        return 0.0 / 0.0;
-    }
-    f64::from_bits(n)
+fn of_step(s: Option<f64>) -> u64 {
+    s.map_or(0x7ff0_0000_0000_0000, |x| to_bits(x))
 }
 
-fn pattern(x: f64) -> u64 {
-    if x != x {
-        return 0x7ff8_0000_0000_0000;
-    }
-    f64::to_bits(x)
-}
-
-fn of_step(s: Step) -> u64 {
-    match s {
-        Step::Finite(x) => pattern(x),
-        Step::NotFinite => 0x7ff0_0000_0000_0000,
-    }
-}
-
-fn of_test(t: bool) -> u64 {
-    if t { 1 } else { 0 }
-}
-
-fn of_hundredths(h: Hundredths) -> u64 {
-    let Hundredths::Rounded { minus, count } = h else {
-        return 0xffff_ffff_ffff_ffff;
-    };
-    if minus {
-        return count % 0x8000_0000_0000_0000 + 0x8000_0000_0000_0000;
-    }
-    count
-}
-
-fn step(kind: u8, x: f64, y: f64) -> Step {
-    match kind {
-        b'+' => numbers::sum(x, y),
-        b'-' => numbers::difference(x, y),
-        b'*' => numbers::product(x, y),
-        _ => numbers::quotient(x, y),
+fn of_hundredths(rounded: Option<Hundredths>) -> u64 {
+    match rounded {
+        Some(Hundredths { minus: true, count }) => {
+            count % 0x8000_0000_0000_0000 + 0x8000_0000_0000_0000
+        }
+        Some(
+            Hundredths {
+                minus: false,
+                count,
+            },
+        ) => count,
+        None => u64::MAX,
     }
 }
 
 fn answer(kind: u8, a: u64, b: u64) -> u64 {
     match kind {
-        b'^' => of_step(numbers::power(float(a), low(b))),
-        b'w' => pattern(numbers::weight(a as usize)),
-        b'c' => numbers::integers::bits(numbers::integers::cut(float(a))) as u64,
-        b'i' => numbers::integers::bits(numbers::integers::signed(low(a))) as u64,
-        b'q' => pattern(numbers::as_float(low(a))),
-        b'h' => of_hundredths(numbers::hundredths::in_hundredths(float(a))),
-        b'<' => of_test(numbers::is_smaller(float(a), float(b))),
-        b'f' => of_test(numbers::is_finite(float(a))),
-        _ => of_step(step(kind, float(a), float(b))),
+        b'+' => of_step(numbers::sum(from_bits(a), from_bits(b))),
+        b'-' => of_step(numbers::difference(from_bits(a), from_bits(b))),
+        b'*' => of_step(numbers::product(from_bits(a), from_bits(b))),
+        b'^' => of_step(numbers::power(from_bits(a), low(b))),
+        b'w' => to_bits(numbers::weight(a as usize)),
+        b'c' => u64::from(numbers::integers::bits(numbers::integers::cut(from_bits(a)))),
+        b'i' => u64::from(numbers::integers::bits(numbers::integers::signed(low(a)))),
+        b'q' => to_bits(numbers::as_float(low(a))),
+        b'h' => of_hundredths(numbers::hundredths::in_hundredths(from_bits(a))),
+        b'<' => u64::from(numbers::is_smaller(from_bits(a), from_bits(b))),
+        b'f' => u64::from(numbers::is_finite(from_bits(a))),
+        _ => of_step(numbers::quotient(from_bits(a), from_bits(b))),
     }
 }
 
-// The line at a place, where it is of the kind that is asked for.
-fn line(s: &[u8], at: usize, kind: u8, t: Tally) -> Tally
-    requires inside { at + 53 ≤ length s.now }
-{
-    let k = s[at];
-    if k != kind {
+// With a line of 53 bytes, where it is of the kind that is asked for.
+fn counted(line: &[u8], kind: u8, t: Tally) -> Tally {
+    if line.len() < 53 || line[0] != kind {
         return t;
     }
-    let a = field(s, at + 2);
-    let b = field(s, at + 19);
-    let want = field(s, at + 36);
-    let got = answer(kind, a, b);
-    let seen = std::num::wrapping_add_u64(t.seen, 1);
-    let wrong = std::num::wrapping_add_u64(t.wrong, of_test(got != want));
-    Tally { seen, wrong }
+    let found = answer(kind, field(line, 2), field(line, 19));
+    Tally {
+        seen: t.seen.wrapping_add(1),
+        wrong: t.wrong.wrapping_add(u64::from(found != field(line, 36))),
+    }
 }
 
 fn tallied(s: &[u8], kind: u8) -> Tally {
-    let mut t = Tally { seen: 0, wrong: 0 };
-    let mut at: usize = 0;
-    while 53 <= s.len() - at {
-        t = line(s, at, kind, t);
-        at += 53;
+    let mut t = Tally::default();
+    for line in s.chunks_exact(53) {
+        t = counted(line, kind, t);
     }
     t
-}
-
-fn report(rt: &HostRuntime, s: &[u8], kind: u8) {
-    let t = tallied(s, kind);
-    put_number(rt, t.seen);
-    put(rt, b" wrong ");
-    put_number(rt, t.wrong);
-    put(rt, b"\n");
-}
-
-fn report_all(rt: &HostRuntime, s: &[u8]) {
-    put(rt, b"sums ");
-    report(rt, s, b'+');
-    put(rt, b"differences ");
-    report(rt, s, b'-');
-    put(rt, b"products ");
-    report(rt, s, b'*');
-    put(rt, b"quotients ");
-    report(rt, s, b'/');
-    put(rt, b"powers ");
-    report(rt, s, b'^');
-    put(rt, b"weights ");
-    report(rt, s, b'w');
-    put(rt, b"cuts ");
-    report(rt, s, b'c');
-    put(rt, b"signs ");
-    report(rt, s, b'i');
-    put(rt, b"quantities ");
-    report(rt, s, b'q');
-    put(rt, b"hundredths ");
-    report(rt, s, b'h');
-    put(rt, b"sizes ");
-    report(rt, s, b'<');
-    put(rt, b"finite ");
-    report(rt, s, b'f');
 }
 
 fn main(rt: HostRuntime) {
     let mut buf = [0u8; 65536];
     let n = fill(&mut buf, &mut rt.reader());
-    report_all(&rt, &buf[..n]);
+    for (name, kind) in KINDS {
+        let Tally { seen, wrong } = tallied(&buf[..n], kind);
+        let _ = println!(rt; "{name} {seen} wrong {wrong}");
+    }
 }

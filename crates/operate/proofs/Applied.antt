@@ -1,4 +1,5 @@
 -- An operator's values applied: the unpenalised ones, then the weighed copies; and an operator without values changes nothing.
+use Rattle.std.specs.Prelude.{None, Some}
 use Prim.Native.Nat.{ℕ, suc}
 use mathlib.Core.Path.{◌≡◌, refl, sym, ap, ap₂, fun_ext, ◌∙◌}
 use mathlib.Core.Bool.{Bool, false}
@@ -9,16 +10,15 @@ use Rattle.laws.specs.Floats.{finite, one_f}
 use Rattle.rules.specs.Number.{plus, times, weight, ◌>>=◌}
 use Rattle.rules.specs.Operate.{Copy, Values, has_penalty, assigned, added, multiplied, sorted, weighed, factored, applied}
 use Rattle.rules.specs.Value.{nothing}
-use Rattle.rules.specs.declared.Step.{Step}
-use Rattle.rules.specs.declared.Step.TheVariants.{Finite, NotFinite}
+use Rattle.rules.specs.Number.{Step}
 use Rattle.rules.specs.declared.EffectOperator.{EffectOperator}
 use Rattle.rules.specs.declared.EffectOperator.TheVariants.{PreAssign, PreMul, PreDiv, ModAdd, ModSub, PostMul, PostDiv, PostPercent, PostAssign}
 use Rattle.numbers.proofs.Steps.{bound, refused}
 use Rattle.operate.specs.declared.Running.{Running}
-use Rattle.operate.specs.SoFar.{plainly, step_of, RunningOf}
+use Rattle.operate.specs.SoFar.{plainly, RunningOf}
 use Rattle.operate.proofs.Snocs.{kept, bind_good, bind_step_good, unit, unchanged}
 
-weighed_good : (p : ℕ) (l : List Copy) (v : Float) → T (finite v) → (w : Float) → weighed p l v ≡ Finite w → T (finite w)
+weighed_good : (p : ℕ) (l : List Copy) (v : Float) → T (finite v) → (w : Float) → weighed p l v ≡ Some w → T (finite w)
 unfolding weighed
 weighed_good p [] v f w e = kept f e
 weighed_good p (x ∷ r) v f w e =
@@ -28,16 +28,16 @@ weighed_good p (x ∷ r) v f w e =
     w e
 
 -- a step that goes on from a finite value
-next_good : (s : Step) (k : Float → Step) → ((y : Float) → s ≡ Finite y → T (finite y)) → ((y : Float) → T (finite y) → (w : Float) → k y ≡ Finite w → T (finite w)) → (w : Float) → (s >>= k) ≡ Finite w → T (finite w)
+next_good : (s : Step) (k : Float → Step) → ((y : Float) → s ≡ Some y → T (finite y)) → ((y : Float) → T (finite y) → (w : Float) → k y ≡ Some w → T (finite w)) → (w : Float) → (s >>= k) ≡ Some w → T (finite w)
 unfolding ◌>>=◌
-next_good (Finite y) k h n w e = n y (h y refl) w e
-next_good NotFinite k h n w e = h w e
+next_good (Some y) k h n w e = n y (h y refl) w e
+next_good None k h n w e = h w e
 
 -- the copies after a value
 abbrev copied : Values → Float → Step
 copied g v = weighed 0 (sorted g.positive) v >>= λ w. weighed 0 (sorted g.negative) w
 
-no_copies : (g : Values) → (g.positive ≡ []) × (g.negative ≡ []) → (v : Float) → copied g v ≡ Finite v
+no_copies : (g : Values) → (g.positive ≡ []) × (g.negative ≡ []) → (v : Float) → copied g v ≡ Some v
 no_copies g e v =
     ap₂ (λ (p n : List Copy). weighed 0 (sorted p) v >>= λ w. weighed 0 (sorted n) w) e.0 e.1 ∙ (unfold sorted in unfold weighed in unfold ◌>>=◌ in refl)
 
@@ -51,7 +51,7 @@ module _ (high : Bool) (v : Float) (g : Values) where
 
   applied-is : (op : EffectOperator) → (has_penalty op ≡ false → (g.positive ≡ []) × (g.negative ≡ [])) → applied high op v g ≡ (plainly high op v g.unpenalized >>= copied g)
   unfolding applied
-  applied-is PreAssign e = plain-is (Finite (assigned high v g.unpenalized)) (e refl)
+  applied-is PreAssign e = plain-is (Some (assigned high v g.unpenalized)) (e refl)
   applied-is PreMul e = factored-is
   applied-is PreDiv e = factored-is
   applied-is ModAdd e = plain-is (added v g.unpenalized) (e refl)
@@ -59,35 +59,35 @@ module _ (high : Bool) (v : Float) (g : Values) where
   applied-is PostMul e = factored-is
   applied-is PostDiv e = factored-is
   applied-is PostPercent e = factored-is
-  applied-is PostAssign e = plain-is (Finite (assigned high v g.unpenalized)) (e refl)
+  applied-is PostAssign e = plain-is (Some (assigned high v g.unpenalized)) (e refl)
 
 -- what is asked of the values of an operator that takes no penalty
 abbrev pub Unpenalised : EffectOperator → Values → Type 0
 Unpenalised op g = has_penalty op ≡ false → (g.positive ≡ []) × (g.negative ≡ [])
 
 module _ {high : Bool} {op : EffectOperator} {v : Float} {g : Values} {r : Running} (R : RunningOf high op v g.unpenalized r) (u : Unpenalised op g) where
-  begun : applied high op v g ≡ (step_of r >>= copied g)
+  begun : applied high op v g ≡ (r.value >>= copied g)
   begun = applied-is high v g op u ∙ ap (λ s. s >>= copied g) (sym R.step)
 
-  pub not_plain : step_of r ≡ NotFinite → NotFinite ≡ applied high op v g
+  pub not_plain : r.value ≡ None → None ≡ applied high op v g
   not_plain e = sym (begun ∙ refused _ e)
 
-  module _ {x : Float} (e : step_of r ≡ Finite x) {s : Step} (weighs : T (finite x) → s ≡ weighed 0 (sorted g.positive) x) where
-    pub not_positive : s ≡ NotFinite → NotFinite ≡ applied high op v g
+  module _ {x : Float} (e : r.value ≡ Some x) {s : Step} (weighs : T (finite x) → s ≡ weighed 0 (sorted g.positive) x) where
+    pub not_positive : s ≡ None → None ≡ applied high op v g
     not_positive n = sym (begun ∙ bound _ e ∙ refused _ (sym (weighs (R.good x e)) ∙ n))
 
-    pub whole : {w : Float} → s ≡ Finite w → {t : Step} → (T (finite w) → t ≡ weighed 0 (sorted g.negative) w) → t ≡ applied high op v g
+    pub whole : {w : Float} → s ≡ Some w → {t : Step} → (T (finite w) → t ≡ weighed 0 (sorted g.negative) w) → t ≡ applied high op v g
     whole {w} n next =
         let q = sym (weighs (R.good x e)) ∙ n in
         next (weighed_good 0 (sorted g.positive) x (R.good x e) w q) ∙ sym (begun ∙ bound _ e ∙ bound _ q)
 
   -- a value that comes of it is finite
-  pub applied_good : {x : Float} → applied high op v g ≡ Finite x → T (finite x)
+  pub applied_good : {x : Float} → applied high op v g ≡ Some x → T (finite x)
   applied_good {x} e =
-      next_good (step_of r) (copied g) R.good
+      next_good r.value (copied g) R.good
       (λ y f. next_good (weighed 0 (sorted g.positive) y) (weighed 0 (sorted g.negative)) (weighed_good 0 (sorted g.positive) y f) (weighed_good 0 (sorted g.negative)))
       x (sym begun ∙ e)
 
 -- an operator without entries is passed over
-pub applied-nothing : (high : Bool) (op : EffectOperator) (v : Float) → applied high op v nothing ≡ Finite v
+pub applied-nothing : (high : Bool) (op : EffectOperator) (v : Float) → applied high op v nothing ≡ Some v
 applied-nothing high op v = applied-is high v nothing op (λ e. (refl, refl)) ∙ bound _ (sym (unchanged high op v)) ∙ no_copies nothing (refl, refl) v

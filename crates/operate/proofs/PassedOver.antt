@@ -1,4 +1,5 @@
 -- An operator that no entry of a row has is passed over: it gathers nothing and changes nothing.
+use Rattle.std.specs.Prelude.{Some}
 use Prim.Native.Nat.{ℕ}
 use mathlib.Core.Path.{◌≡◌, refl, ap, ◌∙◌}
 use mathlib.Core.Bool.{Bool, false}
@@ -13,8 +14,7 @@ use Rattle.rules.specs.Number.{number_at}
 use Rattle.rules.specs.Operate.{sorted, applied}
 use Rattle.rules.specs.Dispatch.{Row}
 use Rattle.rules.specs.Value.{World, Mem, Read, Reader, Gathered, nothing, gather, marked, marked_by, operate}
-use Rattle.rules.specs.declared.Step.{Step}
-use Rattle.rules.specs.declared.Step.TheVariants.{Finite}
+use Rattle.rules.specs.Number.{Step}
 use Rattle.rules.specs.declared.Effect.{Effect}
 use Rattle.rules.specs.declared.EffectOperator.{EffectOperator}
 use Rattle.rules.specs.declared.Source.{Source}
@@ -54,7 +54,7 @@ module _ (w : World) (i : ℕ) (row : Row) (read : Reader) where
         ∙ finished
         ∙ ap (λ (m : Mem). operate w i row read ops (record { value = a.value; mem = m })) (unmarked i a.mem)
       where
-        finished : (number_at row.object (Finite a.value) >>= λ v. operate w i row read ops (record { value = v; mem = marked_by i (record { mem = a.mem; values = nothing }) }))
+        finished : (number_at row.object (Some a.value) >>= λ v. operate w i row read ops (record { value = v; mem = marked_by i (record { mem = a.mem; values = nothing }) }))
             ≡ operate w i row read ops (record { value = a.value; mem = marked_by i (record { mem = a.mem; values = nothing }) })
         finished = unfold number_at in refl
 

@@ -7,29 +7,18 @@ ghost use Rattle.rules.specs.Number as N;
 ghost use Rattle.rules.specs.Operate.{Copy, Values, has_penalty, applied};
 ghost use Rattle.rules.specs.Value.{with_stack};
 ghost use Rattle.operate.specs.Held.{Gathered, bucket_before, bucket_after};
-ghost use Rattle.operate.specs.SoFar.{set?, better, chosen_of, added_one, multiplied_one, plainly_one, step_of, RunningOf, copies_from};
+ghost use Rattle.operate.specs.SoFar.{better, chosen_of, added_one, multiplied_one, plainly_one, RunningOf, copies_from};
 
 use buckets::{Bucket, insert};
 use columns::{CopySources, CopyValues};
 use numbers::{as_float, less, power, product, sum};
-use rules::{EffectOperator, Step};
+use rules::EffectOperator;
 
-// What an operator has made of its unpenalised values so far, whether that is finite, and whether there was one.
-// Yes is 1: flags of four bytes leave no gap that would be copied with each entry.
+// What an operator has made of its unpenalised values so far, None where a step was not finite, and whether there was one.
 #[derive(Clone, Copy)]
 pub struct Running {
-    pub value: f64,
-    pub finite: u32,
-    pub any: u32,
-}
-
-fn is_set(flag: u32) -> bool
-    ensures defined { result ≡ set? flag }
-{
-    if flag == 0 {
-        return false;
-    }
-    true
+    pub value: Option<f64>,
+    pub any: bool,
 }
 
 // No value is there yet.
@@ -37,20 +26,9 @@ pub fn start(v: f64) -> Running
     ensures nothing_yet { (high : Bool) (op : EffectOperator) → T (finite v) → RunningOf high op v [] result }
 {
     Running {
-        value: v,
-        finite: 1,
-        any: 0,
+        value: Some(v),
+        any: false,
     }
-}
-
-// The same as a step.
-fn step_so_far(running: Running) -> Step
-    ensures defined { result ≡ step_of running }
-{
-    if is_set(running.finite) {
-        return Step::Finite(running.value);
-    }
-    Step::NotFinite
 }
 
 // The last of equal greatest, or the first of equal least.
@@ -65,58 +43,47 @@ fn better_of(high: bool, best: f64, x: f64) -> f64
 }
 
 // The first value that is assigned, or the better one.
-fn chosen(high: bool, any: bool, best: Step, x: f64) -> Step
+fn chosen(high: bool, any: bool, best: Option<f64>, x: f64) -> Option<f64>
     ensures defined { result ≡ chosen_of high any best x }
 {
     if !any {
-        return Step::Finite(x);
+        return Some(x);
     }
-    match best {
-        Step::Finite(b) => Step::Finite(better_of(high, b, x)),
-        Step::NotFinite => Step::NotFinite,
-    }
+    Some(better_of(high, best?, x))
 }
 
 // So many times x more.
-fn added(step: Step, x: f64, quantity: u32) -> Step
+fn added(step: Option<f64>, x: f64, quantity: u32) -> Option<f64>
     ensures defined { result ≡ N.◌>>=◌ step (λ v. added_one v x quantity) }
 {
-    let Step::Finite(v) = step else {
-        return Step::NotFinite;
-    };
-    let scaled = product(x, as_float(quantity));
-    let Step::Finite(y) = scaled else {
-        return Step::NotFinite;
-    };
+    let v = step?;
+    let y = product(x, as_float(quantity))?;
     sum(v, y)
 }
 
 // So many times 1.0 + x as a factor.
-fn multiplied(step: Step, x: f64, quantity: u32) -> Step
+fn multiplied(step: Option<f64>, x: f64, quantity: u32) -> Option<f64>
     ensures defined { result ≡ N.◌>>=◌ step (λ v. multiplied_one v x quantity) }
 {
-    let Step::Finite(v) = step else {
-        return Step::NotFinite;
-    };
-    let raised = sum(1.0, x);
-    let Step::Finite(y) = raised else {
-        return Step::NotFinite;
-    };
-    let factor = power(y, quantity);
-    let Step::Finite(z) = factor else {
-        return Step::NotFinite;
-    };
+    let v = step?;
+    let y = sum(1.0, x)?;
+    let z = power(y, quantity)?;
     product(v, z)
 }
 
 // One unpenalised value more.
-fn stepped(running: Running, high: bool, operator: EffectOperator, x: f64, quantity: u32) -> Step
+fn stepped(
+    running: Running,
+    high: bool,
+    operator: EffectOperator,
+    x: f64,
+    quantity: u32,
+) -> Option<f64>
     ensures defined { result ≡ plainly_one high operator running x quantity }
 {
-    let step = step_so_far(running);
-    let any = is_set(running.any);
+    let step = running.value;
     match operator {
-        EffectOperator::PreAssign => chosen(high, any, step, x),
+        EffectOperator::PreAssign => chosen(high, running.any, step, x),
         EffectOperator::PreMul => multiplied(step, x, quantity),
         EffectOperator::PreDiv => multiplied(step, x, quantity),
         EffectOperator::ModAdd => added(step, x, quantity),
@@ -124,7 +91,7 @@ fn stepped(running: Running, high: bool, operator: EffectOperator, x: f64, quant
         EffectOperator::PostMul => multiplied(step, x, quantity),
         EffectOperator::PostDiv => multiplied(step, x, quantity),
         EffectOperator::PostPercent => multiplied(step, x, quantity),
-        EffectOperator::PostAssign => chosen(high, any, step, x),
+        EffectOperator::PostAssign => chosen(high, running.any, step, x),
     }
 }
 
@@ -142,35 +109,20 @@ pub fn more(
     if quantity == 0 {
         return running;
     }
-    let step = stepped(running, high, operator, x, quantity);
-    match step {
-        Step::Finite(value) => Running {
-            value,
-            finite: 1,
-            any: 1,
-        },
-        Step::NotFinite => Running {
-            value: 0.0,
-            finite: 0,
-            any: 1,
-        },
+    Running {
+        value: stepped(running, high, operator, x, quantity),
+        any: true,
     }
 }
 
 // The penalised copies after the unpenalised values: positives go first.
-pub fn finished(running: Running, positive: Bucket, negative: Bucket) -> Step
+pub fn finished(running: Running, positive: Bucket, negative: Bucket) -> Option<f64>
     ensures defined { (high : Bool) (op : EffectOperator) (v : Float) (g : Values) → RunningOf high op v g.unpenalized running
         → Gathered g.positive positive → Gathered g.negative negative → (has_penalty op ≡ false → (g.positive ≡ []) × (g.negative ≡ []))
         → result ≡ applied high op v g }
 {
-    let step = step_so_far(running);
-    let Step::Finite(plain) = step else {
-        return Step::NotFinite;
-    };
-    let weighed = positive.weigh(plain);
-    let Step::Finite(w) = weighed else {
-        return weighed;
-    };
+    let plain = running.value?;
+    let w = positive.weigh(plain)?;
     negative.weigh(w)
 }
 
@@ -192,11 +144,9 @@ pub fn put_copies(
 {
     let mut n = count;
     let mut source = first;
-    let mut k: u32 = 0;
-    while k < copies {
+    for _k in 0..copies {
         n = insert(values, sources, n, x, source);
         source += step;
-        k += 1;
     }
     n
 }

@@ -36,15 +36,15 @@ module _ {t : NeedTables} {c : List (List ℕ)} where
   walking_ends W end h = all_placed (W.placing h) h.told.held.long W.placed end
 
   -- the next row is placed
-  pub walking_next : {walk : Walk} → Walking t walk c → walk.next < length t.rows → num c walk.next 0 ≡ 2 → Walking t (record { next = walk.next + 1; depth = 0; placed = walk.placed }) c
+  pub walking_next : {walk : Walk} → Walking t walk c → walk.next < length t.rows → num c walk.next 0 ≡ 2 → Walking t (record walk { next = walk.next + 1 }) c
   walking_next W l m =
       record {
         long = W.long;
         few = W.few;
         next = omega (arith, l);
         placed = W.placed;
-        depth = omega arith;
-        path = λ d h. absurd (omega (arith, h));
+        depth = W.depth;
+        path = W.path;
         placing = λ h. next-placing m (W.placing h);
       }
 

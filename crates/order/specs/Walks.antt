@@ -1,13 +1,11 @@
 -- What the walk that puts rows in order keeps. Definitions only.
-use Rattle.std.specs.Prelude.{ℕ, ◌≤◌, ◌<◌, ◌^◌, ◌≡◌, List, length}
+use Rattle.std.specs.Prelude.{ℕ, ◌≤◌, ◌<◌, ◌^◌, ◌≡◌, List, length, Option, Some, None}
 use Rattle.std.proofs.Math.Option.{some}
 use Rattle.rules.specs.Value.{World}
 use Rattle.needs.specs.Slots.{need_at}
 use Rattle.needs.specs.Telling.{NeedTables, KnowsNeeds}
 use Rattle.order.specs.Ranks.{num}
 use Rattle.order.specs.declared.Walk.{Walk}
-use Rattle.order.specs.declared.Turned.{Turned}
-use Rattle.order.specs.declared.Turned.TheVariants as turn
 
 -- row j is placed: it stands behind all that it needs
 pub record Behind (w : World) (placed : ℕ) (c : List (List ℕ)) (j : ℕ) : Type 0 where
@@ -44,6 +42,6 @@ Looking t c row = (h : KnowsNeeds t) (k : ℕ) → some k ≡ need_at h.world ro
 abbrev pub AllPlaced : NeedTables → List (List ℕ) → ℕ → Type 0
 AllPlaced t c row = (h : KnowsNeeds t) (s k : ℕ) → some k ≡ need_at h.world row s → num c k 0 ≡ 2
 
-abbrev pub TurnsTo : NeedTables → Turned → List (List ℕ) → Type 0
-TurnsTo t (turn.On walk) c = Walking t walk c
-TurnsTo t turn.Stop c = Unit {0}
+abbrev pub TurnsTo : NeedTables → Option Walk → List (List ℕ) → Type 0
+TurnsTo t (Some walk) c = Walking t walk c
+TurnsTo t None c = Unit {0}

@@ -2,19 +2,17 @@
 #![tactic(auto)]
 
 ghost use Rattle.std.specs.Prelude.{◌≡◌, true, [], ◌+◌, ◌*◌, ◌≤◌, ◌<◌, ◌^◌, length, get_or};
-ghost use Rattle.needs.specs.Telling.{NeedTables, need_tables, needs_read, KnowsNeeds};
+ghost use Rattle.needs.specs.Telling.{NeedTables, tables_of, KnowsNeeds};
 ghost use Rattle.order.specs.Ranks.{num, Put, Unmet, Ranked};
 ghost use Rattle.order.specs.Walks.{Walking, Pushable, Looking, AllPlaced, TurnsTo};
 
-use columns::{AttributeRow, EntryRow, Limits, Stretches, TablePairs};
 use info::little_endian::index;
-use needs::{need_at, needs_nothing, slots_of};
-use reading::rows::Found;
+use needs::NeedColumns;
 
 // What is kept of row j while rows are put in order: four numbers.
 pub type WorkRow = [u32; 4];
 
-// Whether row j is not met, on the path or placed.
+// Whether row j is not met, on the path or placed. The three are numbers and no enum, since the words that hold them are the caller's.
 pub const WORK_MARK: usize = 0;
 
 // Of a row on the path how many slots are looked at; of a placed row its rank.
@@ -40,22 +38,12 @@ pub struct Walk {
     pub placed: usize,
 }
 
-// Where a turn leaves the walk, or that there is no order to be found.
-#[derive(Clone, Copy)]
-pub enum Turned {
-    On(Walk),
-    Stop,
-}
-
 // One number of one row.
 pub fn put(work: &mut [WorkRow], row: usize, number: usize, x: u32)
     requires inside { (row < length work.old) × (number < 4) }
     ensures put { Put work.old row number x work.new }
 {
-    let old = work[row];
-    let mut numbers = [old[0], old[1], old[2], old[3]];
-    numbers[number] = x;
-    work[row] = numbers;
+    work[row][number] = x;
 }
 
 // No row is met.
@@ -63,187 +51,148 @@ pub fn unmet(work: &mut [WorkRow], n: usize)
     requires inside { n ≤ length work.old }
     ensures unmet { Unmet n work.new }
 {
-    let mut k: usize = 0;
-    while k < n {
-        work[k] = [0, 0, 0, 0];
-        k += 1;
-    }
+    work[..n].fill([0; 4]);
 }
 
 // A row is put at the end of the path.
-fn push(work: &mut [WorkRow], walk: Walk, row: usize) -> Turned
+fn push(work: &mut [WorkRow], walk: Walk, row: usize) -> Option<Walk>
     requires inside { (row < length work.old) × (row < 2 ^ 32) }
     ensures walking { (t : NeedTables) → Walking t walk work.old → Pushable t.rows work.old row
         → TurnsTo t result work.new }
 {
     if work.len() <= walk.depth {
-        return Turned::Stop;
+        return None;
     }
     put(work, row, WORK_MARK, ON_PATH);
     put(work, walk.depth, WORK_PATH, row as u32);
-    Turned::On(Walk {
-        next: walk.next,
+    Some(Walk {
         depth: walk.depth + 1,
-        placed: walk.placed,
+        ..walk
     })
 }
 
 // A row whose needs are all placed is placed.
-fn place(work: &mut [WorkRow], n: usize, walk: Walk, row: usize) -> Turned
+fn place(work: &mut [WorkRow], n: usize, walk: Walk, row: usize) -> Option<Walk>
     requires inside { (row < n) × ((n ≤ length work.old) × (n < 2 ^ 32)) }
     ensures walking { (t : NeedTables) → n ≡ length t.rows → Walking t walk work.old
         → Pushable t.rows work.old row → AllPlaced t work.old row
         → TurnsTo t result work.new }
 {
     if n <= walk.placed {
-        return Turned::Stop;
+        return None;
     }
     put(work, row, WORK_MARK, PLACED);
     put(work, row, WORK_AT, walk.placed as u32);
     put(work, walk.placed, WORK_PLACED, row as u32);
-    Turned::On(Walk {
-        next: walk.next,
-        depth: walk.depth,
+    Some(Walk {
         placed: walk.placed + 1,
+        ..walk
     })
 }
 
 // A slot in which nothing stands, or a placed row, is done with.
-fn pass(work: &mut [WorkRow], walk: Walk, row: usize) -> Turned
+fn pass(work: &mut [WorkRow], walk: Walk, row: usize) -> Option<Walk>
     requires inside { row < length work.old }
     ensures walking { (t : NeedTables) → Walking t walk work.old → Pushable t.rows work.old row
         → Looking t work.old row → TurnsTo t result work.new }
 {
     let slot = work[row][WORK_AT];
     if 4294967295 <= slot {
-        return Turned::Stop;
+        return None;
     }
     put(work, row, WORK_AT, slot + 1);
-    Turned::On(walk)
+    Some(walk)
 }
 
 // The next slot of the path's last row: what stands there is passed where it is placed, and put on the path where it is not met.
 fn look(
     work: &mut [WorkRow],
-    book: &[u8],
-    pairs: &TablePairs,
-    stretches: &Stretches,
-    limits: &Limits,
-    rows: &[AttributeRow],
-    entries: &[EntryRow],
+    columns: &NeedColumns,
     walk: Walk,
     row: usize,
     slot: usize,
-) -> Turned
-    requires holding { KnowsNeeds (need_tables book pairs stretches limits rows entries) }
-    requires walking { Walking (need_tables book pairs stretches limits rows entries) walk work.old }
-    requires pushable { Pushable rows.now work.old row }
-    requires at { (slot ≡ num work.old row 1) × (slot < 2 * get_or (get_or rows.now row []) 3 0 + 2) }
-    ensures walking { TurnsTo (needs_read book pairs stretches limits rows entries) result work.new }
+) -> Option<Walk>
+    requires holding { KnowsNeeds (tables_of columns.now) }
+    requires walking { Walking (tables_of columns.now) walk work.old }
+    requires pushable { Pushable columns.now.rows.now work.old row }
+    requires at { (slot ≡ num work.old row 1) × (slot < 2 * get_or (get_or columns.now.rows.now row []) 3 0 + 2) }
+    ensures walking { TurnsTo (tables_of columns.now) result work.new }
 {
-    let found = need_at(book, pairs, stretches, limits, rows, entries, row, slot);
-    match found {
-        Found::Nothing => pass(work, walk, row),
-        Found::At(k) => {
-            let mark = work[k][WORK_MARK];
-            if mark == PLACED {
-                return pass(work, walk, row);
-            }
-            if mark == NOT_MET {
-                return push(work, walk, k);
-            }
-            Turned::Stop
-        }
+    let Some(k) = columns.need_at(row, slot) else {
+        return pass(work, walk, row);
+    };
+    let mark = work[k][WORK_MARK];
+    if mark == PLACED {
+        return pass(work, walk, row);
     }
+    if mark == NOT_MET {
+        return push(work, walk, k);
+    }
+    None
 }
 
 // One turn: the path's last row is placed, left or looked at; with no path the next row is placed, if it needs nothing, or begins one.
-fn turn(
-    work: &mut [WorkRow],
-    book: &[u8],
-    pairs: &TablePairs,
-    stretches: &Stretches,
-    limits: &Limits,
-    rows: &[AttributeRow],
-    entries: &[EntryRow],
-    walk: Walk,
-) -> Turned
-    requires holding { KnowsNeeds (need_tables book pairs stretches limits rows entries) }
-    requires walking { Walking (need_tables book pairs stretches limits rows entries) walk work.old }
-    requires left { walk.next < length rows.now }
-    ensures walking { TurnsTo (needs_read book pairs stretches limits rows entries) result work.new }
+fn turn(work: &mut [WorkRow], columns: &NeedColumns, walk: Walk) -> Option<Walk>
+    requires holding { KnowsNeeds (tables_of columns.now) }
+    requires walking { Walking (tables_of columns.now) walk work.old }
+    requires left { walk.next < length columns.now.rows.now }
+    ensures walking { TurnsTo (tables_of columns.now) result work.new }
 {
     if walk.depth == 0 {
         let row = walk.next;
         let mark = work[row][WORK_MARK];
         if mark == PLACED {
-            return Turned::On(Walk {
+            return Some(Walk {
                 next: row + 1,
-                depth: 0,
-                placed: walk.placed,
+                ..walk
             });
         }
-        let needless = needs_nothing(book, pairs, stretches, limits, rows, entries, row);
+        let needless = columns.needs_nothing(row);
         if needless {
-            return place(work, rows.len(), walk, row);
+            return place(work, columns.rows.len(), walk, row);
         }
         return push(work, walk, row);
     }
     let top = index(work[walk.depth - 1][WORK_PATH]);
     let mark = work[top][WORK_MARK];
     if mark == PLACED {
-        return Turned::On(Walk {
-            next: walk.next,
+        return Some(Walk {
             depth: walk.depth - 1,
-            placed: walk.placed,
+            ..walk
         });
     }
     let slot = index(work[top][WORK_AT]);
-    let slots = slots_of(rows, top);
+    let slots = columns.slots_of(top);
     if slots <= slot {
-        return place(work, rows.len(), walk, top);
+        return place(work, columns.rows.len(), walk, top);
     }
-    look(
-        work, book, pairs, stretches, limits, rows, entries, walk, top, slot,
-    )
+    look(work, columns, walk, top, slot)
 }
 
 // Whether all rows are placed, each behind what it needs: their ranks, and the rows by rank. No more turns than rows and entries ask for.
-pub fn ordered(
-    work: &mut [WorkRow],
-    book: &[u8],
-    pairs: &TablePairs,
-    stretches: &Stretches,
-    limits: &Limits,
-    rows: &[AttributeRow],
-    entries: &[EntryRow],
-) -> bool
-    requires holding { KnowsNeeds (need_tables book pairs stretches limits rows entries) }
-    requires room { (length rows.now ≤ length work.old) × (length rows.now < 2 ^ 32) }
-    ensures ranked { (h : KnowsNeeds (needs_read book pairs stretches limits rows entries)) → result ≡ true
+// The columns are taken by value: of those behind a reference it is not known that their lengths, doubled, fit.
+pub fn ordered(work: &mut [WorkRow], columns: NeedColumns) -> bool
+    requires holding { KnowsNeeds (tables_of columns) }
+    requires room { (length columns.rows.now ≤ length work.old) × (length columns.rows.now < 2 ^ 32) }
+    ensures ranked { (h : KnowsNeeds (tables_of columns.entry)) → result ≡ true
         → Ranked h.world work.new }
 {
-    let n = rows.len();
+    let n = columns.rows.len();
     unmet(work, n);
-    let turns = 2 * entries.len() + 6 * n;
+    let turns = 2 * columns.entries.len() + 6 * n;
     let mut walk = Walk {
         next: 0,
         depth: 0,
         placed: 0,
     };
-    let mut k: usize = 0;
-    while k < turns {
-        let next = walk.next;
-        if n <= next {
+    for _ in 0..turns {
+        if n <= walk.next {
             return true;
         }
-        let to = turn(work, book, pairs, stretches, limits, rows, entries, walk);
-        k += 1;
-        match to {
-            Turned::On(w) => walk = w,
-            Turned::Stop => return false,
-        }
+        let Some(next) = turn(work, &columns, walk) else {
+            return false;
+        };
+        walk = next;
     }
-    let next = walk.next;
-    n <= next
+    n <= walk.next
 }

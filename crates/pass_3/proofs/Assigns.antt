@@ -2,7 +2,7 @@
 use Prim.Native.Nat.{ℕ}
 use native.Mathlib.Omega.{arith}
 use mathlib.Core.Path.{◌≡◌, refl}
-use mathlib.Core.Bool.{Bool, true, false}
+use mathlib.Core.Bool.{Bool, false}
 use lib.Ieee.{Float}
 use Rattle.rules.specs.Operate.{Values, applied}
 use Rattle.rules.specs.declared.EffectOperator.{EffectOperator}

@@ -1,5 +1,5 @@
 -- What a function of the cycle is lent, and what it answers. Definitions only.
-use Rattle.std.specs.Prelude.{ℕ, ◌≡◌, Bool, true, false, List, [], ◌∷◌, Float}
+use Rattle.std.specs.Prelude.{ℕ, ◌≡◌, Bool, true, false, List, [], ◌∷◌, Float, Result}
 use Rattle.std.specs.Borrow.{Bor}
 use denote.Triple.Both.{Both}
 use Rattle.columns.specs.Lending.{Column, LentColumn}
@@ -9,12 +9,13 @@ use Rattle.rules.specs.Dispatch.{Row}
 use Rattle.rules.specs.Operate.{Values}
 use Rattle.rules.specs.Value.{World, Mem, Read, Gathered}
 use Rattle.rules.specs.declared.EffectOperator.{EffectOperator}
+use Rattle.rules.specs.declared.Refusal.{Refusal}
 use Rattle.rules.specs.declared.EffectOperator.TheVariants.{PreAssign, PreMul, PreDiv, ModAdd, ModSub, PostMul, PostDiv, PostPercent, PostAssign}
 use Rattle.sources.specs.declared.Recording.{Recording}
-use Rattle.gather.specs.declared.Growing.{Growing}
+use Rattle.sources.specs.declared.SourceCounts.{SourceCounts}
 use Rattle.gather.specs.declared.Pile.{Pile}
-use Rattle.gather.specs.Piles.{whole, Eights}
-use Rattle.memory.specs.Holding.{Tables, tables, PileMeets}
+use Rattle.memory.specs.Holding.{tables_of, PileMeets}
+use Rattle.memory.specs.declared.ReadColumns.{ReadColumns}
 use Rattle.memory.specs.Holding as holding
 use Rattle.memory.specs.Answers.{Returns, PartReturns}
 use Rattle.memory.specs.declared.apply.Got.{Got}
@@ -49,63 +50,44 @@ Pairs = Column (List Float)
 abbrev pub Lent : Type 0 → Type 0
 Lent X = Both X X
 
--- the nine columns that a calculation only reads, in the order of the arguments: as a `requires` has them, and as an `ensures` has them
-abbrev pub lent : Numbers → Rows → Rows → Rows → Numbers → Rows → Floats → Rows → Floats → Tables
-lent b p s x l r c e v = tables b.now p.now s.now x.now l.now r.now c.now e.now v.now
-
-abbrev pub read : Lent Numbers → Lent Rows → Lent Rows → Lent Rows → Lent Numbers → Lent Rows → Lent Floats → Lent Rows → Lent Floats → Tables
-read b p s x l r c e v =
-    tables b.entry.now p.entry.now s.entry.now x.entry.now l.entry.now r.entry.now c.entry.now e.entry.now v.entry.now
-
 -- the columns hold some world and some memory
-abbrev pub ReadyNow : Tables → Column Float → Column (List ℕ) → Pairs → Recording → ℕ → Type 0
-ReadyNow t v s f run used = holding.Ready t run v.now s.now f.now used
+abbrev pub ReadyNow : ReadColumns → Column Float → Column (List ℕ) → Pairs → Recording → ℕ → Type 0
+ReadyNow c v s f run used = holding.Ready (tables_of c) run v.now s.now f.now used
 
 -- and row i is under calculation
-abbrev pub BusyNow : Tables → Column Float → Column (List ℕ) → Pairs → Recording → ℕ → ℕ → ℕ → List EffectOperator → Type 0
-BusyNow t v s f run used i own ops = holding.Busy t run v.now s.now f.now used i own ops
+abbrev pub BusyNow : ReadColumns → Column Float → Column (List ℕ) → Pairs → Recording → ℕ → ℕ → ℕ → List EffectOperator → Type 0
+BusyNow c v s f run used i own ops = holding.Busy (tables_of c) run v.now s.now f.now used i own ops
 
 -- of the world and the memory that the columns held, the call gives what the definition g gives, and they hold the memory that g leaves
-abbrev pub Gives : Tables → LentColumn Float → LentColumn (List ℕ) → Lent Pairs → Recording → ℕ → Got → (World → Mem → Res Read) → Type 0
-Gives t v s f run used r g =
-    (h : holding.Ready t run v.entry.now s.entry.now f.entry.now used)
+abbrev pub Gives : ReadColumns → LentColumn Float → LentColumn (List ℕ) → Lent Pairs → Recording → ℕ → Result Got Refusal → (World → Mem → Res Read) → Type 0
+Gives c v s f run used r g =
+    (h : holding.Ready (tables_of c) run v.entry.now s.entry.now f.entry.now used)
     → Returns h.world h.sources₀ h.floats₀ (g h.world h.mem) r v.exit.now s.exit.now f.exit.now
 
 -- the same of row i under calculation
-abbrev pub BusyGives : Tables → LentColumn Float → LentColumn (List ℕ) → Lent Pairs → Recording → ℕ → ℕ → Got → (World → Mem → Res Read) → Type 0
-BusyGives t v s f run used i r g =
-    (h : holding.Busy t run v.entry.now s.entry.now f.entry.now used i 0 operators)
+abbrev pub BusyGives : ReadColumns → LentColumn Float → LentColumn (List ℕ) → Lent Pairs → Recording → ℕ → ℕ → Result Got Refusal → (World → Mem → Res Read) → Type 0
+BusyGives c v s f run used i r g =
+    (h : holding.Busy (tables_of c) run v.entry.now s.entry.now f.entry.now used i 0 operators)
     → Returns h.ready.world h.ready.sources₀ h.ready.floats₀ (g h.ready.world h.ready.mem) r v.exit.now s.exit.now f.exit.now
 
 -- the same of one operator of row i
-abbrev pub PartGives : Tables → LentColumn Float → LentColumn (List ℕ) → Lent Pairs → Recording → ℕ → ℕ → ℕ → EffectOperator → Part → (World → Mem → Res Read) → Type 0
-PartGives t v s f run used i own op r g =
-    (h : holding.Busy t run v.entry.now s.entry.now f.entry.now used i own (op ∷ []))
+abbrev pub PartGives : ReadColumns → LentColumn Float → LentColumn (List ℕ) → Lent Pairs → Recording → SourceCounts → ℕ → EffectOperator → Result Part Refusal → (World → Mem → Res Read) → Type 0
+PartGives c v s f run counts i op r g =
+    (h : holding.Busy (tables_of c) run v.entry.now s.entry.now f.entry.now counts.used i counts.own (op ∷ []))
     → PartReturns h.ready.world h.ready.sources₀ h.ready.floats₀ i (g h.ready.world h.ready.mem) r v.exit.now s.exit.now f.exit.now
 
 -- the same of an entry, on any row of an object
-abbrev pub GivesOn : Tables → LentColumn Float → LentColumn (List ℕ) → Lent Pairs → Recording → ℕ → ℕ → Got → (World → ℕ → Row → Mem → Res Read) → Type 0
-GivesOn t v s f run used object r g =
-    (h : holding.Ready t run v.entry.now s.entry.now f.entry.now used) (i : ℕ) (row : Row) → row.object ≡ object
+abbrev pub GivesOn : ReadColumns → LentColumn Float → LentColumn (List ℕ) → Lent Pairs → Recording → ℕ → ℕ → Result Got Refusal → (World → ℕ → Row → Mem → Res Read) → Type 0
+GivesOn c v s f run used object r g =
+    (h : holding.Ready (tables_of c) run v.entry.now s.entry.now f.entry.now used) (i : ℕ) (row : Row) → row.object ≡ object
     → Returns h.world h.sources₀ h.floats₀ (g h.world i row h.mem) r v.exit.now s.exit.now f.exit.now
 
--- the pile as it is lent, and at entry and at exit
-abbrev pub pile_of : Column Float → Column ℕ → Column Float → Column ℕ → Growing → Pile
-pile_of pv ps nv ns p = whole pv.now ps.now nv.now ns.now p
-
-abbrev pub piled : LentColumn Float → LentColumn ℕ → LentColumn Float → LentColumn ℕ → Growing → Growing → Lent Pile
-piled pv ps nv ns p r =
-    record { entry = pile_of pv.entry ps.entry nv.entry ns.entry p; exit = pile_of pv.exit ps.exit nv.exit ns.exit r }
-
-abbrev pub EightsAt : Column Float → Column ℕ → Column Float → Column ℕ → Type 0
-EightsAt pv ps nv ns = Eights pv.now ps.now nv.now ns.now
-
 -- row i is under calculation, and the pile holds what the entries before entry k gave
-abbrev pub Piling : Tables → Column Float → Column (List ℕ) → Pairs → Recording → ℕ → ℕ → Bool → EffectOperator → Pile → Type 0
-Piling t v s f run i k high op p = holding.Piling t run v.now s.now f.now i k high op p
+abbrev pub Piling : ReadColumns → Column Float → Column (List ℕ) → Pairs → Recording → ℕ → ℕ → Bool → EffectOperator → Pile → Type 0
+Piling c v s f run i k high op p = holding.Piling (tables_of c) run v.now s.now f.now i k high op p
 
 -- the pile holds what the definition g gathers
-abbrev pub PileGives : Tables → LentColumn Float → LentColumn (List ℕ) → Lent Pairs → Lent Pile → Recording → ℕ → ℕ → Bool → EffectOperator → (World → Mem → Values → Res Gathered) → Type 0
-PileGives t v s f pile run i k high op g =
-    (h : holding.Piling t run v.entry.now s.entry.now f.entry.now i k high op pile.entry)
+abbrev pub PileGives : ReadColumns → LentColumn Float → LentColumn (List ℕ) → Lent Pairs → Both Pile (Result Pile Refusal) → Recording → ℕ → ℕ → Bool → EffectOperator → (World → Mem → Values → Res Gathered) → Type 0
+PileGives c v s f pile run i k high op g =
+    (h : holding.Piling (tables_of c) run v.entry.now s.entry.now f.entry.now i k high op pile.entry)
     → PileMeets h.ready.world h.ready.sources₀ h.ready.floats₀ i high op h.found (g h.ready.world h.ready.mem h.values) pile.exit v.exit.now s.exit.now f.exit.now

@@ -16,24 +16,24 @@ ghost use Rattle.memory.specs.Steps.{row_at, entry_at, strength_of, evaluation};
 ghost use Rattle.memory.specs.Holding.{Good};
 ghost use Rattle.memory.specs.Answers.{held_by};
 ghost use Rattle.gather.specs.Piles.{Eights};
-ghost use Rattle.pass_3.specs.Calls.{is_assign, lent, read, ReadyNow, BusyNow, Gives, BusyGives, PartGives, GivesOn, Piling, PileGives, pile_of, piled, EightsAt};
+ghost use Rattle.gather.specs.Adds.{pile_of, tried, EightsAt};
+ghost use Rattle.pass_3.specs.Calls.{is_assign, ReadyNow, BusyNow, Gives, BusyGives, PartGives, GivesOn, Piling, PileGives};
 
 use columns::{
-    AttributeRow, ENTRY_OPERATOR, EntryRow, Limits, ROW_ATTRIBUTE, ROW_ENTRY_COUNT,
-    ROW_FIRST_ENTRY, ROW_FIRST_SOURCE, ROW_OBJECT, SourceFloats, SourceRow, States, Stretches,
-    TablePairs,
+    ENTRY_OPERATOR, ROW_ATTRIBUTE, ROW_ENTRY_COUNT, ROW_FIRST_ENTRY, ROW_FIRST_SOURCE, ROW_OBJECT,
+    SourceFloats, SourceRow, TablePairs,
 };
-use gather::{Growing, Stop, add_entry, counted, empty, grown, stopped};
+use gather::{Growing, add_entry, empty, grown};
 use info::look_ups::get_dogma_attribute;
 use item::codes::operator_code;
+use memory::ReadColumns;
 use memory::apply::{Got, Part, apply, held_to};
 use numbers::integers::signed;
 use numbers::product;
 use reading::entries::{entry_at, is_running, operator_of, operators_in};
-use reading::rows::Found;
 use reading::stretches::{find, is_limited};
-use rules::{Effect, EffectOperator, OptionalId, Origin, Refusal, Step};
-use sources::Recording;
+use rules::{Effect, EffectOperator, Origin, Refusal};
+use sources::{Recording, SourceCounts};
 
 // The value of an attribute of an object: its row's, or the default where it has none.
 #[cycle(calculation)]
@@ -41,52 +41,25 @@ pub fn calculated_value(
     values: &mut [f64],
     sources: &mut [SourceRow],
     floats: &mut [SourceFloats],
-    book: &[u8],
-    pairs: &TablePairs,
-    states: &States,
-    stretches: &Stretches,
-    limits: &Limits,
-    rows: &[AttributeRow],
-    bases: &[f64],
-    entries: &[EntryRow],
-    entry_values: &[f64],
+    columns: &ReadColumns,
     run: Recording,
     object: u32,
     attribute: i32,
     left: u32,
     used: u32,
-) -> Got
-    requires holding { let t = lent book pairs states stretches limits rows bases entries entry_values in
-        ReadyNow t values sources floats run used }
+) -> Result<Got, Refusal>
+    requires holding { ReadyNow columns.now values sources floats run used }
     requires an_object { object < 1024 }
-    ensures defined { let t = read book pairs states stretches limits rows bases entries entry_values in
-        Gives t values sources floats run used result (λ w. value_of w left object attribute) }
+    ensures defined { Gives columns.now values sources floats run used result (λ w. value_of w left object attribute) }
 {
-    let found = find(rows, stretches, object, attribute);
-    match found {
-        Found::At(row) => calculate_value(
-            values,
-            sources,
-            floats,
-            book,
-            pairs,
-            states,
-            stretches,
-            limits,
-            rows,
-            bases,
-            entries,
-            entry_values,
-            run,
-            row,
-            left,
+    let Some(row) = find(columns.rows, columns.stretches, object, attribute) else {
+        let record = get_dogma_attribute(columns.book, columns.pairs, attribute);
+        return Ok(Got {
+            value: record.default_value,
             used,
-        ),
-        Found::Nothing => {
-            let record = get_dogma_attribute(book, pairs, attribute);
-            Got::Value(record.default_value, used)
-        }
-    }
+        });
+    };
+    calculate_value(values, sources, floats, columns, run, row, left, used)
 }
 
 // The value of a row: the one in the column where the row is started or done.
@@ -95,61 +68,29 @@ pub fn calculate_value(
     values: &mut [f64],
     sources: &mut [SourceRow],
     floats: &mut [SourceFloats],
-    book: &[u8],
-    pairs: &TablePairs,
-    states: &States,
-    stretches: &Stretches,
-    limits: &Limits,
-    rows: &[AttributeRow],
-    bases: &[f64],
-    entries: &[EntryRow],
-    entry_values: &[f64],
+    columns: &ReadColumns,
     run: Recording,
     row: usize,
     left: u32,
     used: u32,
-) -> Got
-    requires holding { let t = lent book pairs states stretches limits rows bases entries entry_values in
-        ReadyNow t values sources floats run used }
-    requires within { row < length rows.now }
-    ensures defined { let t = read book pairs states stretches limits rows bases entries entry_values in
-        Gives t values sources floats run used result (λ w. value_of w left (row_at w row).object (row_at w row).id) }
+) -> Result<Got, Refusal>
+    requires holding { ReadyNow columns.now values sources floats run used }
+    requires within { row < length columns.now.rows.now }
+    ensures defined { Gives columns.now values sources floats run used result (λ w. value_of w left (row_at w row).object (row_at w row).id) }
 {
     let v = values[row];
     if v == v {
-        return Got::Value(v, used);
+        return Ok(Got { value: v, used });
     }
     if left == 0 {
-        let object = rows[row][ROW_OBJECT];
-        return Got::Refused(Refusal::Depth(object));
+        let object = columns.rows[row][ROW_OBJECT];
+        return Err(Refusal::Depth(object));
     }
-    let base = bases[row];
+    let base = columns.bases[row];
     values[row] = base;
-    let got = evaluated(
-        values,
-        sources,
-        floats,
-        book,
-        pairs,
-        states,
-        stretches,
-        limits,
-        rows,
-        bases,
-        entries,
-        entry_values,
-        run,
-        row,
-        left - 1,
-        used,
-    );
-    match got {
-        Got::Value(w, u) => {
-            values[row] = w;
-            Got::Value(w, u)
-        }
-        Got::Refused(y) => Got::Refused(y),
-    }
+    let got = evaluated(values, sources, floats, columns, run, row, left - 1, used)?;
+    values[row] = got.value;
+    Ok(got)
 }
 
 // The value of a row under calculation: its operators, then min, then max. Its record is looked up where it may have a limit.
@@ -158,106 +99,55 @@ fn evaluated(
     values: &mut [f64],
     sources: &mut [SourceRow],
     floats: &mut [SourceFloats],
-    book: &[u8],
-    pairs: &TablePairs,
-    states: &States,
-    stretches: &Stretches,
-    limits: &Limits,
-    rows: &[AttributeRow],
-    bases: &[f64],
-    entries: &[EntryRow],
-    entry_values: &[f64],
+    columns: &ReadColumns,
     run: Recording,
     row: usize,
     left: u32,
     used: u32,
-) -> Got
-    requires begun { let t = lent book pairs states stretches limits rows bases entries entry_values in
-        BusyNow t values sources floats run used row 0 operators }
-    ensures defined { let t = read book pairs states stretches limits rows bases entries entry_values in
-        BusyGives t values sources floats run used row result (λ w. evaluation w (value_of w left) row (row_at w row)) }
+) -> Result<Got, Refusal>
+    requires begun { BusyNow columns.now values sources floats run used row 0 operators }
+    ensures defined { BusyGives columns.now values sources floats run used row result (λ w. evaluation w (value_of w left) row (row_at w row)) }
 {
-    let id = signed(rows[row][ROW_ATTRIBUTE]);
-    let count = rows[row][ROW_ENTRY_COUNT];
-    let has_limits = is_limited(limits, id);
+    let id = signed(columns.rows[row][ROW_ATTRIBUTE]);
+    let count = columns.rows[row][ROW_ENTRY_COUNT];
+    let has_limits = is_limited(columns.limits, id);
     if count == 0 {
         if !has_limits {
-            let base = bases[row];
-            return Got::Value(base, used);
+            return Ok(Got {
+                value: columns.bases[row],
+                used,
+            });
         }
     }
-    let got = operated(
-        values,
-        sources,
-        floats,
-        book,
-        pairs,
-        states,
-        stretches,
-        limits,
-        rows,
-        bases,
-        entries,
-        entry_values,
-        run,
-        row,
-        left,
-        used,
-    );
+    let got = operated(values, sources, floats, columns, run, row, left, used)?;
     if !has_limits {
-        return got;
+        return Ok(got);
     }
-    let Got::Value(v, u) = got else {
-        return got;
-    };
-    let record = get_dogma_attribute(book, pairs, id);
-    let min = record.min_attribute_id;
-    let max = record.max_attribute_id;
-    let object = rows[row][ROW_OBJECT];
+    let record = get_dogma_attribute(columns.book, columns.pairs, id);
+    let object = columns.rows[row][ROW_OBJECT];
     let low = limited(
         values,
         sources,
         floats,
-        book,
-        pairs,
-        states,
-        stretches,
-        limits,
-        rows,
-        bases,
-        entries,
-        entry_values,
+        columns,
         run,
         object,
-        min,
+        record.min_attribute_id,
         true,
-        v,
+        got,
         left,
-        u,
-    );
-    let Got::Value(w, t) = low else {
-        return low;
-    };
+    )?;
     limited(
         values,
         sources,
         floats,
-        book,
-        pairs,
-        states,
-        stretches,
-        limits,
-        rows,
-        bases,
-        entries,
-        entry_values,
+        columns,
         run,
         object,
-        max,
+        record.max_attribute_id,
         false,
-        w,
+        low,
         left,
-        t,
     )
 }
 
@@ -267,56 +157,29 @@ fn limited(
     values: &mut [f64],
     sources: &mut [SourceRow],
     floats: &mut [SourceFloats],
-    book: &[u8],
-    pairs: &TablePairs,
-    states: &States,
-    stretches: &Stretches,
-    limits: &Limits,
-    rows: &[AttributeRow],
-    bases: &[f64],
-    entries: &[EntryRow],
-    entry_values: &[f64],
+    columns: &ReadColumns,
     run: Recording,
     object: u32,
     limit: i32,
     least: bool,
-    v: f64,
+    got: Got,
     left: u32,
-    used: u32,
-) -> Got
-    requires holding { let t = lent book pairs states stretches limits rows bases entries entry_values in
-        ReadyNow t values sources floats run used }
-    requires within { (object < 1024) × T (finite v) }
-    ensures defined { let t = read book pairs states stretches limits rows bases entries entry_values in
-        Gives t values sources floats run used result
-        (λ w m. clamped object (value_of w left) (held_by least) limit (record { value = v; mem = m })) }
+) -> Result<Got, Refusal>
+    requires holding { ReadyNow columns.now values sources floats run got.used }
+    requires within { (object < 1024) × T (finite got.value) }
+    ensures defined { Gives columns.now values sources floats run got.used result
+        (λ w m. clamped object (value_of w left) (held_by least) limit (record { value = got.value; mem = m })) }
 {
     if limit == 0 {
-        return Got::Value(v, used);
+        return Ok(got);
     }
-    let got = calculated_value(
-        values,
-        sources,
-        floats,
-        book,
-        pairs,
-        states,
-        stretches,
-        limits,
-        rows,
-        bases,
-        entries,
-        entry_values,
-        run,
-        object,
-        limit,
-        left,
-        used,
-    );
-    let Got::Value(w, u) = got else {
-        return got;
-    };
-    Got::Value(held_to(v, w, least), u)
+    let bound = calculated_value(
+        values, sources, floats, columns, run, object, limit, left, got.used,
+    )?;
+    Ok(Got {
+        value: held_to(got.value, bound.value, least),
+        used: bound.used,
+    })
 }
 
 // The base value of a row with its operators applied in their order; one that no entry has is passed over.
@@ -325,87 +188,46 @@ fn operated(
     values: &mut [f64],
     sources: &mut [SourceRow],
     floats: &mut [SourceFloats],
-    book: &[u8],
-    pairs: &TablePairs,
-    states: &States,
-    stretches: &Stretches,
-    limits: &Limits,
-    rows: &[AttributeRow],
-    bases: &[f64],
-    entries: &[EntryRow],
-    entry_values: &[f64],
+    columns: &ReadColumns,
     run: Recording,
     row: usize,
     left: u32,
     used: u32,
-) -> Got
-    requires begun { let t = lent book pairs states stretches limits rows bases entries entry_values in
-        BusyNow t values sources floats run used row 0 operators }
-    ensures defined { let t = read book pairs states stretches limits rows bases entries entry_values in
-        BusyGives t values sources floats run used row result
+) -> Result<Got, Refusal>
+    requires begun { BusyNow columns.now values sources floats run used row 0 operators }
+    ensures defined { BusyGives columns.now values sources floats run used row result
         (λ w m. operate w row (row_at w row) (value_of w left) operators (record { value = (row_at w row).base; mem = m })) }
 {
-    let first = rows[row][ROW_FIRST_ENTRY] as usize;
-    let end = first + rows[row][ROW_ENTRY_COUNT] as usize;
-    let marks = operators_in(entries, first, end);
-    let mut value = bases[row];
-    let mut own: u32 = 0;
-    let mut u = used;
-    let mut code: u32 = 0;
-    while code < 9 {
+    let first = columns.rows[row][ROW_FIRST_ENTRY] as usize;
+    let end = first + columns.rows[row][ROW_ENTRY_COUNT] as usize;
+    let marks = operators_in(columns.entries, first, end);
+    let mut part = Part {
+        value: columns.bases[row],
+        counts: SourceCounts { own: 0, used },
+    };
+    for code in 0u32..9 {
         let operator = operator_of(code);
         let mark = marks[code as usize];
-        code += 1;
         if mark != 0 {
-            let part = gathered(
-                values,
-                sources,
-                floats,
-                book,
-                pairs,
-                states,
-                stretches,
-                limits,
-                rows,
-                bases,
-                entries,
-                entry_values,
-                run,
-                row,
-                operator,
-                left,
-                value,
-                own,
-                u,
-            );
-            match part {
-                Part::At(v, o, t) => {
-                    value = v;
-                    own = o;
-                    u = t;
-                }
-                Part::Refused(y) => return Got::Refused(y),
-            }
+            part = gathered(
+                values, sources, floats, columns, run, row, operator, left, part,
+            )?;
         }
     }
-    Got::Value(value, u)
+    Ok(Got {
+        value: part.value,
+        used: part.counts.used,
+    })
 }
 
 // Whether an operator assigns.
 fn is_assign(operator: EffectOperator) -> bool
     ensures defined { result ≡ is_assign operator }
 {
-    match operator {
-        EffectOperator::PreAssign => true,
-        EffectOperator::PreMul => false,
-        EffectOperator::PreDiv => false,
-        EffectOperator::ModAdd => false,
-        EffectOperator::ModSub => false,
-        EffectOperator::PostMul => false,
-        EffectOperator::PostDiv => false,
-        EffectOperator::PostPercent => false,
-        EffectOperator::PostAssign => true,
-    }
+    matches!(
+        operator,
+        EffectOperator::PreAssign | EffectOperator::PostAssign
+    )
 }
 
 // Whether high is good of an attribute; only an operator that assigns asks its record.
@@ -428,39 +250,26 @@ fn gathered(
     values: &mut [f64],
     sources: &mut [SourceRow],
     floats: &mut [SourceFloats],
-    book: &[u8],
-    pairs: &TablePairs,
-    states: &States,
-    stretches: &Stretches,
-    limits: &Limits,
-    rows: &[AttributeRow],
-    bases: &[f64],
-    entries: &[EntryRow],
-    entry_values: &[f64],
+    columns: &ReadColumns,
     run: Recording,
     row: usize,
     operator: EffectOperator,
     left: u32,
-    found: f64,
-    own: u32,
-    used: u32,
-) -> Part
-    requires begun { let t = lent book pairs states stretches limits rows bases entries entry_values in
-        (BusyNow t values sources floats run used row own (operator ∷ [])) × T (finite found) }
-    ensures defined { let t = read book pairs states stretches limits rows bases entries entry_values in
-        PartGives t values sources floats run used row own operator result
-        (λ w m. operate w row (row_at w row) (value_of w left) (operator ∷ []) (record { value = found; mem = m })) }
+    part: Part,
+) -> Result<Part, Refusal>
+    requires begun { (BusyNow columns.now values sources floats run part.counts.used row part.counts.own (operator ∷ [])) × T (finite part.value) }
+    ensures defined { PartGives columns.now values sources floats run part.counts row operator result
+        (λ w m. operate w row (row_at w row) (value_of w left) (operator ∷ []) (record { value = part.value; mem = m })) }
 {
-    let count = rows[row][ROW_ENTRY_COUNT] as usize;
-    let id = signed(rows[row][ROW_ATTRIBUTE]);
-    let high = is_high(book, pairs, operator, id);
+    let count = columns.rows[row][ROW_ENTRY_COUNT] as usize;
+    let id = signed(columns.rows[row][ROW_ATTRIBUTE]);
+    let high = is_high(columns.book, columns.pairs, operator, id);
     let mut positives = [0.0; 8];
     let mut positive_sources = [0u32; 8];
     let mut negatives = [0.0; 8];
     let mut negative_sources = [0u32; 8];
-    let mut p = empty(found, own, used);
-    let mut k: usize = 0;
-    while k < count {
+    let mut p = empty(part.value, part.counts);
+    for k in 0..count {
         p = with_entry(
             values,
             sources,
@@ -469,15 +278,7 @@ fn gathered(
             &mut positive_sources,
             &mut negatives,
             &mut negative_sources,
-            book,
-            pairs,
-            states,
-            stretches,
-            limits,
-            rows,
-            bases,
-            entries,
-            entry_values,
+            columns,
             run,
             row,
             k,
@@ -485,16 +286,10 @@ fn gathered(
             high,
             left,
             p,
-        );
-        k += 1;
-        let stop = p.stop;
-        match stop {
-            Stop::No => {}
-            Stop::Because(y) => return Part::Refused(y),
-        }
+        )?;
     }
-    let object = rows[row][ROW_OBJECT];
-    let first = rows[row][ROW_FIRST_SOURCE];
+    let object = columns.rows[row][ROW_OBJECT];
+    let first = columns.rows[row][ROW_FIRST_SOURCE];
     let pile = grown(positives, positive_sources, negatives, negative_sources, p);
     apply(floats, run, first, object, pile)
 }
@@ -509,15 +304,7 @@ fn with_entry(
     positive_sources: &mut [u32; 8],
     negatives: &mut [f64; 8],
     negative_sources: &mut [u32; 8],
-    book: &[u8],
-    pairs: &TablePairs,
-    states: &States,
-    stretches: &Stretches,
-    limits: &Limits,
-    rows: &[AttributeRow],
-    bases: &[f64],
-    entries: &[EntryRow],
-    entry_values: &[f64],
+    columns: &ReadColumns,
     run: Recording,
     row: usize,
     k: usize,
@@ -525,70 +312,57 @@ fn with_entry(
     high: bool,
     left: u32,
     p: Growing,
-) -> Growing
-    requires piling { let t = lent book pairs states stretches limits rows bases entries entry_values in
-        Piling t values sources floats run row k high operator (pile_of positives positive_sources negatives negative_sources p) }
+) -> Result<Growing, Refusal>
+    requires piling { Piling columns.now values sources floats run row k high operator (pile_of positives positive_sources negatives negative_sources p) }
     requires eights { EightsAt positives positive_sources negatives negative_sources }
-    ensures defined { let t = read book pairs states stretches limits rows bases entries entry_values in
-        let pile = piled positives positive_sources negatives negative_sources p result in
-        PileGives t values sources floats pile run row k high operator
+    ensures defined { let pile = tried positives positive_sources negatives negative_sources p result in
+        PileGives columns.now values sources floats pile run row k high operator
         (λ w m v. gather w row (row_at w row) (value_of w left) operator (entry_at w row k ∷ []) (record { mem = m; values = v })) }
     ensures eights { Eights positives.new positive_sources.new negatives.new negative_sources.new }
 {
-    let at = rows[row][ROW_FIRST_ENTRY] as usize + k;
-    let code = entries[at][ENTRY_OPERATOR];
+    let at = columns.rows[row][ROW_FIRST_ENTRY] as usize + k;
+    let code = columns.entries[at][ENTRY_OPERATOR];
     if code != operator_code(operator) {
-        return p;
+        return Ok(p);
     }
-    let e = entry_at(entries, entry_values, at);
-    let origin = e.origin;
-    let runs = is_running(states, origin);
+    let e = entry_at(columns.entries, columns.entry_values, at);
+    let runs = is_running(columns.states, e.origin);
     if !(runs | run.recording) {
-        return p;
+        return Ok(p);
     }
-    let object = rows[row][ROW_OBJECT];
-    let first = rows[row][ROW_FIRST_SOURCE];
+    let object = columns.rows[row][ROW_OBJECT];
+    let first = columns.rows[row][ROW_FIRST_SOURCE];
     let got = strength(
         values,
         sources,
         floats,
-        book,
-        pairs,
-        states,
-        stretches,
-        limits,
-        rows,
-        bases,
-        entries,
-        entry_values,
+        columns,
         run,
         object,
         e,
         left,
-        p.used,
-    );
-    match got {
-        Got::Value(v, used) => {
-            let q = counted(p, p.own, used);
-            add_entry(
-                positives,
-                positive_sources,
-                negatives,
-                negative_sources,
-                sources,
-                floats,
-                run,
-                first,
-                object,
-                high,
-                runs,
-                e,
-                v,
-                q,
-            )
-        }
-        Got::Refused(y) => stopped(p, y),
-    }
+        p.counts.used,
+    )?;
+    let counts = SourceCounts {
+        own: p.counts.own,
+        used: got.used,
+    };
+    add_entry(
+        positives,
+        positive_sources,
+        negatives,
+        negative_sources,
+        sources,
+        floats,
+        run,
+        first,
+        object,
+        high,
+        runs,
+        e,
+        got.value,
+        Growing { counts, ..p },
+    )
 }
 
 // The strength of an entry: a buff's own, or an attribute of its source, held against the ship's resistance.
@@ -597,78 +371,45 @@ fn strength(
     values: &mut [f64],
     sources: &mut [SourceRow],
     floats: &mut [SourceFloats],
-    book: &[u8],
-    pairs: &TablePairs,
-    states: &States,
-    stretches: &Stretches,
-    limits: &Limits,
-    rows: &[AttributeRow],
-    bases: &[f64],
-    entries: &[EntryRow],
-    entry_values: &[f64],
+    columns: &ReadColumns,
     run: Recording,
     object: u32,
     e: Effect,
     left: u32,
     used: u32,
-) -> Got
-    requires holding { let t = lent book pairs states stretches limits rows bases entries entry_values in
-        ReadyNow t values sources floats run used }
+) -> Result<Got, Refusal>
+    requires holding { ReadyNow columns.now values sources floats run used }
     requires good { Good e }
-    ensures defined { let t = read book pairs states stretches limits rows bases entries entry_values in
-        GivesOn t values sources floats run used object result (λ w i row. strength_of w (value_of w left) i row e e.origin) }
+    ensures defined { GivesOn columns.now values sources floats run used object result (λ w i row. strength_of w (value_of w left) i row e e.origin) }
 {
-    let origin = e.origin;
-    let resistance = e.resistance;
-    match origin {
-        Origin::Buff { buff_id: _, value } => Got::Value(value, used),
+    match e.origin {
+        Origin::Buff { value, .. } => Ok(Got { value, used }),
         Origin::Effect {
-            effect_id: _,
             source,
-            source_category: _,
             attribute_id,
+            ..
         } => {
             let got = calculated_value(
                 values,
                 sources,
                 floats,
-                book,
-                pairs,
-                states,
-                stretches,
-                limits,
-                rows,
-                bases,
-                entries,
-                entry_values,
+                columns,
                 run,
                 source,
                 attribute_id,
                 left,
                 used,
-            );
-            let Got::Value(v, u) = got else {
-                return got;
-            };
+            )?;
             resisted(
                 values,
                 sources,
                 floats,
-                book,
-                pairs,
-                states,
-                stretches,
-                limits,
-                rows,
-                bases,
-                entries,
-                entry_values,
+                columns,
                 run,
                 object,
-                resistance,
-                v,
+                e.resistance,
+                got,
                 left,
-                u,
             )
         }
     }
@@ -680,59 +421,29 @@ fn resisted(
     values: &mut [f64],
     sources: &mut [SourceRow],
     floats: &mut [SourceFloats],
-    book: &[u8],
-    pairs: &TablePairs,
-    states: &States,
-    stretches: &Stretches,
-    limits: &Limits,
-    rows: &[AttributeRow],
-    bases: &[f64],
-    entries: &[EntryRow],
-    entry_values: &[f64],
+    columns: &ReadColumns,
     run: Recording,
     object: u32,
-    resistance: OptionalId,
-    v: f64,
+    resistance: Option<i32>,
+    got: Got,
     left: u32,
-    used: u32,
-) -> Got
-    requires holding { let t = lent book pairs states stretches limits rows bases entries entry_values in
-        ReadyNow t values sources floats run used }
-    requires number { T (finite v) }
-    ensures defined { let t = read book pairs states stretches limits rows bases entries entry_values in
-        GivesOn t values sources floats run used object result
-        (λ w i row m. defined.resisted w i row (value_of w left) resistance (record { value = v; mem = m })) }
+) -> Result<Got, Refusal>
+    requires holding { ReadyNow columns.now values sources floats run got.used }
+    requires number { T (finite got.value) }
+    ensures defined { GivesOn columns.now values sources floats run got.used object result
+        (λ w i row m. defined.resisted w i row (value_of w left) resistance (record { value = got.value; mem = m })) }
 {
-    match resistance {
-        OptionalId::Absent => Got::Value(v, used),
-        OptionalId::Given(attribute) => {
-            let got = calculated_value(
-                values,
-                sources,
-                floats,
-                book,
-                pairs,
-                states,
-                stretches,
-                limits,
-                rows,
-                bases,
-                entries,
-                entry_values,
-                run,
-                0,
-                attribute,
-                left,
-                used,
-            );
-            let Got::Value(w, u) = got else {
-                return got;
-            };
-            let step = product(v, w);
-            match step {
-                Step::Finite(x) => Got::Value(x, u),
-                Step::NotFinite => Got::Refused(Refusal::Number(object)),
-            }
-        }
-    }
+    let Some(attribute) = resistance else {
+        return Ok(got);
+    };
+    let resisting = calculated_value(
+        values, sources, floats, columns, run, 0, attribute, left, got.used,
+    )?;
+    let Some(value) = product(got.value, resisting.value) else {
+        return Err(Refusal::Number(object));
+    };
+    Ok(Got {
+        value,
+        used: resisting.used,
+    })
 }

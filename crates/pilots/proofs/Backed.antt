@@ -37,10 +37,6 @@ module _ {A : Type 0} (a e : ℕ) (c : List A) (h : (a ≤ e) × (e ≤ length c
       let x = length-drop a c in
       let y = cut_long in omega (arith, t, u, v, w, x, y, k, h.0, h.1)
 
--- where a part begins in bytes: a slice of n elements, k bytes each, takes fewer than 2^63
-pub begins_in : (a e n k : ℕ) → (a ≤ e) × (e ≤ n) → n * k < 2 ^ 63 → Fits w64 (a * k)
-begins_in a e n k h q = Fits-le (mul-le-mul_right k (le_trans h.0 h.1)) (record { fits = lt_trans q (lit< tt) })
-
 -- where a stretch is lent
 module _ {A : Type 0} (s : List ℕ) (c : List A) (n : part_end s ≤ length c) where
   pub stretch_long : length (cut (start_of s) (part_end s) c) ≡ length_of s

@@ -7,56 +7,32 @@ use mathlib.Core.Option.{Option, none, some}
 use Rattle.rules.specs.Outcome.{Lent}
 use Rattle.rules.specs.Pool.{stretch_of, pool_rooms, pool_bad}
 use Rattle.rules.proofs.Pools.{is_pilot}
-use Rattle.pool.specs.Pooled.{pooled_of, part_end}
-use Rattle.pool.specs.declared.Pooled.{Pooled}
-use Rattle.pool.specs.declared.Pooled.TheVariants as pooled
+use Rattle.std.specs.Prelude.{Result, Ok, Err}
+use Rattle.pool.specs.Pooled.{Pooled, pooled_of, part_end}
+use Rattle.pool.specs.declared.BadPool.{BadPool}
+use Rattle.pool.proofs.Answers.{was_refused, was_lent}
 use Rattle.pool.proofs.Parts.{part_inside, part_ordered}
-use Rattle.pilots.specs.Given.{parts_at, lending_of}
+use Rattle.pilots.specs.Given.{parts_at, lending_of, Inside, LentParts}
 use Rattle.pilots.specs.declared.lending.Parts.{Parts}
-use Rattle.pilots.specs.declared.lending.Lending.{Lending}
-use Rattle.pilots.specs.declared.lending.Lending.TheVariants as lending
 
 -- ---- what the test of the pool says
 
-pooled_place : Pooled → Option ℕ
-pooled_place pooled.Lent = none
-pooled_place (pooled.Refused x) = some x
-
-place_same : (o : Option ℕ) → pooled_place (pooled_of o) ≡ o
-unfolding pooled_place
-place_same none = refl
-place_same (some x) = refl
-
 module _ (ss : List (List (List ℕ))) (p : ℕ) (l : Lent) {rooms : List ℕ} (e : rooms ≡ pool_rooms l) {v : Pooled} (h : v ≡ pooled_of (pool_bad rooms ss p)) where
-  place-by : {w : Pooled} → v ≡ w → pool_bad (pool_rooms l) ss p ≡ pooled_place w
-  place-by g = ap (λ (r : List ℕ). pool_bad r ss p) (sym e) ∙ sym (place_same (pool_bad rooms ss p)) ∙ ap pooled_place (sym h ∙ g)
+  same_rooms : pool_bad (pool_rooms l) ss p ≡ pool_bad rooms ss p
+  same_rooms = ap (λ (r : List ℕ). pool_bad r ss p) (sym e)
 
-  pub lends_nothing : {x : ℕ} → v ≡ pooled.Refused x → lending.Refused x ≡ lending_of ss p l
-  unfolding pooled_place lending_of
-  lends_nothing g = rw (lending_of, place-by g) refl
-
-  pub no_place : v ≡ pooled.Lent → pool_bad (pool_rooms l) ss p ≡ none
-  unfolding pooled_place
-  no_place g = place-by g
-
-  pub lends_parts : {at : Parts} → v ≡ pooled.Lent → at ≡ parts_at ss p → lending.Lent at ≡ lending_of ss p l
+  pub lends_nothing : {x : BadPool} → v ≡ Err x → Err x ≡ lending_of ss p l
   unfolding lending_of
-  lends_parts g a = rw (lending_of, no_place g) (ap lending.Lent a)
+  lends_nothing g = rw (lending_of, same_rooms ∙ was_refused (pool_bad rooms ss p) (sym g ∙ h)) refl
+
+  pub no_place : v ≡ Ok tt → pool_bad (pool_rooms l) ss p ≡ none
+  no_place g = same_rooms ∙ was_lent (pool_bad rooms ss p) (sym g ∙ h)
+
+  pub lends_parts : {at : Parts} → v ≡ Ok tt → at ≡ parts_at ss p → Ok at ≡ lending_of ss p l
+  unfolding lending_of
+  lends_parts g a = rw (lending_of, no_place g) (ap Ok a)
 
 -- ---- what follows from it
-
--- every part lies in its column
-pub record Inside (at : Parts) (l : Lent) : Type 0 where
-  pub collected : (at.collected ≤ at.collected_end) × (at.collected_end ≤ l.collected)
-  pub collected_values : (at.collected ≤ at.collected_end) × (at.collected_end ≤ l.collected_values)
-  pub rows : (at.rows ≤ at.rows_end) × (at.rows_end ≤ l.rows)
-  pub bases : (at.rows ≤ at.rows_end) × (at.rows_end ≤ l.bases)
-  pub values : (at.rows ≤ at.rows_end) × (at.rows_end ≤ l.values)
-  pub entries : (at.entries ≤ at.entries_end) × (at.entries_end ≤ l.entries)
-  pub entry_values : (at.entries ≤ at.entries_end) × (at.entries_end ≤ l.entry_values)
-  pub plain : (at.plain ≤ at.plain_end) × (at.plain_end ≤ l.plain)
-  pub sources : (at.sources ≤ at.sources_end) × (at.sources_end ≤ l.sources)
-  pub source_floats : (at.sources ≤ at.sources_end) × (at.sources_end ≤ l.source_floats)
 
 pub fits : (ss : List (List (List ℕ))) (p : ℕ) (l : Lent) → pool_bad (pool_rooms l) ss p ≡ none → Inside (parts_at ss p) l
 fits ss p l free =
@@ -83,42 +59,29 @@ fits ss p l free =
       source_floats = (e, omega (arith, s));
     }
 
-lending_place : Lending → Option ℕ
-lending_place (lending.Refused x) = some x
-lending_place (lending.Lent at) = none
+module _ (ss : List (List (List ℕ))) (p : ℕ) (l : Lent) {v : Result Parts BadPool} (h : v ≡ lending_of ss p l) where
+  lending_by : (o : Option ℕ) → pool_bad (pool_rooms l) ss p ≡ o → lending_of ss p l ≡ elim o [ some x ↦ Err (record { place = x }) | none ↦ Ok (parts_at ss p) ]
+  unfolding lending_of
+  lending_by o e = rw (lending_of, e) refl
 
-lending_parts : Parts → Lending → Parts
-lending_parts d (lending.Refused x) = d
-lending_parts d (lending.Lent at) = at
+  pub refused-at : {x : BadPool} → v ≡ Err x → pool_bad (pool_rooms l) ss p ≡ some x.place
+  refused-at {x} g = by (pool_bad (pool_rooms l) ss p) refl
+    where
+      by : (o : Option ℕ) → pool_bad (pool_rooms l) ss p ≡ o → o ≡ some x.place
+      by none e = let z = sym g ∙ h ∙ lending_by none e in cc
+      by (some y) e = let z = sym g ∙ h ∙ lending_by (some y) e in cc
 
-module _ (ss : List (List (List ℕ))) (p : ℕ) (l : Lent) {v : Lending} (h : v ≡ lending_of ss p l) where
-  place_of : (o : Option ℕ) → pool_bad (pool_rooms l) ss p ≡ o → lending_place (lending_of ss p l) ≡ o
-  unfolding lending_place lending_of
-  place_of none e = rw (lending_of, e) refl
-  place_of (some x) e = rw (lending_of, e) refl
-
-  same_place : {w : Lending} → v ≡ w → pool_bad (pool_rooms l) ss p ≡ lending_place w
-  same_place g = sym (place_of (pool_bad (pool_rooms l) ss p) refl) ∙ ap lending_place (sym h ∙ g)
-
-  pub refused-at : {x : ℕ} → v ≡ lending.Refused x → pool_bad (pool_rooms l) ss p ≡ some x
-  unfolding lending_place
-  refused-at g = same_place g
-
-  module _ {at : Parts} (g : v ≡ lending.Lent at) where
+  module _ {at : Parts} (g : v ≡ Ok at) where
     pub free : pool_bad (pool_rooms l) ss p ≡ none
-    unfolding lending_place
-    free = same_place g
-
-    given : lending_of ss p l ≡ lending.Lent (parts_at ss p)
-    unfolding lending_of
-    given = rw (lending_of, free) refl
+    free = by (pool_bad (pool_rooms l) ss p) refl
+      where
+        by : (o : Option ℕ) → pool_bad (pool_rooms l) ss p ≡ o → o ≡ none
+        by none e = refl
+        by (some y) e = let z = sym g ∙ h ∙ lending_by (some y) e in cc
 
     pub lies_at : at ≡ parts_at ss p
-    unfolding lending_parts
-    lies_at = ap (lending_parts at) (sym g ∙ h ∙ given)
+    lies_at = let z = sym g ∙ h ∙ lending_by none free in cc
 
-    pub seated : p < 16
-    seated = is_pilot (pool_rooms l) ss p free
-
-    pub room : Inside at l
-    room = subst (λ (a : Parts). Inside a l) (sym lies_at) (fits ss p l free)
+-- what is lent lies in its columns, and the number is a pilot's
+pub lent-parts : (ss : List (List (List ℕ))) (p : ℕ) (l : Lent) → pool_bad (pool_rooms l) ss p ≡ none → {at : Parts} → at ≡ parts_at ss p → LentParts p l at
+lent-parts ss p l n a = record { pilot = is_pilot (pool_rooms l) ss p n; inside = subst (λ (x : Parts). Inside x l) (sym a) (fits ss p l n) }

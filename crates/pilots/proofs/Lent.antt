@@ -12,8 +12,7 @@ use Rattle.rules.specs.Outcome.{Lent, Rooms, Done, run, rooms_of}
 use Rattle.rules.specs.Pool.{stretch_of, lent_to, pool_rooms, pool_bad}
 use Rattle.rules.specs.Sheet.{book_of, fit_of}
 use Rattle.rules.specs.declared.Refusal.TheVariants.{Shape}
-use Rattle.shape.specs.Shaped.{shaped_of, SoundBy}
-use Rattle.shape.specs.declared.Shaped.{Shaped}
+use Rattle.shape.specs.Shaped.{Shaped, shaped_of, SoundBy}
 use Rattle.promises.specs.Result.{MeetsFor}
 use Rattle.promises.specs.Pilots.{pilot_outcome, PilotGiven, PilotMeets}
 use Rattle.run.specs.Filled.{Columns, lent_of, decided}
@@ -22,12 +21,12 @@ use Rattle.calculate.proofs.Clearing.{Even}
 use Rattle.calculate.specs.declared.Outcome.{Outcome}
 use Rattle.files.specs.Read.{pairs_read}
 use Rattle.files.proofs.Judged.{sound_pairs, sound_files}
-use Rattle.pilots.specs.Given.{pool_of, told_of, parts_at, lending_of, PoolTold}
+use Rattle.pilots.specs.Given.{pool_of, told_of, parts_at, lending_of, Inside, PoolTold}
 use Rattle.pilots.specs.declared.lending.Parts.{Parts}
-use Rattle.pilots.specs.declared.lending.Lending.{Lending}
-use Rattle.pilots.specs.declared.lending.Lending.TheVariants as lending
+use Rattle.std.specs.Prelude.{Result, Ok, Err}
+use Rattle.pool.specs.declared.BadPool.{BadPool}
 use Rattle.pilots.proofs.Backed.{cut, backed, stretch_long, stretch_same, stretch_within}
-use Rattle.pilots.proofs.Lends.{Inside, fits, refused-at, free, lies_at}
+use Rattle.pilots.proofs.Lends.{fits, refused-at, free, lies_at}
 
 -- ---- what is decided on two files is their outcome
 
@@ -63,8 +62,8 @@ not-both e = let z : ◌≡◌ {A = ℕ} 0 1 = cc in omega arith
 counts_same : {a b c d e : ℕ} → a ≡ 0 → b ≡ 0 → c ≡ 0 → d ≡ 0 → e ≡ 0 → ◌≡◌ {A = Counts} (record { collected = a; rows = b; entries = c; plain = d; sources = e }) (record { collected = 0; rows = 0; entries = 0; plain = 0; sources = 0 })
 counts_same p q r s t = rw (p, q, r, s, t) refl
 
-pub refused-meets : (k f : List ℕ) (ss : List (List (List ℕ))) (p : ℕ) (S : List (List (List ℕ))) (c : Columns) {v : Lending} → v ≡ lending_of ss p (lent_of c) → {x : ℕ} → v ≡ lending.Refused x
-    → {r : Outcome} → PoolTold x r → PilotMeets k f ss p (pool_of S c) (pool_of S c) (told_of r)
+pub refused-meets : (k f : List ℕ) (ss : List (List (List ℕ))) (p : ℕ) (S : List (List (List ℕ))) (c : Columns) {v : Result Parts BadPool} → v ≡ lending_of ss p (lent_of c) → {x : BadPool} → v ≡ Err x
+    → {r : Outcome} → PoolTold x.place r → PilotMeets k f ss p (pool_of S c) (pool_of S c) (told_of r)
 refused-meets k f ss p S c h g t =
     record {
       refused =
@@ -179,7 +178,7 @@ module _ (ss : List (List (List ℕ))) (p : ℕ) (c : Columns) (none-bad : pool_
         record { refused = λ x g. absurd (not-both (sym g ∙ none-bad)); given = λ g. placed (pilot_outcome k f ss p) o }
 
 -- the same of parts as they are lent
-pub given-meets : (k f : List ℕ) (ss : List (List (List ℕ))) (p : ℕ) (S : List (List (List ℕ))) (c : Columns) {w : Lending} → w ≡ lending_of ss p (lent_of c) → (at : Parts) → w ≡ lending.Lent at
+pub given-meets : (k f : List ℕ) (ss : List (List (List ℕ))) (p : ℕ) (S : List (List (List ℕ))) (c : Columns) {w : Result Parts BadPool} → w ≡ lending_of ss p (lent_of c) → (at : Parts) → w ≡ Ok at
     → {pairs : List (List ℕ)} → pairs ≡ pairs_read k ++ pairs_read f → {v : Shaped} → v ≡ shaped_of (bad_files k f) → (ys : Columns) (st : List (List ℕ)) (r : Outcome) → Even (cuts at c) ys
     → MeetsFor (decided v (book_of k pairs) (fit_of f pairs) (rooms_of (lent_of (cuts at c)))) (lent_of (cuts at c)) (result_of r st ys)
     → PilotMeets k f ss p (pool_of S c) (pool_of (set S p st) (backs at ys c)) (told_of r)

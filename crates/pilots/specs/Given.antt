@@ -1,5 +1,5 @@
 -- A pilot's call: the pool that is lent, where its rows lie, and what is told of it. Definitions only.
-use Rattle.std.specs.Prelude.{ℕ, ◌≡◌, List}
+use Rattle.std.specs.Prelude.{ℕ, ◌≡◌, ◌≤◌, ◌<◌, List, Result, Ok, Err}
 use Rattle.std.proofs.Math.Option.{none, some}
 use Rattle.rules.specs.Outcome.{Lent}
 use Rattle.rules.specs.Pool.{pool_number, pool_rooms, pool_bad, stretch_of}
@@ -7,9 +7,8 @@ use Rattle.promises.specs.Pilots.{Pool, Told}
 use Rattle.run.specs.Filled.{Columns}
 use Rattle.calculate.specs.declared.Outcome.{Outcome}
 use Rattle.pool.specs.Pooled.{start_of, part_end}
+use Rattle.pool.specs.declared.BadPool.{BadPool}
 use Rattle.pilots.specs.declared.lending.Lengths.{Lengths}
-use Rattle.pilots.specs.declared.lending.Lending.{Lending}
-use Rattle.pilots.specs.declared.lending.Lending.TheVariants as lending
 use Rattle.pilots.specs.declared.lending.Parts.{Parts}
 
 -- every pilot's states and the ten columns
@@ -69,8 +68,26 @@ parts_at ss p =
     }
 
 -- what is lent to pilot p of a pool with columns so long: POOL's place, or where its rows lie
-unfoldable pub lending_of : List (List (List ℕ)) → ℕ → Lent → Lending
-lending_of ss p l = elim (pool_bad (pool_rooms l) ss p) [ some x ↦ lending.Refused x | none ↦ lending.Lent (parts_at ss p) ]
+unfoldable pub lending_of : List (List (List ℕ)) → ℕ → Lent → Result Parts BadPool
+lending_of ss p l = elim (pool_bad (pool_rooms l) ss p) [ some x ↦ Err (record { place = x }) | none ↦ Ok (parts_at ss p) ]
+
+-- every part lies in its column
+pub record Inside (at : Parts) (l : Lent) : Type 0 where
+  pub collected : (at.collected ≤ at.collected_end) × (at.collected_end ≤ l.collected)
+  pub collected_values : (at.collected ≤ at.collected_end) × (at.collected_end ≤ l.collected_values)
+  pub rows : (at.rows ≤ at.rows_end) × (at.rows_end ≤ l.rows)
+  pub bases : (at.rows ≤ at.rows_end) × (at.rows_end ≤ l.bases)
+  pub values : (at.rows ≤ at.rows_end) × (at.rows_end ≤ l.values)
+  pub entries : (at.entries ≤ at.entries_end) × (at.entries_end ≤ l.entries)
+  pub entry_values : (at.entries ≤ at.entries_end) × (at.entries_end ≤ l.entry_values)
+  pub plain : (at.plain ≤ at.plain_end) × (at.plain_end ≤ l.plain)
+  pub sources : (at.sources ≤ at.sources_end) × (at.sources_end ≤ l.sources)
+  pub source_floats : (at.sources ≤ at.sources_end) × (at.sources_end ≤ l.source_floats)
+
+-- what is lent lies in its columns, and the number is a pilot's
+pub record LentParts (p : ℕ) (l : Lent) (at : Parts) : Type 0 where
+  pub pilot : p < 16
+  pub inside : Inside at l
 
 -- "12 POOL", with this place and no rows
 pub record PoolTold (x : ℕ) (r : Outcome) : Type 0 where

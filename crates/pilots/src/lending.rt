@@ -1,11 +1,11 @@
 // What a pool has of each list, and where a pilot's rows lie in it.
-ghost use Rattle.std.specs.Prelude.{◌≡◌, ◌<◌};
+ghost use Rattle.std.specs.Prelude.{◌≡◌, ◌<◌, IfOk};
 ghost use Rattle.rules.specs.Pool.{pool_rooms};
-ghost use Rattle.pilots.specs.Given.{lengths, parts_at, lending_of, PoolTold};
+ghost use Rattle.pilots.specs.Given.{lengths, parts_at, lending_of, LentParts, PoolTold};
 
 use calculate::Outcome;
 use columns::{PoolRooms, PoolStretches};
-use pool::{Pooled, lesser, part_end, part_start, pool};
+use pool::{BadPool, part_end, part_start, pool};
 
 // How long the pool's columns are.
 #[derive(Clone, Copy)]
@@ -37,23 +37,16 @@ pub struct Parts {
     pub sources_end: usize,
 }
 
-// What is lent to a pilot's call: POOL's place, or its parts.
-#[derive(Clone, Copy)]
-pub enum Lending {
-    Refused(u32),
-    Lent(Parts),
-}
-
 // A list's room in the pool is its shortest column.
 fn rooms_of(n: Lengths) -> PoolRooms
     ensures defined { result ≡ pool_rooms (lengths n) }
 {
     [
-        lesser(n.collected, n.collected_values),
-        lesser(n.rows, lesser(n.bases, n.values)),
-        lesser(n.entries, n.entry_values),
+        n.collected.min(n.collected_values),
+        n.rows.min(n.bases.min(n.values)),
+        n.entries.min(n.entry_values),
         n.plain,
-        lesser(n.sources, n.source_values),
+        n.sources.min(n.source_values),
     ]
 }
 
@@ -77,18 +70,12 @@ fn parts_of(stretches: &PoolStretches, p: usize) -> Parts
 }
 
 // POOL with its place, or where the pilot's rows lie.
-pub fn lend(stretches: &PoolStretches, n: Lengths, pilot: u32) -> Lending
+pub fn lend(stretches: &PoolStretches, n: Lengths, pilot: u32) -> Result<Parts, BadPool>
     ensures defined { result ≡ lending_of stretches.now pilot (lengths n) }
+    ensures inside { IfOk result (λ at. LentParts pilot (lengths n) at) }
 {
-    let rooms = rooms_of(n);
-    let lent = pool(stretches, &rooms, pilot);
-    match lent {
-        Pooled::Refused(place) => Lending::Refused(place),
-        Pooled::Lent => {
-            let parts = parts_of(stretches, pilot as usize);
-            Lending::Lent(parts)
-        }
-    }
+    pool(stretches, &rooms_of(n), pilot)?;
+    Ok(parts_of(stretches, pilot as usize))
 }
 
 // 12 POOL with its place: no list has a row.

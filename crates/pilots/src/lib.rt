@@ -11,7 +11,7 @@ use columns::{
     SourceRow,
 };
 use files::{files_shape, pairs_in};
-use lending::{Lending, Lengths, lend, pool_answer};
+use lending::{Lengths, lend, pool_answer};
 
 // A pilot's lists, states and answer, whatever the bytes, the stretches and the pool: nothing is required.
 pub fn dogma_calculate_pilot(
@@ -48,42 +48,30 @@ pub fn dogma_calculate_pilot(
         sources: sources.len(),
         source_values: source_values.len(),
     };
-    let lent = lend(stretches, lengths, pilot);
-    match lent {
-        Lending::Refused(place) => pool_answer(place),
-        Lending::Lent(at) => {
-            let p = pilot as usize;
-            let a1 = at.collected;
-            let e1 = at.collected_end;
-            let a2 = at.rows;
-            let e2 = at.rows_end;
-            let a3 = at.entries;
-            let e3 = at.entries_end;
-            let a4 = at.plain;
-            let e4 = at.plain_end;
-            let a5 = at.sources;
-            let e5 = at.sources_end;
-            let pairs = pairs_in(book, fit);
-            let verdict = files_shape(book, fit, &pairs);
-            calculated(
-                &mut states[p],
-                &mut collected[a1..e1],
-                &mut collected_values[a1..e1],
-                &mut rows[a2..e2],
-                &mut bases[a2..e2],
-                &mut values[a2..e2],
-                &mut entries[a3..e3],
-                &mut entry_values[a3..e3],
-                &mut plain[a4..e4],
-                &mut sources[a5..e5],
-                &mut source_values[a5..e5],
-                book,
-                fit,
-                &pairs,
-                verdict,
-            )
-        }
-    }
+    let at = match lend(stretches, lengths, pilot) {
+        Ok(at) => at,
+        Err(bad) => return pool_answer(bad.place),
+    };
+    let p = pilot as usize;
+    let pairs = pairs_in(book, fit);
+    let verdict = files_shape(book, fit, &pairs);
+    calculated(
+        &mut states[p],
+        &mut collected[at.collected..at.collected_end],
+        &mut collected_values[at.collected..at.collected_end],
+        &mut rows[at.rows..at.rows_end],
+        &mut bases[at.rows..at.rows_end],
+        &mut values[at.rows..at.rows_end],
+        &mut entries[at.entries..at.entries_end],
+        &mut entry_values[at.entries..at.entries_end],
+        &mut plain[at.plain..at.plain_end],
+        &mut sources[at.sources..at.sources_end],
+        &mut source_values[at.sources..at.sources_end],
+        book,
+        fit,
+        &pairs,
+        verdict,
+    )
 }
 
 pub mod lending;

@@ -1,12 +1,12 @@
 -- A loop over the numbers below n that stops at the first that passes: what is left decides.
-use Prim.Native.Nat.{ℕ, ◌+◌, ◌-◌, ◌≤◌, ◌<◌}
+use Prim.Native.Nat.{ℕ, zero, suc, ◌+◌, ◌-◌, ◌≤◌, ◌<◌}
 use native.Mathlib.Omega.{arith}
 use mathlib.Core.Path.{◌≡◌, refl, sym, ap, ◌∙◌}
-use mathlib.Core.Bool.{Bool, true, false}
-use mathlib.Core.List.{List}
-use mathlib.Core.Option.{Option, none, some}
+use mathlib.Core.Bool.{Bool, true, false, ◌||◌}
+use mathlib.Core.Option.{none, some}
 use Rattle.laws.specs.Lists.{some?, or_else, first, from}
-use Rattle.laws.proofs.First.{there?, first_there}
+use Rattle.std.specs.List.{list_any, range_with_len}
+use native.Mathlib.Numerals.{add-one}
 use Rattle.laws.proofs.From.{from_step, from_end}
 
 module _ (t : ℕ → Bool) (n : ℕ) where
@@ -29,11 +29,10 @@ module _ {t : ℕ → Bool} {n i : ℕ} (at : Failing t n i) where
     pub passing : r ≡ true → first t (from 0 n) ≡ some i
     passing f = turn ∙ ap (λ (b : Bool). or_else b i (first t (from (i + 1) (n - (i + 1))))) f
 
-    pub some_passing : r ≡ true → true ≡ some? t (from 0 n)
-    some_passing f = sym (sym (first_there t (from 0 n)) ∙ ap there? (passing f))
-
   pub all_failing : n ≤ i → first t (from 0 n) ≡ none
   all_failing h = at.left ∙ ap (first t) (from_end i n h)
 
-  pub none_passing : n ≤ i → false ≡ some? t (from 0 n)
-  none_passing h = sym (sym (first_there t (from 0 n)) ∙ ap there? (all_failing h))
+-- `any` over n numbers from a on
+pub any_below : (t : ℕ → Bool) (a n : ℕ) → list_any t (range_with_len a n) ≡ some? t (from a n)
+any_below t a zero = refl
+any_below t a (suc n) = ap (λ (b : Bool). t a || b) (any_below t (a + 1) n ∙ ap (λ (k : ℕ). some? t (from k n)) (add-one a))

@@ -1,8 +1,8 @@
 -- A pilot's rows as they are lent: they lie in every column of their list, and come back in their place.
 use Prim.Native.Nat.{ℕ, zero, suc, ◌+◌, ◌-◌, ◌≤◌, ◌<◌}
 use native.Mathlib.Omega.{arith}
-use mathlib.Core.Path.{◌≡◌, refl, sym, ap, ◌∙◌}
-use mathlib.Core.Bool.{Bool, true, false, cond}
+use mathlib.Core.Path.{◌≡◌, refl, ◌∙◌}
+use mathlib.Core.Bool.{true, false}
 use mathlib.Core.List.{List, ◌++◌}
 use mathlib.Core.Logic.{◌⊎◌, inl, inr}
 use mathlib.Core.Option.{none}
@@ -12,7 +12,7 @@ use borrow.Author.Tests.{eqb-true, eqb-false}
 use Rattle.laws.specs.Columns.{within}
 use Rattle.laws.proofs.Bools.{true_or_false}
 use Rattle.laws.proofs.Within.{lent-within, lent_nothing}
-use Rattle.rules.specs.Pool.{first_of, length_of, first_at, length_at, stretch_of, pool_bad}
+use Rattle.rules.specs.Pool.{first_of, length_of, length_at, stretch_of, pool_bad}
 use Rattle.rules.proofs.Pools.{lies_inside, is_pilot}
 use Rattle.pool.specs.Pooled.{start_of, part_end}
 

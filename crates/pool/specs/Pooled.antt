@@ -1,15 +1,18 @@
 -- What the test of a pool answers, and where a pilot's rows are lent. Definitions only.
-use Rattle.std.specs.Prelude.{ℕ, Bool, ◌||◌, cond, List, [], eqb, get_or}
+use Rattle.std.specs.Prelude.{ℕ, Bool, ◌||◌, cond, List, [], eqb, get_or, Result, Ok, Err}
 use Rattle.std.proofs.Math.Option.{Option, none, some}
 use Rattle.laws.specs.Lists.{some?, from}
 use Rattle.rules.specs.Pool.{first_of, length_of, end_of, leaves, overlaps}
-use Rattle.pool.specs.declared.Pooled.{Pooled}
-use Rattle.pool.specs.declared.Pooled.TheVariants.{Lent, Refused}
+use Rattle.pool.specs.declared.BadPool.{BadPool}
+
+-- what the code answers
+abbrev pub Pooled : Type 0
+Pooled = Result (Unit {0}) BadPool
 
 -- POOL with its place, or none
 abbrev pub pooled_of : Option ℕ → Pooled
-pooled_of none = Lent
-pooled_of (some p) = Refused p
+pooled_of none = Ok tt
+pooled_of (some p) = Err (record { place = p })
 
 -- an empty stretch's first is not read: it is lent from 0
 abbrev pub start_of : List ℕ → ℕ

@@ -1,5 +1,6 @@
 -- Calculations in a world and in one that differs in room alone, where all that is noted and all that is read is the same unless
 -- refused: each gives the same unless refused.
+use Rattle.std.specs.Prelude.{None, Some}
 use Prim.Native.Nat.{ℕ, zero, suc, ◌-◌, min}
 use mathlib.Core.Path.{refl}
 use mathlib.Core.Bool.{true, false, ◌&&◌, ◌||◌}
@@ -21,8 +22,7 @@ use Rattle.rules.specs.Outcome.{valued}
 use Rattle.rules.specs.declared.Ask.{Ask}
 use Rattle.rules.specs.declared.Effect.{Effect}
 use Rattle.rules.specs.declared.EffectOperator.{EffectOperator}
-use Rattle.rules.specs.declared.OptionalId.{OptionalId}
-use Rattle.rules.specs.declared.OptionalId.TheVariants.{Absent, Given}
+use Rattle.rules.specs.Ids.{OptionalId}
 use Rattle.rules.specs.declared.Origin.{Origin}
 use Rattle.rules.specs.declared.Origin.TheVariants as origin
 use Rattle.rules.specs.declared.Refusal.{Refusal}
@@ -88,8 +88,8 @@ module _ (short : ℕ → Refusal) (w : World) (n : ℕ) (noting : Noting short 
     module _ (i : ℕ) (row : Row) where
       resisted_so : (a : OptionalId) (r : Read) → Unless short (resisted w i row read a r) (resisted w' i row seen a r)
       unfolding resisted
-      resisted_so Absent r = the_same refl
-      resisted_so (Given a) r = read_so 0 a r.mem _
+      resisted_so None r = the_same refl
+      resisted_so (Some a) r = read_so 0 a r.mem _
 
       gather_from_so : (e : Effect) (s : Origin) (g : Gathered) → Unless short (gather_from w i row read e s g) (gather_from w' i row seen e s g)
       unfolding gather_from

@@ -7,7 +7,7 @@ use mathlib.Core.List.{List, [], ◌∷◌}
 use lib.ListN.{set}
 use Rattle.rules.specs.Answer.{refused, answer_of}
 use Rattle.rules.specs.Outcome.{Lent, outcome}
-use Rattle.rules.specs.declared.Answer.TheVariants.{Done}
+use Rattle.rules.specs.Answer.{Done}
 use Rattle.rules.specs.declared.Refusal.TheVariants.{Room, Depth}
 use Rattle.rules.proofs.Everything.{everything}
 use Rattle.rules.proofs.Marked.{lent, case_l}

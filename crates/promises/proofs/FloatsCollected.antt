@@ -1,4 +1,5 @@
 -- What is read from a sound sheet: every float of a collected effect and of a row is finite, and every id is one of 32 bits.
+use Rattle.std.specs.Prelude.{None}
 use Prim.Native.Nat.{ℕ, suc, ◌-◌, ◌^◌}
 use native.Mathlib.Omega.{arith}
 use mathlib.Core.Path.{◌≡◌, refl, sym, subst, ◌∙◌}
@@ -39,7 +40,6 @@ use Rattle.rules.specs.declared.EffectOperator.{EffectOperator}
 use Rattle.rules.specs.declared.Item.{Item}
 use Rattle.rules.specs.declared.Modifier.{Modifier}
 use Rattle.rules.specs.declared.Modifier.TheVariants.{LocationRequiredSkillModifier, LocationGroupModifier, LocationModifier, OwnerRequiredSkillModifier, ItemModifier}
-use Rattle.rules.specs.declared.OptionalId.TheVariants.{Absent}
 use Rattle.rules.specs.declared.Origin.TheVariants as origin
 use Rattle.rules.specs.declared.Pass2Effect.{Pass2Effect}
 use Rattle.rules.specs.declared.ProjectedBuff.{ProjectedBuff}
@@ -155,7 +155,7 @@ module _ (k : Book) (f : Fit) (fine : Fine k f) where
             source_quantity = o.quantity;
             target = target;
             target_attribute_id = m.modified_attribute_id;
-            resistance = Absent;
+            resistance = None;
           }) ∷ []
 
       aimed : Modifier → EffectOperator → List Move

@@ -1,4 +1,5 @@
 -- Float steps of finite values: what a step gives is finite, or it is refused. So are weights.
+use Rattle.std.specs.Prelude.{None, Some}
 use Prim.Native.Nat.{ℕ, zero, suc, ◌*◌, ◌/◌, ◌%◌}
 use mathlib.Core.Path.{◌≡◌, refl, subst}
 use mathlib.Core.Bool.{Bool, true, false, cond}
@@ -15,8 +16,7 @@ use Rattle.rules.specs.Operate.{Stack, Copy, Values, simplified, greatest, least
 use Rattle.rules.specs.declared.EffectOperator.{EffectOperator}
 use Rattle.rules.specs.declared.EffectOperator.TheVariants.{PreAssign, PreMul, PreDiv, ModAdd, ModSub, PostMul, PostDiv, PostPercent, PostAssign}
 use Rattle.rules.specs.declared.Refusal.{Refusal}
-use Rattle.rules.specs.declared.Step.{Step}
-use Rattle.rules.specs.declared.Step.TheVariants.{Finite, NotFinite}
+use Rattle.rules.specs.Number.{Step}
 
 -- ---- what is given, unless refused
 
@@ -42,8 +42,8 @@ given {A = A} {P = P} {a = a} g e = by (subst (Gives P) e g)
 -- ---- steps
 
 abbrev pub FineStep : Step → Type 0
-FineStep (Finite x) = finite x ≡ true
-FineStep NotFinite = Unit {0}
+FineStep (Some x) = finite x ≡ true
+FineStep None = Unit {0}
 
 step_fine : (x : Float) → FineStep (step x)
 unfolding step finite
@@ -53,13 +53,13 @@ step_fine (fin s m e) = refl
 
 bind_fine : (s : Step) (g : Float → Step) → FineStep s → ((x : Float) → finite x ≡ true → FineStep (g x)) → FineStep (number.◌>>=◌ s g)
 unfolding number.◌>>=◌
-bind_fine (Finite x) g h k = k x h
-bind_fine NotFinite g h k = tt
+bind_fine (Some x) g h k = k x h
+bind_fine None g h k = tt
 
 pub number_fine : (o : ℕ) (s : Step) → FineStep s → Gives (λ (x : Float). finite x ≡ true) (number_at o s)
 unfolding number_at
-number_fine o (Finite x) h = gives h
-number_fine o NotFinite h = stops
+number_fine o (Some x) h = gives h
+number_fine o None h = stops
 
 pub times_fine : (x y : Float) → FineStep (times x y)
 times_fine x y = step_fine _
@@ -100,7 +100,7 @@ power_from_fine (suc d) r x zero h = h
 power_from_fine (suc d) r x (suc n) h = bind_fine (times_if (eqb (suc n % 2) 1) r x) _ (times_if_fine (eqb (suc n % 2) 1) r x h) (λ r' k. by r' k (λ x'. power_from_fine d r' x' (suc n / 2) k) (suc n / 2))
   where
     rest : Float → ℕ → Step
-    rest r' m = elim m [ zero ↦ Finite r' | suc k ↦ number.◌>>=◌ (times x x) λ x'. power_from d r' x' (suc n / 2) ]
+    rest r' m = elim m [ zero ↦ Some r' | suc k ↦ number.◌>>=◌ (times x x) λ x'. power_from d r' x' (suc n / 2) ]
 
     by : (r' : Float) → finite r' ≡ true → ((x' : Float) → FineStep (power_from d r' x' (suc n / 2))) → (m : ℕ) → FineStep (rest r' m)
     by r' k h zero = k
@@ -108,8 +108,8 @@ power_from_fine (suc d) r x (suc n) h = bind_fine (times_if (eqb (suc n % 2) 1) 
 
 finite_or_lem : (s : Step) → FineStep s → finite (finite_or zero_f s) ≡ true
 unfolding finite
-finite_or_lem (Finite x) h = h
-finite_or_lem NotFinite h = refl
+finite_or_lem (Some x) h = h
+finite_or_lem None h = refl
 
 pub weight_fine : (p : ℕ) → finite (weight p) ≡ true
 unfolding weight power finite

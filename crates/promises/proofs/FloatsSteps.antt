@@ -1,5 +1,6 @@
 -- A calculation where all that is read is finite: what it gives and leaves in the memory is finite, and what was valued stays so.
 -- Nothing is said of loops here: they are let in.
+use Rattle.std.specs.Prelude.{None, Some}
 use Prim.Native.Nat.{ℕ, zero, suc, ◌-◌, ◌<◌, min}
 use native.Mathlib.Omega.{arith}
 use mathlib.Core.Path.{◌≡◌, refl, ap, ◌∙◌}
@@ -26,8 +27,7 @@ use Rattle.rules.specs.Operate.{Copy, Values, simplified, has_penalty, sorted, a
 use Rattle.rules.specs.Value.{World, Mem, Read, Reader, Gathered, state_of, to_source, with_penalty, no_source, own_sources, nothing, with_stack, with_copy, note, copies, penalised, unpenalised, contribute, resisted, gather_from, gather, marked, marked_by, operate, clamped, at_least, at_most, set_value, calculate}
 use Rattle.rules.specs.declared.Effect.{Effect}
 use Rattle.rules.specs.declared.EffectOperator.{EffectOperator}
-use Rattle.rules.specs.declared.OptionalId.{OptionalId}
-use Rattle.rules.specs.declared.OptionalId.TheVariants.{Absent, Given}
+use Rattle.rules.specs.Ids.{OptionalId}
 use Rattle.rules.specs.declared.Origin.{Origin}
 use Rattle.rules.specs.declared.Origin.TheVariants as origin
 use Rattle.rules.specs.declared.Refusal.TheVariants.{Room}
@@ -140,8 +140,8 @@ module _ (vs : List (Option Float)) where
     module _ (read : Reader) (reading : (o : ℕ) (a : ℤ) (m : Mem) → Whole vs m → Gives (WholeRead vs) (read o a m)) where
       resisted_fine : (a : OptionalId) (r : Read) → WholeRead vs r → Gives (WholeRead vs) (resisted w i row read a r)
       unfolding resisted
-      resisted_fine Absent r k = gives k
-      resisted_fine (Given a) r k = on _ (reading 0 a r.mem k.1) (λ q p. on _ (number_fine row.object (times r.value q.value) (times_fine r.value q.value)) (λ v h. gives (h, p.1)))
+      resisted_fine None r k = gives k
+      resisted_fine (Some a) r k = on _ (reading 0 a r.mem k.1) (λ q p. on _ (number_fine row.object (times r.value q.value) (times_fine r.value q.value)) (λ v h. gives (h, p.1)))
 
       gather_from_fine : (e : Effect) (s : Origin) (g : Gathered) → finite (origin_value s) ≡ true → WholeGathered vs g → Gives (WholeGathered vs) (gather_from w i row read e s g)
       unfolding gather_from

@@ -20,7 +20,7 @@ use Rattle.rules.specs.Dispatch.{Row}
 use Rattle.rules.specs.Fresh.{fresh}
 use Rattle.rules.specs.Outcome.{Lent, Rooms, Done, rooms_of, rows_in, world_of, run, outcome}
 use Rattle.rules.specs.Sheet.{Book, Fit}
-use Rattle.rules.specs.declared.Answer.TheVariants.{Refused}
+use Rattle.rules.specs.Answer.{Refused}
 use Rattle.rules.specs.declared.Refusal.{Refusal}
 use Rattle.rules.specs.declared.Refusal.TheVariants.{Shape, Func, Domain, Category, Operation, Other, Room, Number, Depth}
 use Rattle.promises.specs.Given.{cell, SameResult, SameValues}

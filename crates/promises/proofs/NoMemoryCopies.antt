@@ -1,4 +1,5 @@
 -- What an operator makes of its values does not turn on where their source rows stand.
+use Rattle.std.specs.Prelude.{Some}
 use Prim.Native.Nat.{ℕ, zero, suc}
 use mathlib.Core.Path.{◌≡◌, refl, sym, ap, ap₂, ◌∙◌}
 use mathlib.Core.Bool.{Bool, true, false, cond}
@@ -9,8 +10,7 @@ use Rattle.laws.proofs.Maps.{map_snoc}
 use Rattle.rules.specs.Number.{plus, times, weight, ◌>>=◌}
 use Rattle.rules.specs.Operate.{Stack, Copy, Values, place, sorted, weighed, factored, multiplied, added, assigned, applied}
 use Rattle.rules.specs.Value.{with_stack, with_copy, nothing}
-use Rattle.rules.specs.declared.Step.{Step}
-use Rattle.rules.specs.declared.Step.TheVariants.{Finite}
+use Rattle.rules.specs.Number.{Step}
 use Rattle.rules.specs.declared.EffectOperator.{EffectOperator}
 use Rattle.rules.specs.declared.EffectOperator.TheVariants.{PreAssign, PreMul, PreDiv, ModAdd, ModSub, PostMul, PostDiv, PostPercent, PostAssign}
 
@@ -28,7 +28,7 @@ sort_f [] = []
 sort_f (x ∷ r) = put_f x (sort_f r)
 
 weigh_f : ℕ → List Float → Float → Step
-weigh_f p [] v = Finite v
+weigh_f p [] v = Some v
 weigh_f p (x ∷ r) v = times x (weight p) >>= λ y. plus one_f y >>= λ z. times v z >>= λ v'. weigh_f (suc p) r v'
 
 place_strengths : (x : Copy) (l : List Copy) → strengths (place x l) ≡ put_f x.value (strengths l)
@@ -74,7 +74,7 @@ factored_same v g h s =
 
 pub applied_same : (high : Bool) (op : EffectOperator) (v : Float) (g h : Values) → Same g h → applied high op v g ≡ applied high op v h
 unfolding applied
-applied_same high PreAssign v g h s = ap (λ (l : List Stack). Finite (assigned high v l)) s.unpenalized
+applied_same high PreAssign v g h s = ap (λ (l : List Stack). Some (assigned high v l)) s.unpenalized
 applied_same high PreMul v g h s = factored_same v g h s
 applied_same high PreDiv v g h s = factored_same v g h s
 applied_same high ModAdd v g h s = ap (added v) s.unpenalized
@@ -82,7 +82,7 @@ applied_same high ModSub v g h s = ap (added v) s.unpenalized
 applied_same high PostMul v g h s = factored_same v g h s
 applied_same high PostDiv v g h s = factored_same v g h s
 applied_same high PostPercent v g h s = factored_same v g h s
-applied_same high PostAssign v g h s = ap (λ (l : List Stack). Finite (assigned high v l)) s.unpenalized
+applied_same high PostAssign v g h s = ap (λ (l : List Stack). Some (assigned high v l)) s.unpenalized
 
 -- one value more
 pub stack_same : (x : Float) (n : ℕ) (g h : Values) → Same g h → Same (with_stack x n g) (with_stack x n h)

@@ -1,12 +1,12 @@
 -- Two calculations side by side: where the first is done, the second is done too, and what they give is related.
+use Rattle.std.specs.Prelude.{None, Some}
 use mathlib.Core.Path.{◌≡◌, refl, subst}
 use Prim.Native.Nat.{ℕ}
 use lib.Ieee.{Float}
 use Rattle.rules.specs.Answer.{Res, ok, refused, ◌>>=◌}
 use Rattle.rules.specs.Number.{number_at}
 use Rattle.rules.specs.declared.Refusal.{Refusal}
-use Rattle.rules.specs.declared.Step.{Step}
-use Rattle.rules.specs.declared.Step.TheVariants.{Finite, NotFinite}
+use Rattle.rules.specs.Number.{Step}
 
 pub data Goes {A B : Type 0} (R : A → B → Type 0) : Res A → Res B → Type 0 where
   stops : {x : Refusal} {y : Res B} → Goes R (refused x) y
@@ -61,5 +61,5 @@ unfolding number_at
 number_goes o s t e = subst (λ (u : Step). Goes (λ (x y : Float). x ≡ y) (number_at o s) (number_at o u)) e (same s)
   where
     same : (s : Step) → Goes (λ (x y : Float). x ≡ y) (number_at o s) (number_at o s)
-    same (Finite x) = goes refl
-    same NotFinite = stops
+    same (Some x) = goes refl
+    same None = stops

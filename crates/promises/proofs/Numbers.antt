@@ -1,4 +1,5 @@
 -- An entry's collection number: in a row the numbers ascend strictly, and each is that of its effect; of the definition's rows, and of every result that meets it.
+use Rattle.std.specs.Prelude.{None, Some}
 use Prim.Native.Nat.{ℕ, zero, suc, ◌+◌, ◌-◌, ◌≤◌, ◌<◌, suc-le-suc}
 use native.Mathlib.Nat.{not-suc-le-zero, le_of_suc-le-suc, add-zero, zero-add, add_assoc}
 use native.Mathlib.Omega.{arith}
@@ -34,8 +35,7 @@ use Rattle.rules.specs.declared.Origin.{Origin}
 use Rattle.rules.specs.declared.Origin.TheVariants as origin
 use Rattle.rules.specs.declared.Modifier.{Modifier}
 use Rattle.rules.specs.declared.Modifier.TheVariants.{LocationRequiredSkillModifier, LocationGroupModifier, LocationModifier, OwnerRequiredSkillModifier, ItemModifier}
-use Rattle.rules.specs.declared.OptionalId.{OptionalId}
-use Rattle.rules.specs.declared.OptionalId.TheVariants.{Absent, Given}
+use Rattle.rules.specs.Ids.{OptionalId}
 use Rattle.promises.specs.Given.{cell}
 use Rattle.promises.specs.NoMemory.{no_row, book_in, fit_in}
 use Rattle.promises.specs.Numbers.{climbs, number_at, Ascending, ItsEffect}
@@ -182,22 +182,22 @@ module _ (k : Book) (f : Fit) (ts : List Pass2Effect) where
 -- ---- the numbers of both
 
 pub eleven : (g : Origin) (i : OptionalId) (a b c n : ℕ) → get_or (origin_numbers g ++ (a ∷ b ∷ c ∷ (optional_numbers i ++ (n ∷ [])))) 11 0 ≡ n
-eleven (origin.Effect e o c a) Absent x y z n = refl
-eleven (origin.Effect e o c a) (Given i) x y z n = refl
-eleven (origin.Buff b v) Absent x y z n = refl
-eleven (origin.Buff b v) (Given i) x y z n = refl
+eleven (origin.Effect e o c a) None x y z n = refl
+eleven (origin.Effect e o c a) (Some i) x y z n = refl
+eleven (origin.Buff b v) None x y z n = refl
+eleven (origin.Buff b v) (Some i) x y z n = refl
 
 nine : (g : Origin) (i : OptionalId) (a b c n : ℕ) → get_or (origin_numbers g ++ (a ∷ b ∷ c ∷ (optional_numbers i ++ (n ∷ [])))) 9 0 ≡ get_or (optional_numbers i) 0 0
-nine (origin.Effect e o c a) Absent x y z n = refl
-nine (origin.Effect e o c a) (Given i) x y z n = refl
-nine (origin.Buff b v) Absent x y z n = refl
-nine (origin.Buff b v) (Given i) x y z n = refl
+nine (origin.Effect e o c a) None x y z n = refl
+nine (origin.Effect e o c a) (Some i) x y z n = refl
+nine (origin.Buff b v) None x y z n = refl
+nine (origin.Buff b v) (Some i) x y z n = refl
 
 ten : (g : Origin) (i : OptionalId) (a b c n : ℕ) → get_or (origin_numbers g ++ (a ∷ b ∷ c ∷ (optional_numbers i ++ (n ∷ [])))) 10 0 ≡ get_or (optional_numbers i) 1 0
-ten (origin.Effect e o c a) Absent x y z n = refl
-ten (origin.Effect e o c a) (Given i) x y z n = refl
-ten (origin.Buff b v) Absent x y z n = refl
-ten (origin.Buff b v) (Given i) x y z n = refl
+ten (origin.Effect e o c a) None x y z n = refl
+ten (origin.Effect e o c a) (Some i) x y z n = refl
+ten (origin.Buff b v) None x y z n = refl
+ten (origin.Buff b v) (Some i) x y z n = refl
 
 six : (g : Origin) (a : ℕ) (r : List ℕ) → get_or (origin_numbers g ++ (a ∷ r)) 6 0 ≡ a
 six (origin.Effect e o c a) x r = refl
@@ -284,7 +284,7 @@ inside-all (r ∷ rs) (suc i) h = omega (arith, length-append r.entries (all rs)
 -- ---- a result that meets the definition, whose run is done
 
 abbrev no_entry : Effect
-no_entry = record { origin = origin.Buff (pos 0) zero_f; operator = PreAssign; penalty = false; quantity = 0; resistance = Absent; number = 0 }
+no_entry = record { origin = origin.Buff (pos 0) zero_f; operator = PreAssign; penalty = false; quantity = 0; resistance = None; number = 0 }
 
 abbrev pub no_effect : Pass2Effect
 no_effect =
@@ -295,7 +295,7 @@ no_effect =
       source_quantity = 0;
       target = 0;
       target_attribute_id = pos 0;
-      resistance = Absent;
+      resistance = None;
     }
 
 module _ (b : List ℕ) (l : Lent) (r : Result) (m : Meets b l r) (d : Done) (e : outcome b l ≡ ok d) where

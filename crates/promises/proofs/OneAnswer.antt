@@ -7,8 +7,8 @@ use Rattle.laws.proofs.Laid.{column_none}
 use Rattle.rules.specs.Answer.{Res, ok, refused, number, answer_of}
 use Rattle.rules.specs.Columns.{collected_column, collected_value_column, row_column, base_column, value_column, entry_column, entry_value_column, plain_column, source_column, source_float_column, state_column}
 use Rattle.rules.specs.Outcome.{Lent, Done, outcome}
-use Rattle.rules.specs.declared.Answer.{Answer}
-use Rattle.rules.specs.declared.Answer.TheVariants as answer
+use Rattle.rules.specs.Answer.{Answer}
+use Rattle.rules.specs.Answer as answer
 use Rattle.rules.specs.declared.Refusal.{Refusal}
 use Rattle.rules.specs.declared.Refusal.TheVariants.{Shape, Func, Domain, Category, Operation, Other, Room, Number, Depth}
 use Rattle.promises.specs.Result.{Result, result_for, MeetsFor, Meets}

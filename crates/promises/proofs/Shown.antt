@@ -1,4 +1,5 @@
 -- Every source row names the state that its source needs: a memory's, a run's, and those of every result that meets the definition.
+use Rattle.std.specs.Prelude.{None, Some}
 use Prim.Native.Nat.{ℕ, zero, suc, ◌-◌, ◌<◌, min}
 use native.Mathlib.Omega.{arith}
 use mathlib.Core.Path.{◌≡◌, refl, sym, ap, subst, ◌∙◌}
@@ -31,8 +32,7 @@ use Rattle.rules.specs.declared.Effect.{Effect}
 use Rattle.rules.specs.declared.EffectCategory.{EffectCategory}
 use Rattle.rules.specs.declared.EffectCategory.TheVariants as category
 use Rattle.rules.specs.declared.EffectOperator.{EffectOperator}
-use Rattle.rules.specs.declared.OptionalId.{OptionalId}
-use Rattle.rules.specs.declared.OptionalId.TheVariants.{Absent, Given}
+use Rattle.rules.specs.Ids.{OptionalId}
 use Rattle.rules.specs.declared.Origin.{Origin}
 use Rattle.rules.specs.declared.Origin.TheVariants as origin
 use Rattle.rules.specs.declared.Refusal.TheVariants.{Room, Depth}
@@ -174,8 +174,8 @@ module _ (w : World) where
     module _ (read : Reader) (reading : (o : ℕ) (a : ℤ) (m : Mem) → True m → Gives TrueRead (read o a m)) where
       resisted_true : (a : OptionalId) (r : Read) → TrueRead r → Gives TrueRead (resisted w i row read a r)
       unfolding resisted
-      resisted_true Absent r k = gives k
-      resisted_true (Given a) r k = on _ (reading 0 a r.mem k) (λ q p. on _ (any (number_at row.object (times r.value q.value))) (λ v h. gives p))
+      resisted_true None r k = gives k
+      resisted_true (Some a) r k = on _ (reading 0 a r.mem k) (λ q p. on _ (any (number_at row.object (times r.value q.value))) (λ v h. gives p))
 
       -- what runs is noted as applied, what does not run as not applied
       gather_from_true : (e : Effect) (s : Origin) (g : Gathered) → e.origin ≡ s → TrueGathered g → Gives TrueGathered (gather_from w i row read e s g)
@@ -259,14 +259,14 @@ run_true k f q d e =
 
 -- past what it is from, effect and attribute
 behind : (f : SourceRef) (e a : OptionalId) (j : ℕ) (r : List ℕ) → get_or (from_numbers f ++ optional_numbers e ++ optional_numbers a ++ r) (suc (suc (suc (suc (suc (suc j)))))) 0 ≡ get_or r j 0
-behind (Object o) Absent Absent j r = refl
-behind (Object o) Absent (Given a) j r = refl
-behind (Object o) (Given e) Absent j r = refl
-behind (Object o) (Given e) (Given a) j r = refl
-behind (Buff b) Absent Absent j r = refl
-behind (Buff b) Absent (Given a) j r = refl
-behind (Buff b) (Given e) Absent j r = refl
-behind (Buff b) (Given e) (Given a) j r = refl
+behind (Object o) None None j r = refl
+behind (Object o) None (Some a) j r = refl
+behind (Object o) (Some e) None j r = refl
+behind (Object o) (Some e) (Some a) j r = refl
+behind (Buff b) None None j r = refl
+behind (Buff b) None (Some a) j r = refl
+behind (Buff b) (Some e) None j r = refl
+behind (Buff b) (Some e) (Some a) j r = refl
 
 front : (f : SourceRef) (e a r : List ℕ) → (get_or (from_numbers f ++ e ++ a ++ r) 0 0 ≡ get_or (from_numbers f) 0 0) × (get_or (from_numbers f ++ e ++ a ++ r) 1 0 ≡ get_or (from_numbers f) 1 0)
 front (Object o) e a r = (refl, refl)

@@ -3,25 +3,17 @@ use Prim.Native.Nat.{ℕ, ◌+◌, ◌*◌, ◌≤◌}
 use native.Mathlib.Omega.{arith}
 use mathlib.Core.Path.{◌≡◌, refl, sym, ap, ◌∙◌}
 use mathlib.Core.List.{List, [], ◌∷◌, ◌++◌, append-nil, append_assoc}
-use lib.ListN.{length, length-append}
-use Rattle.laws.specs.Lists.{flat}
-use Rattle.listing.specs.Put.{Put, put, puts}
-use Rattle.listing.proofs.Puts.{after, renamed, ends, as_long}
+use lib.ListN.{length}
+use Rattle.listing.specs.Put.{Put, puts}
+use Rattle.listing.proofs.Puts.{after, renamed}
 use Rattle.tables.specs.Layout.{words, rows_of}
-use Rattle.tables.specs.Tables.{Tables, Tab, fields, number, book_tables, fit_tables, together, book_tabs, fit_tabs, pairs_from, body_of, file, sheet_of, book_file_of, fit_file_of, book_length, fit_length}
-use Rattle.tables.specs.Fits.{FewBook, FewFit}
-use Rattle.put_tables.specs.Ready.{BookReady, FitReady}
-use Rattle.tables.proofs.Numbers.{words-length}
+use Rattle.tables.specs.Tables.{Tables, Tab, fields, number, together, book_tabs, fit_tabs, pairs_from, body_of, sheet_of, book_file_of, fit_file_of, book_length, fit_length}
 use Rattle.tables.proofs.ReadsBack.{fields-all, sheet_size, book_size, fit_size}
 use Rattle.put_tables.proofs.Steps.{words_append}
 
 -- the second text, then nothing
 pub last : (xs : List ℕ) (s : Put) {t : Put} → t ≡ puts xs s → t ≡ puts (xs ++ []) s
 last xs s e = renamed s (sym (append-nil xs)) e
-
--- where a row of numbers ends
-pub words_end : (r : List ℕ) (at : ℕ) (out : List ℕ) {p : ℕ} {now : List ℕ} → put p now ≡ puts (words r) (put at out) → p ≡ at + 4 * length r
-words_end r at out e = ends (words r) at out e ∙ ap (λ (n : ℕ). at + n) (words-length r)
 
 module _ (r1 r2 r3 r4 r5 : List ℕ) (s : Put) where
   pub five_put : {a b c d e : Put} → a ≡ puts r1 s → b ≡ puts r2 a → c ≡ puts r3 b → d ≡ puts r4 c → e ≡ puts r5 d → e ≡ puts (r1 ++ (r2 ++ (r3 ++ (r4 ++ (r5 ++ []))))) s
@@ -82,31 +74,3 @@ fit_room t g = omega (arith, g, fit_size t)
 -- a header of two, behind three that are not read
 pub two_all : (h : List ℕ) → length h ≡ 2 → h ≡ number h 0 ∷ number h 1 ∷ []
 two_all h e = sym (fields-all h 2 e)
-
--- counts alone
-pub book_few : (t : Tables) → BookReady t → FewBook (book_tables [] t.attributes [] t.effects t.modifiers t.type_effects t.buff_collections)
-book_few t r =
-    record {
-      attributes = r.few.attributes;
-      effects = r.few.effects;
-      modifiers = r.few.modifiers;
-      type_effects = r.few.type_effects;
-      buff_collections = r.few.buff_collections;
-    }
-
-pub fit_few : (t : Tables) → FitReady t → FewFit (fit_tables [] t.objects t.base_attributes [] t.ids t.buffs [] t.asks)
-fit_few t r =
-    record {
-      objects = r.few.objects;
-      base_attributes = r.few.base_attributes;
-      ids = r.few.ids;
-      buffs = r.few.buffs;
-      asks = r.few.asks;
-    }
-
--- five pairs are ten numbers
-pub ten_book : (at : ℕ) (t : Tables) {l : List ℕ} → l ≡ pairs_from at (book_tabs t) → length l ≡ 10
-ten_book at t e = ap length e
-
-pub ten_fit : (at : ℕ) (t : Tables) {l : List ℕ} → l ≡ pairs_from at (fit_tabs t) → length l ≡ 10
-ten_fit at t e = ap length e

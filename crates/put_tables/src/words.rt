@@ -8,11 +8,9 @@ ghost use Rattle.tables.specs.Layout.{word, words, float};
 pub fn put_word(bytes: &mut [u8], at: usize, x: u32) -> usize
     requires room { at + 4 ≤ length bytes.old }
     ensures written { Added bytes at result (word x) }
+    ensures end { result ≡ at + 4 }
 {
-    bytes[at] = (x % 256) as u8;
-    bytes[at + 1] = (x / 256 % 256) as u8;
-    bytes[at + 2] = (x / 256 / 256 % 256) as u8;
-    bytes[at + 3] = (x / 256 / 256 / 256 % 256) as u8;
+    bytes[at..at + 4].copy_from_slice(&x.to_le_bytes());
     at + 4
 }
 
@@ -20,13 +18,11 @@ pub fn put_word(bytes: &mut [u8], at: usize, x: u32) -> usize
 pub fn put_words(bytes: &mut [u8], at: usize, numbers: &[u32]) -> usize
     requires room { at + 4 * length numbers.now ≤ length bytes.old }
     ensures written { Added bytes at result (words numbers.now) }
+    ensures end { result ≡ at + 4 * length numbers.now }
 {
     let mut place = at;
-    let mut i = 0usize;
-    while i < numbers.len() {
-        let x = numbers[i];
-        place = put_word(bytes, place, x);
-        i += 1;
+    for x in numbers {
+        place = put_word(bytes, place, *x);
     }
     place
 }
@@ -36,8 +32,8 @@ pub fn put_float(bytes: &mut [u8], at: usize, x: f64) -> usize
     requires room { at + 8 ≤ length bytes.old }
     requires finite { finite x ≡ true }
     ensures written { Added bytes at result (float x) }
+    ensures end { result ≡ at + 8 }
 {
-    let pattern = f64::to_bits(x);
-    let next = put_word(bytes, at, (pattern % 0x1_0000_0000) as u32);
-    put_word(bytes, next, (pattern / 0x1_0000_0000) as u32)
+    bytes[at..at + 8].copy_from_slice(&x.to_bits().to_le_bytes());
+    at + 8
 }

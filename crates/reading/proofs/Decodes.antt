@@ -1,4 +1,5 @@
 -- What stands in an entry's numbers stands for the entry.
+use Rattle.std.specs.Prelude.{None, Some}
 use Prim.Native.Nat.{ℕ, suc, ◌+◌, ◌-◌, ◌≤◌, ◌<◌}
 use native.Mathlib.Omega.{arith}
 use mathlib.Core.Path.{◌≡◌, refl, sym, ap, ◌∙◌}
@@ -26,8 +27,7 @@ use Rattle.rules.specs.declared.EffectCategory.{EffectCategory}
 use Rattle.rules.specs.declared.EffectOperator.{EffectOperator}
 use Rattle.rules.specs.declared.Origin.{Origin}
 use Rattle.rules.specs.declared.Origin.TheVariants as origin
-use Rattle.rules.specs.declared.OptionalId.{OptionalId}
-use Rattle.rules.specs.declared.OptionalId.TheVariants.{Absent, Given}
+use Rattle.rules.specs.Ids.{OptionalId}
 use Rattle.item.proofs.Back.{category_back, operator_back}
 use Rattle.info.specs.Stands.{NarrowOrigin, NarrowId}
 use Rattle.reading.specs.Held.{EntryHeld, is_running, has_code, is_marked}
@@ -52,13 +52,13 @@ operator_coded code o e = ap operator_at e ∙ operator_back o
 read_back : (x : ℤ) {n : ℕ} (a : ℤ) → SFits w32 a → of_z w32 x ≡ n → n ≡ of_z w32 a → to_z w32 (of_z w32 x) ≡ a
 read_back x a f e h = ap (to_z w32) (e ∙ h) ∙ to_z-of_z f
 
-pub id-given : {given n : ℕ} (x : ℤ) → of_z w32 x ≡ n → given ≡ 1 → (o : OptionalId) → NarrowId o → given ≡ get_or (optional_numbers o) 0 0 → n ≡ get_or (optional_numbers o) 1 0 → Given (to_z w32 (of_z w32 x)) ≡ o
-id-given x r t Absent f g h = absurd (omega arith)
-id-given x r t (Given a) f g h = ap Given (read_back x a f r h)
+pub id-given : {given n : ℕ} (x : ℤ) → of_z w32 x ≡ n → given ≡ 1 → (o : OptionalId) → NarrowId o → given ≡ get_or (optional_numbers o) 0 0 → n ≡ get_or (optional_numbers o) 1 0 → Some (to_z w32 (of_z w32 x)) ≡ o
+id-given x r t None f g h = absurd (omega arith)
+id-given x r t (Some a) f g h = ap Some (read_back x a f r h)
 
-pub id_absent : {given n : ℕ} → (given ≡ 1 → ⊥) → (o : OptionalId) → NarrowId o → given ≡ get_or (optional_numbers o) 0 0 → n ≡ get_or (optional_numbers o) 1 0 → Absent ≡ o
-id_absent t Absent f g h = refl
-id_absent t (Given a) f g h = absurd (t g)
+pub id_absent : {given n : ℕ} → (given ≡ 1 → ⊥) → (o : OptionalId) → NarrowId o → given ≡ get_or (optional_numbers o) 0 0 → n ≡ get_or (optional_numbers o) 1 0 → None ≡ o
+id_absent t None f g h = refl
+id_absent t (Some a) f g h = absurd (t g)
 
 -- ---- origins
 
@@ -95,16 +95,16 @@ tail e = operator_code e.operator ∷ yes1 e.penalty ∷ e.quantity ∷ (optiona
 
 -- an id's two numbers, and what stands behind them
 id_flag : (i : OptionalId) (n : ℕ) → get_or (optional_numbers i ++ (n ∷ [])) 0 0 ≡ get_or (optional_numbers i) 0 0
-id_flag Absent n = refl
-id_flag (Given a) n = refl
+id_flag None n = refl
+id_flag (Some a) n = refl
 
 id-bits : (i : OptionalId) (n : ℕ) → get_or (optional_numbers i ++ (n ∷ [])) 1 0 ≡ get_or (optional_numbers i) 1 0
-id-bits Absent n = refl
-id-bits (Given a) n = refl
+id-bits None n = refl
+id-bits (Some a) n = refl
 
 past_id : (i : OptionalId) (n : ℕ) → get_or (optional_numbers i ++ (n ∷ [])) 2 0 ≡ n
-past_id Absent n = refl
-past_id (Given a) n = refl
+past_id None n = refl
+past_id (Some a) n = refl
 
 made : (e : Effect) {o : Origin} {p : EffectOperator} {t : Bool} {q : ℕ} {i : OptionalId} {n : ℕ} → o ≡ e.origin → p ≡ e.operator → t ≡ e.penalty → q ≡ e.quantity → i ≡ e.resistance → n ≡ e.number
     → record { origin = o; operator = p; penalty = t; quantity = q; resistance = i; number = n } ≡ e

@@ -15,8 +15,6 @@ use Rattle.rules.specs.declared.Effect.{Effect}
 use Rattle.rules.specs.declared.Origin.{Origin}
 use Rattle.rules.specs.declared.Origin.TheVariants as origin
 use Rattle.info.specs.Stands.{NarrowOrigin, NarrowId}
-use Rattle.reading.specs.declared.rows.Found.{Found}
-use Rattle.reading.specs.declared.rows.Found.TheVariants.{At, Nothing}
 
 -- ---- rows
 
@@ -54,10 +52,6 @@ pub record RowsHeld (rs : List Row) (c : List (List ℕ)) : Type 0 where
   pub id : (i : ℕ) → i < length rs → get_or (get_or c i []) 1 0 ≡ bits (get_or rs i no_row).id
   pub narrow : NarrowIds rs
   pub ordered : ascending rs ≡ true
-
-abbrev pub placed : Found → Option ℕ
-placed (At i) = some i
-placed Nothing = none
 
 abbrev pub index_of : Option defined.Found → Option ℕ
 index_of none = none

@@ -1,3 +1,4 @@
 pub mod Held
 pub mod Stretched
 pub mod Order
+pub mod Bare

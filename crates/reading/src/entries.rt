@@ -2,6 +2,7 @@
 ghost use Rattle.std.specs.Prelude.{◌≡◌, List, [], ◌++◌, ℕ, ◌-◌, ◌≤◌, ◌<◌, length, get_or};
 ghost use Rattle.std.specs.Float.{nan};
 ghost use Rattle.laws.specs.Lists.{some?, span};
+ghost use Rattle.rules.specs.Ids.{OptionalId};
 ghost use Rattle.rules.specs.Codes.{category_code, operator_code};
 ghost use Rattle.rules.specs.Operate.{has_penalty};
 ghost use Rattle.rules.specs.Columns.{origin_numbers, origin_value, optional_numbers};
@@ -16,9 +17,8 @@ use columns::{
 use info::little_endian::index;
 use item::codes::{category_at, operator_at};
 use item::states::runs_at;
-use item::{CategoryFound, OperatorFound};
 use numbers::integers::signed;
-use rules::{Effect, EffectCategory, EffectOperator, OptionalId, Origin};
+use rules::{Effect, EffectCategory, EffectOperator, Origin};
 
 // What the code of a category stands for; no other number is met.
 fn category_of(code: u32) -> EffectCategory
@@ -26,31 +26,31 @@ fn category_of(code: u32) -> EffectCategory
 {
     let found = category_at(code);
     match found {
-        CategoryFound::At(category) => category,
-        CategoryFound::Nothing => EffectCategory::Passive,
+        Some(category) => category,
+        None => EffectCategory::Passive,
     }
 }
 
-// What the code of an operator stands for; no other number is met.
+// What the code of an operator stands for; no other number is met. The two codes are two words of the definition, so the functions stay two.
 pub fn operator_of(code: u32) -> EffectOperator
     ensures defined { (o : EffectOperator) → code ≡ operator_code o → result ≡ o }
 {
     let found = operator_at(code);
     match found {
-        OperatorFound::At(operator) => operator,
-        OperatorFound::Nothing => EffectOperator::PreAssign,
+        Some(operator) => operator,
+        None => EffectOperator::PreAssign,
     }
 }
 
 // An id and the flag beside it, which says whether it is given.
-fn optional_id(given: u32, id: u32) -> OptionalId
+fn optional_id(given: u32, id: u32) -> Option<i32>
     ensures defined { (o : OptionalId) → NarrowId o → given ≡ get_or (optional_numbers o) 0 0 → id ≡ get_or (optional_numbers o) 1 0
         → result ≡ o }
 {
     if given == 1 {
-        return OptionalId::Given(signed(id));
+        return Some(signed(id));
     }
-    OptionalId::Absent
+    None
 }
 
 // Where an entry comes from: an effect of an object, or a buff with its value.
@@ -119,10 +119,8 @@ pub fn operators_in(entries: &[EntryRow], first: usize, end: usize) -> OperatorM
     ensures marked { (c : ℕ) → c < 9 → is_marked result c ≡ some? (has_code c) (span first (end - first) entries.now) }
 {
     let mut marks = [0u32; OPERATORS];
-    let mut i = first;
-    while i < end {
+    for i in first..end {
         let code = index(entries[i][ENTRY_OPERATOR]);
-        i += 1;
         if code < OPERATORS {
             marks[code] = 1;
         }
@@ -130,7 +128,7 @@ pub fn operators_in(entries: &[EntryRow], first: usize, end: usize) -> OperatorM
     marks
 }
 
-// Whether an operator takes the stacking penalty.
+// Whether an operator takes the stacking penalty: an arm for each, as the definition has it.
 pub fn has_penalty(operator: EffectOperator) -> bool
     ensures defined { result ≡ has_penalty operator }
 {

@@ -2,6 +2,5 @@
 #![tactic(auto)]
 
 pub mod entries;
-pub mod rows;
 pub mod stretches;
 pub mod turns;

@@ -25,18 +25,7 @@ pub struct Turns {
 fn rows_below(rows: &[AttributeRow], object: u32) -> usize
     ensures counted { (rs : List Row) → RowsHeld rs rows.now → result ≡ rows_below object rs }
 {
-    let mut low: usize = 0;
-    let mut high = rows.len();
-    while low < high {
-        let middle = low + (high - low) / 2;
-        let o = rows[middle][ROW_OBJECT];
-        if o < object {
-            low = middle + 1;
-        } else {
-            high = middle;
-        }
-    }
-    low
+    rows.partition_point(|row| row[ROW_OBJECT] < object)
 }
 
 // The number just past the last projected one: they stand right after the char.
@@ -46,15 +35,13 @@ fn projected_end(fit: &[u8], pairs: &TablePairs, character: u32) -> u32
     ensures defined { result ≡ projected_end (fit_of fit.now pairs.now) }
 {
     let objects = count_of(pairs, TABLE_OBJECTS);
-    let mut i = character as usize + 1;
-    while i < objects {
+    for i in character as usize + 1..objects {
         let o = object(fit, pairs, i);
         if o.kind != PROJECTED {
             return i as u32;
         }
-        i += 1;
     }
-    i as u32
+    objects as u32
 }
 
 // Where the walk leaves the order of the rows, and where it takes it up again.

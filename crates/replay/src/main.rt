@@ -2,468 +2,185 @@
 // Standard input is cases/kept.bin; cases/make_kept.py says how it is read.
 #![tactic(auto)]
 
-ghost use Rattle.std.specs.Prelude.{◌<◌, ◌≤◌};
-
 use calculate::{Outcome, dogma_calculate};
 use columns::{
     AttributeRow, CollectedRow, ENTRY_WIDTH, EntryRow, PlainRow, SOURCE_WIDTH, SourceFloats,
-    SourceRow, StateRow, States,
+    SourceRow, StateRow,
 };
 use info::little_endian::{index, u32_at};
-use program::{fill, put, put_number};
-use std::num::{wrapping_add_u64, wrapping_add_usize};
+use program::fill;
+use std::num::f64_to_bits_with_nan;
 
 // What a column holds before the call: no kept number.
 const RUBBISH: u32 = 0xa5c3_96e1;
-
-// The place in the kept numbers, how many were compared, and how many differ.
-#[derive(Clone, Copy)]
-struct Seen {
-    at: usize,
-    compared: u64,
-    differ: u64,
-}
-
-// How many sheets there are, how many of them differ, and the numbers compared.
-#[derive(Clone, Copy)]
-struct Tally {
-    at: usize,
-    sheets: u64,
-    differ: u64,
-    compared: u64,
-}
 
 // ---- kept numbers
 
 // The number at a place; 0 outside.
 fn number(data: &[u8], at: usize) -> u32 {
-    if data.len() < 4 {
-        return 0;
-    }
-    if data.len() - 4 < at {
+    if data.len() < 4 || data.len() - 4 < at {
         return 0;
     }
     u32_at(data, at)
 }
 
 // A number of a case's head.
-fn head(data: &[u8], at: usize, k: usize) -> usize
-    requires in_the_head { k < 19 }
-{
-    index(number(data, wrapping_add_usize(at, 4 * k)))
-}
-
-fn wide(x: u32) -> u64 {
-    x as u64
-}
-
-fn one_if(test: bool) -> u64 {
-    if test { 1 } else { 0 }
-}
-
-// The bits of a float, every NaN's the same.
-fn pattern(x: f64) -> u64 {
-    if x != x {
-        return 0x7ff8_0000_0000_0000;
-    }
-    f64::to_bits(x)
+fn head(data: &[u8], at: usize, k: usize) -> usize {
+    index(number(data, at.wrapping_add(k.wrapping_mul(4))))
 }
 
 // ---- comparing
 
-// A number that was found: against the next that is kept, or, in an unused end, against 0.
-fn see(seen: Seen, data: &[u8], found: u64, kept: bool) -> Seen {
-    let at = seen.at;
-    let compared = wrapping_add_u64(seen.compared, 1);
-    if !kept {
-        return Seen {
-            at: at,
-            compared: compared,
-            differ: wrapping_add_u64(seen.differ, one_if(found != 0)),
-        };
+// The kept numbers, the place in them, how many were compared, and how many differ.
+#[derive(Clone, Copy)]
+struct Seen<'a> {
+    data: &'a [u8],
+    at: usize,
+    compared: u64,
+    differ: u64,
+}
+
+impl Seen<'_> {
+    // A number that was found: against the next that is kept, or, in an unused end, against 0.
+    fn see(&mut self, found: u64, kept: bool) {
+        let mut expected = 0;
+        if kept {
+            expected = u64::from(number(self.data, self.at));
+            self.at = self.at.wrapping_add(4);
+        }
+        self.compared = self.compared.wrapping_add(1);
+        self.differ = self.differ.wrapping_add(u64::from(found != expected));
     }
-    let expected = wide(number(data, at));
-    Seen {
-        at: wrapping_add_usize(at, 4),
-        compared: compared,
-        differ: wrapping_add_u64(seen.differ, one_if(found != expected)),
+
+    fn see_row(&mut self, row: &[u32], kept: bool) {
+        for found in row {
+            self.see(u64::from(*found), kept);
+        }
     }
-}
 
-fn see_row(seen: Seen, data: &[u8], row: &[u32], kept: bool) -> Seen {
-    let mut so_far = seen;
-    let mut k = 0;
-    while k < row.len() {
-        let found = row[k];
-        so_far = see(so_far, data, wide(found), kept);
-        k += 1;
+    fn see_rows<const WIDTH: usize>(&mut self, column: &[[u32; WIDTH]], count: usize) {
+        for (i, row) in column.iter().enumerate() {
+            self.see_row(row, i < count);
+        }
     }
-    so_far
-}
 
-// The low half comes first.
-fn see_float(seen: Seen, data: &[u8], found: f64, kept: bool) -> Seen {
-    let bits = pattern(found);
-    let low = see(seen, data, bits % 0x1_0000_0000, kept);
-    see(low, data, bits / 0x1_0000_0000, kept)
-}
-
-fn see_row_2(seen: Seen, data: &[u8], row: [u32; 2], kept: bool) -> Seen {
-    see_row(seen, data, &row, kept)
-}
-
-fn see_2(seen: Seen, data: &[u8], column: &[[u32; 2]], count: usize) -> Seen {
-    let mut so_far = seen;
-    let mut i = 0;
-    while i < column.len() {
-        let row = column[i];
-        so_far = see_row_2(so_far, data, row, i < count);
-        i += 1;
+    // The low half comes first.
+    fn see_float(&mut self, found: f64, kept: bool) {
+        let bits = f64_to_bits_with_nan(found);
+        self.see(bits % 0x1_0000_0000, kept);
+        self.see(bits / 0x1_0000_0000, kept);
     }
-    so_far
-}
 
-fn see_attribute_row(seen: Seen, data: &[u8], row: AttributeRow, kept: bool) -> Seen {
-    see_row(seen, data, &row, kept)
-}
-
-fn see_rows(seen: Seen, data: &[u8], column: &[AttributeRow], count: usize) -> Seen {
-    let mut so_far = seen;
-    let mut i = 0;
-    while i < column.len() {
-        let row = column[i];
-        so_far = see_attribute_row(so_far, data, row, i < count);
-        i += 1;
+    fn see_floats(&mut self, column: &[f64], count: usize) {
+        for (i, found) in column.iter().enumerate() {
+            self.see_float(*found, i < count);
+        }
     }
-    so_far
-}
 
-fn see_source_row(seen: Seen, data: &[u8], row: SourceRow, kept: bool) -> Seen {
-    see_row(seen, data, &row, kept)
-}
-
-fn see_sources(seen: Seen, data: &[u8], column: &[SourceRow], count: usize) -> Seen {
-    let mut so_far = seen;
-    let mut i = 0;
-    while i < column.len() {
-        let row = column[i];
-        so_far = see_source_row(so_far, data, row, i < count);
-        i += 1;
+    fn see_pairs(&mut self, column: &[SourceFloats], count: usize) {
+        for (i, pair) in column.iter().enumerate() {
+            self.see_float(pair[0], i < count);
+            self.see_float(pair[1], i < count);
+        }
     }
-    so_far
-}
 
-fn see_entry_row(seen: Seen, data: &[u8], row: EntryRow, kept: bool) -> Seen {
-    see_row(seen, data, &row, kept)
-}
-
-fn see_entries(seen: Seen, data: &[u8], column: &[EntryRow], count: usize) -> Seen {
-    let mut so_far = seen;
-    let mut i = 0;
-    while i < column.len() {
-        let row = column[i];
-        so_far = see_entry_row(so_far, data, row, i < count);
-        i += 1;
+    // Number, place and the five counts.
+    fn see_outcome(&mut self, found: Outcome) {
+        self.see(found.number, true);
+        self.see(found.place, true);
+        self.see(found.collected, true);
+        self.see(found.rows, true);
+        self.see(found.entries, true);
+        self.see(found.plain, true);
+        self.see(found.sources, true);
     }
-    so_far
-}
-
-fn see_collected_row(seen: Seen, data: &[u8], row: CollectedRow, kept: bool) -> Seen {
-    see_row(seen, data, &row, kept)
-}
-
-fn see_collected(seen: Seen, data: &[u8], column: &[CollectedRow], count: usize) -> Seen {
-    let mut so_far = seen;
-    let mut i = 0;
-    while i < column.len() {
-        let row = column[i];
-        so_far = see_collected_row(so_far, data, row, i < count);
-        i += 1;
-    }
-    so_far
-}
-
-fn see_floats(seen: Seen, data: &[u8], column: &[f64], count: usize) -> Seen {
-    let mut so_far = seen;
-    let mut i = 0;
-    while i < column.len() {
-        let found = column[i];
-        so_far = see_float(so_far, data, found, i < count);
-        i += 1;
-    }
-    so_far
-}
-
-fn see_pairs(seen: Seen, data: &[u8], column: &[SourceFloats], count: usize) -> Seen {
-    let mut so_far = seen;
-    let mut i = 0;
-    while i < column.len() {
-        let pair = column[i];
-        let first = see_float(so_far, data, pair[0], i < count);
-        so_far = see_float(first, data, pair[1], i < count);
-        i += 1;
-    }
-    so_far
-}
-
-// Number, place and the five counts.
-fn see_outcome(seen: Seen, data: &[u8], found: Outcome) -> Seen {
-    let number = see(seen, data, found.number, true);
-    let place = see(number, data, found.place, true);
-    let collected = see(place, data, found.collected, true);
-    let rows = see(collected, data, found.rows, true);
-    let entries = see(rows, data, found.entries, true);
-    let plain = see(entries, data, found.plain, true);
-    see(plain, data, found.sources, true)
 }
 
 // ---- a kept sheet
 
-// As many rows as are to be lent, and no more than there are.
-fn held(n: usize, most: usize) -> usize
-    ensures inside { result ≤ most }
-{
-    if n < most { n } else { most }
+// Every list that came back, as far as it was lent, and the states.
+#[derive(Clone, Copy)]
+struct Lists<'a> {
+    states: &'a [StateRow],
+    collected: &'a [CollectedRow],
+    collected_values: &'a [f64],
+    rows: &'a [AttributeRow],
+    bases: &'a [f64],
+    values: &'a [f64],
+    entries: &'a [EntryRow],
+    entry_values: &'a [f64],
+    plain: &'a [PlainRow],
+    sources: &'a [SourceRow],
+    source_values: &'a [SourceFloats],
 }
 
-// The lent lengths as they are in the head.
-fn see_lent(
-    collected: &[CollectedRow],
-    collected_values: &[f64],
-    rows: &[AttributeRow],
-    bases: &[f64],
-    values: &[f64],
-    entries: &[EntryRow],
-    entry_values: &[f64],
-    plain: &[PlainRow],
-    sources: &[SourceRow],
-    source_values: &[SourceFloats],
-    data: &[u8],
-    seen: Seen,
-) -> Seen {
-    let c = see(seen, data, collected.len() as u64, true);
-    let cv = see(c, data, collected_values.len() as u64, true);
-    let r = see(cv, data, rows.len() as u64, true);
-    let b = see(r, data, bases.len() as u64, true);
-    let v = see(b, data, values.len() as u64, true);
-    let e = see(v, data, entries.len() as u64, true);
-    let ev = see(e, data, entry_values.len() as u64, true);
-    let p = see(ev, data, plain.len() as u64, true);
-    let s = see(p, data, sources.len() as u64, true);
-    see(s, data, source_values.len() as u64, true)
-}
+impl Lists<'_> {
+    // The lent lengths as they are in the head.
+    fn see_lent(&self, seen: &mut Seen) {
+        seen.see(self.collected.len() as u64, true);
+        seen.see(self.collected_values.len() as u64, true);
+        seen.see(self.rows.len() as u64, true);
+        seen.see(self.bases.len() as u64, true);
+        seen.see(self.values.len() as u64, true);
+        seen.see(self.entries.len() as u64, true);
+        seen.see(self.entry_values.len() as u64, true);
+        seen.see(self.plain.len() as u64, true);
+        seen.see(self.sources.len() as u64, true);
+        seen.see(self.source_values.len() as u64, true);
+    }
 
-// Every element of every column.
-fn see_columns(
-    collected: &[CollectedRow],
-    collected_values: &[f64],
-    rows: &[AttributeRow],
-    bases: &[f64],
-    values: &[f64],
-    entries: &[EntryRow],
-    entry_values: &[f64],
-    plain: &[PlainRow],
-    sources: &[SourceRow],
-    source_values: &[SourceFloats],
-    data: &[u8],
-    at: usize,
-    seen: Seen,
-) -> Seen {
-    let n1 = head(data, at, 13);
-    let n2 = head(data, at, 14);
-    let n3 = head(data, at, 15);
-    let n5 = head(data, at, 17);
-    let c = see_collected(seen, data, collected, n1);
-    let cv = see_floats(c, data, collected_values, n1);
-    let r = see_rows(cv, data, rows, n2);
-    let b = see_floats(r, data, bases, n2);
-    let v = see_floats(b, data, values, n2);
-    let e = see_entries(v, data, entries, n3);
-    let ev = see_floats(e, data, entry_values, n3);
-    let p = see_2(ev, data, plain, head(data, at, 16));
-    let s = see_sources(p, data, sources, n5);
-    see_pairs(s, data, source_values, n5)
+    // Every element of every column, of the case at a place.
+    fn see_columns(&self, seen: &mut Seen, at: usize) {
+        let data = seen.data;
+        seen.see_rows(self.states, head(data, at, 18));
+        seen.see_rows(self.collected, head(data, at, 13));
+        seen.see_floats(self.collected_values, head(data, at, 13));
+        seen.see_rows(self.rows, head(data, at, 14));
+        seen.see_floats(self.bases, head(data, at, 14));
+        seen.see_floats(self.values, head(data, at, 14));
+        seen.see_rows(self.entries, head(data, at, 15));
+        seen.see_floats(self.entry_values, head(data, at, 15));
+        seen.see_rows(self.plain, head(data, at, 16));
+        seen.see_rows(self.sources, head(data, at, 17));
+        seen.see_pairs(self.source_values, head(data, at, 17));
+    }
 }
 
 // Where the kept numbers go on behind a sheet: at the next multiple of four.
 fn behind(start: usize, length: usize) -> usize {
-    if length % 4 == 0 {
-        return wrapping_add_usize(start, length);
-    }
-    wrapping_add_usize(start, wrapping_add_usize(length, 4 - length % 4))
+    start.wrapping_add(length.div_ceil(4).wrapping_mul(4))
 }
 
 // Everything that came back, and that no kept number lies outside what was read.
-fn see_all(
-    states: &[StateRow],
-    collected: &[CollectedRow],
-    collected_values: &[f64],
-    rows: &[AttributeRow],
-    bases: &[f64],
-    values: &[f64],
-    entries: &[EntryRow],
-    entry_values: &[f64],
-    plain: &[PlainRow],
-    sources: &[SourceRow],
-    source_values: &[SourceFloats],
-    data: &[u8],
-    at: usize,
-    found: Outcome,
-) -> Seen {
-    let start = Seen {
-        at: wrapping_add_usize(at, 4),
+fn see_all<'a>(lists: Lists, data: &'a [u8], at: usize, found: Outcome) -> Seen<'a> {
+    let mut seen = Seen {
+        data,
+        at: at.wrapping_add(4),
         compared: 0,
         differ: 0,
     };
-    let lent = see_lent(
-        collected,
-        collected_values,
-        rows,
-        bases,
-        values,
-        entries,
-        entry_values,
-        plain,
-        sources,
-        source_values,
-        data,
-        start,
-    );
-    let outcome = see_outcome(lent, data, found);
-    let body = Seen {
-        at: behind(wrapping_add_usize(at, 76), head(data, at, 0)),
-        compared: outcome.compared,
-        differ: outcome.differ,
-    };
-    let stated = see_2(body, data, states, head(data, at, 18));
-    see_columns(
-        collected,
-        collected_values,
-        rows,
-        bases,
-        values,
-        entries,
-        entry_values,
-        plain,
-        sources,
-        source_values,
-        data,
-        at,
-        stated,
-    )
+    lists.see_lent(&mut seen);
+    seen.see_outcome(found);
+    seen.at = behind(at.wrapping_add(76), head(data, at, 0));
+    lists.see_columns(&mut seen, at);
+    seen
 }
 
-// What is cut off differs.
-fn cut_off(data: &[u8]) -> Seen {
-    Seen {
-        at: data.len(),
-        compared: 0,
-        differ: 1,
-    }
+// The sheet of the case at a place; none where it is cut off.
+fn sheet_of(data: &[u8], at: usize) -> Option<&[u8]> {
+    data.get(at.wrapping_add(76)..)?.get(..head(data, at, 0))
 }
 
-// The case at a place, calculated and compared.
-fn calculated(
-    states: &mut States,
-    collected: &mut [CollectedRow],
-    collected_values: &mut [f64],
-    rows: &mut [AttributeRow],
-    bases: &mut [f64],
-    values: &mut [f64],
-    entries: &mut [EntryRow],
-    entry_values: &mut [f64],
-    plain: &mut [PlainRow],
-    sources: &mut [SourceRow],
-    source_values: &mut [SourceFloats],
-    data: &[u8],
-    at: usize,
-) -> Seen {
-    let start = wrapping_add_usize(at, 76);
-    let length = head(data, at, 0);
-    if data.len() < start {
-        return cut_off(data);
-    }
-    if data.len() - start < length {
-        return cut_off(data);
-    }
-    let end = start + length;
-    let found = dogma_calculate(
-        states,
-        collected,
-        collected_values,
-        rows,
-        bases,
-        values,
-        entries,
-        entry_values,
-        plain,
-        sources,
-        source_values,
-        &data[start..end],
-    );
-    see_all(
-        states,
-        collected,
-        collected_values,
-        rows,
-        bases,
-        values,
-        entries,
-        entry_values,
-        plain,
-        sources,
-        source_values,
-        data,
-        at,
-        found,
-    )
-}
-
-// Lends as many rows of each column as the case says.
-fn lent(
-    states: &mut States,
-    collected: &mut [CollectedRow],
-    collected_values: &mut [f64],
-    rows: &mut [AttributeRow],
-    bases: &mut [f64],
-    values: &mut [f64],
-    entries: &mut [EntryRow],
-    entry_values: &mut [f64],
-    plain: &mut [PlainRow],
-    sources: &mut [SourceRow],
-    source_values: &mut [SourceFloats],
-    data: &[u8],
-    at: usize,
-) -> Seen {
-    let n1 = held(head(data, at, 1), collected.len());
-    let n2 = held(head(data, at, 2), collected_values.len());
-    let n3 = held(head(data, at, 3), rows.len());
-    let n4 = held(head(data, at, 4), bases.len());
-    let n5 = held(head(data, at, 5), values.len());
-    let n6 = held(head(data, at, 6), entries.len());
-    let n7 = held(head(data, at, 7), entry_values.len());
-    let n8 = held(head(data, at, 8), plain.len());
-    let n9 = held(head(data, at, 9), sources.len());
-    let n10 = held(head(data, at, 10), source_values.len());
-    calculated(
-        states,
-        &mut collected[..n1],
-        &mut collected_values[..n2],
-        &mut rows[..n3],
-        &mut bases[..n4],
-        &mut values[..n5],
-        &mut entries[..n6],
-        &mut entry_values[..n7],
-        &mut plain[..n8],
-        &mut sources[..n9],
-        &mut source_values[..n10],
-        data,
-        at,
-    )
-}
-
-// A case with columns full of rubbish.
+// A case, with as many rows lent of each column as it says, full of rubbish; what is cut off differs.
 fn replayed(data: &[u8], at: usize) -> Seen {
+    let Some(sheet) = sheet_of(data, at) else {
+        return Seen {
+            data,
+            at: data.len(),
+            compared: 0,
+            differ: 1,
+        };
+    };
     let mut states = [[RUBBISH; 2]; 1024];
     let mut collected = [[RUBBISH; 14]; 128];
     let mut collected_values = [1.5; 128];
@@ -475,70 +192,81 @@ fn replayed(data: &[u8], at: usize) -> Seen {
     let mut plain = [[RUBBISH; 2]; 128];
     let mut sources = [[RUBBISH; SOURCE_WIDTH]; 128];
     let mut source_values = [[1.5; 2]; 128];
-    lent(
+    let collected = &mut collected[..head(data, at, 1).min(128)];
+    let collected_values = &mut collected_values[..head(data, at, 2).min(128)];
+    let rows = &mut rows[..head(data, at, 3).min(128)];
+    let bases = &mut bases[..head(data, at, 4).min(128)];
+    let values = &mut values[..head(data, at, 5).min(128)];
+    let entries = &mut entries[..head(data, at, 6).min(128)];
+    let entry_values = &mut entry_values[..head(data, at, 7).min(128)];
+    let plain = &mut plain[..head(data, at, 8).min(128)];
+    let sources = &mut sources[..head(data, at, 9).min(128)];
+    let source_values = &mut source_values[..head(data, at, 10).min(128)];
+    let found = dogma_calculate(
         &mut states,
-        &mut collected,
-        &mut collected_values,
-        &mut rows,
-        &mut bases,
-        &mut values,
-        &mut entries,
-        &mut entry_values,
-        &mut plain,
-        &mut sources,
-        &mut source_values,
-        data,
-        at,
-    )
+        collected,
+        collected_values,
+        rows,
+        bases,
+        values,
+        entries,
+        entry_values,
+        plain,
+        sources,
+        source_values,
+        sheet,
+    );
+    let lists = Lists {
+        states: &states,
+        collected,
+        collected_values,
+        rows,
+        bases,
+        values,
+        entries,
+        entry_values,
+        plain,
+        sources,
+        source_values,
+    };
+    see_all(lists, data, at, found)
 }
 
 // ---- all of them
 
-fn print(rt: &HostRuntime, n: u64) {
-    put_number(rt, n);
+// The place of the next case, how many sheets there were, how many of them differ, and the numbers compared.
+#[derive(Clone, Copy, Default)]
+struct Tally {
+    at: usize,
+    sheets: u64,
+    differ: u64,
+    compared: u64,
 }
 
-// Says which sheet differs.
-fn differs(rt: &HostRuntime, number: u64) {
-    put(rt, b"sheet ");
-    print(rt, number);
-    put(rt, b" differs\n");
-}
-
+// One case more; where it differs, says which sheet it is.
 fn next(rt: &HostRuntime, data: &[u8], tally: Tally) -> Tally {
-    let sheets = tally.sheets;
-    let at = tally.at;
+    let Tally { at, sheets, .. } = tally;
     let seen = replayed(data, at);
-    let differ = seen.differ;
-    let reached = seen.at;
-    let other = 0 < differ || data.len() < reached;
-    if other {
-        differs(rt, sheets);
+    let differs = 0 < seen.differ || data.len() < seen.at;
+    if differs {
+        let _ = println!(rt; "sheet {sheets} differs");
     }
     Tally {
-        at: reached,
-        sheets: wrapping_add_u64(sheets, 1),
-        differ: wrapping_add_u64(tally.differ, one_if(other)),
-        compared: wrapping_add_u64(tally.compared, seen.compared),
+        at: seen.at,
+        sheets: sheets.wrapping_add(1),
+        differ: tally.differ.wrapping_add(u64::from(differs)),
+        compared: tally.compared.wrapping_add(seen.compared),
     }
 }
 
 // Takes one case after the other. There are fewer than the turns.
 fn run(rt: &HostRuntime, data: &[u8]) -> Tally {
-    let mut tally = Tally {
-        at: 0,
-        sheets: 0,
-        differ: 0,
-        compared: 0,
-    };
-    let mut turns = u32::MAX;
-    while 0 < turns {
-        let at = tally.at;
-        if data.len() <= at {
-            return tally;
+    let mut tally = Tally::default();
+    for _ in 0..u32::MAX {
+        if data.len() <= tally.at {
+            break;
         }
         tally = next(rt, data, tally);
-        turns -= 1;
     }
     tally
 }
@@ -552,10 +280,11 @@ fn main(rt: HostRuntime) {
     let mut data = blank();
     let n = fill(&mut data, &mut rt.reader());
     let tally = run(&rt, &data[..n]);
-    print(&rt, tally.sheets);
-    put(&rt, b" sheets, ");
-    print(&rt, tally.compared);
-    put(&rt, b" numbers compared, ");
-    print(&rt, tally.differ);
-    put(&rt, b" sheets differ\n");
+    let Tally {
+        sheets,
+        differ,
+        compared,
+        ..
+    } = tally;
+    let _ = println!(rt; "{sheets} sheets, {compared} numbers compared, {differ} sheets differ");
 }

@@ -1,17 +1,13 @@
 -- Functions that agree where a test passes; and signed numbers of 32 bits.
 use Prim.Native.Nat.{ℕ, ◌^◌}
-use mathlib.Core.Path.{◌≡◌, refl, sym, ap, subst, ◌∙◌}
-use mathlib.Core.Bool.{Bool, true}
-use mathlib.Core.List.{List, [], ◌∷◌, map}
+use mathlib.Core.Path.{◌≡◌, sym, subst}
+use mathlib.Core.Bool.{true}
 use lib.IntN.{ℤ}
-use lib.Dec.{ltb}
 use lib.Signed.{mag}
 use mir.Syntax.{w32}
 use mir.Val.{Fits, SFits, to_z}
 use mir.Facts.{sfits_to_z}
 use borrow.Author.Tests.{lt-ltb, ltb-true}
-use Rattle.laws.specs.Lists.{every?}
-use Rattle.laws.proofs.Bools.{and_left, and_right}
 use Rattle.rows.specs.Tallies.{narrow?}
 
 pub narrow_fits : (a : ℤ) → narrow? a ≡ true → SFits w32 a

@@ -9,26 +9,24 @@ use lib.Ieee.{Float}
 use lib.ListN.{length, get_or, drop, length-map}
 use lib.Seq.{get_or-drop}
 use mir.Syntax.{w32}
-use mir.Val.{to_z, of_z}
+use mir.Val.{to_z}
 use mir.Facts.{to_z-of_z}
-use Rattle.laws.specs.Lists.{eq_z, keep, put, flat, insert_all, ascends}
-use Rattle.laws.proofs.Maps.{map_same, map-map}
-use Rattle.laws.proofs.Keep.{keep-map, keep_same}
-use Rattle.laws.proofs.Flat.{flat_same, flat_map, map-flat}
+use Rattle.laws.specs.Lists.{eq_z, keep, put, flat}
+use Rattle.laws.proofs.Maps.{map-map}
+use Rattle.laws.proofs.Keep.{keep-map}
+use Rattle.laws.proofs.Flat.{flat_same, map-flat}
 use Rattle.rules.specs.Bytes.{bits}
-use Rattle.rules.specs.Sheet.{Book, Fit, bases_of}
-use Rattle.rules.specs.Info.{get_base}
-use Rattle.rules.specs.Dispatch.{Row, Numbered, entry, hits_on, ids_of, row_of}
-use Rattle.rules.specs.Columns.{origin_numbers, modifier_numbers, collected_numbers, entry_numbers, rows_numbers}
+use Rattle.rules.specs.Sheet.{Book, Fit}
+use Rattle.rules.specs.Dispatch.{Numbered, entry, hits_on, ids_of, row_of}
+use Rattle.rules.specs.Columns.{origin_numbers, modifier_numbers, collected_numbers, rows_numbers}
 use Rattle.rules.specs.declared.Item.{Item}
-use Rattle.rules.specs.declared.Effect.{Effect}
 use Rattle.rules.specs.declared.Pass2Effect.{Pass2Effect}
 use Rattle.rules.specs.declared.Origin.{Origin}
 use Rattle.rules.specs.declared.Origin.TheVariants as origin
 use Rattle.rules.specs.declared.Modifier.{Modifier}
 use Rattle.rules.specs.declared.Modifier.TheVariants.{LocationRequiredSkillModifier, LocationGroupModifier, LocationModifier, OwnerRequiredSkillModifier, ItemModifier}
 use Rattle.info.specs.Stands.{effect_at, numbered_at}
-use Rattle.rows.specs.Tallies.{Tally, base_of, tally_numbers, tally_of, hit_number, hit_id}
+use Rattle.rows.specs.Tallies.{hit_number, hit_id}
 use Rattle.rows.specs.Entries.{times, rows_from, started, hits_at, spread_over, Collected, hits_in, row_for, rows_for}
 
 -- with the definition's hits they are the definition's rows

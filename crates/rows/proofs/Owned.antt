@@ -1,4 +1,5 @@
 -- What is laid of an object, from the tallies of its rows to the definition's rows and entries.
+use Rattle.std.specs.Prelude.{Option, Some, None}
 use Prim.Native.Nat.{ℕ, suc, ◌+◌, ◌≤◌, ◌<◌, ◌^◌}
 use native.Mathlib.Omega.{arith}
 use mathlib.Core.Path.{◌≡◌, refl, sym, ap, subst, ◌∙◌}
@@ -10,10 +11,10 @@ use lib.Ieee.{Float}
 use lib.ListN.{length, get_or, take, drop, length-map}
 use lib.Seq.{take_at, length-take-le}
 use borrow.Author.Tests.{ltb-true, lt-ltb}
-use Rattle.laws.specs.Lists.{eq_z, keep, flat, every?, ascends, insert_all, total}
-use Rattle.laws.specs.Columns.{laid, Col}
+use Rattle.laws.specs.Lists.{eq_z, keep, every?, ascends, insert_all, total}
+use Rattle.laws.specs.Columns.{laid}
 use Rattle.laws.proofs.Bools.{and_both}
-use Rattle.laws.proofs.Maps.{map_same, map-map, map_at, map_itself}
+use Rattle.laws.proofs.Maps.{map-map, map_at, map_itself}
 use Rattle.laws.proofs.Every.{every_at, every_by, every_map, every_flat}
 use Rattle.laws.proofs.Keep.{every_kept}
 use Rattle.laws.proofs.Flat.{flat_same, flat_map, map-flat}
@@ -27,9 +28,7 @@ use Rattle.rules.specs.declared.Effect.{Effect}
 use Rattle.rules.specs.declared.Pass2Effect.{Pass2Effect}
 use Rattle.info.specs.Stands.{numbered_at}
 use Rattle.search.specs.Bounds.{row_key}
-use Rattle.rows.specs.Tallies.{Tally, id_of, base_of, tally_numbers, narrow?, hit_number, hit_id, OfCollected, tallied, tally_of, Stretch, Answered}
-use Rattle.rows.specs.declared.rows.Laid.{Laid}
-use Rattle.rows.specs.declared.rows.Laid.TheVariants.{Rows, Full}
+use Rattle.rows.specs.Tallies.{Tally, base_of, tally_numbers, hit_number, hit_id, OfCollected, tallied, tally_of, Stretch, Answered}
 use Rattle.rows.specs.Entries.{times, rows_from, row_count, started, effect_number, hits_at, spread_over, hits_in, row_for, rows_for, Counted, Spreading}
 use Rattle.rows.proofs.Defined.{hits_targets, spread_entries, rows_numbers_lem}
 use Rattle.rows.proofs.Begins.{tallied-counted, spreading, begun_keys}
@@ -193,17 +192,17 @@ owned-tallied {i} {ts} {c₀} S q p =
     }
 
 -- what an answer says
-module _ (r : Laid) (i : ℕ) (ts : List Tally) (c₀ c : List (List ℕ)) (b₀ b : List Float) (A : Answered r i ts c₀ c b₀ b) where
-  pub answered_rows : {q : ℕ} → r ≡ Rows q → (q ≡ length ts) × Stretch i ts c₀ c b₀ b
-  answered_rows e = subst (λ (x : Laid). Answered x i ts c₀ c b₀ b) e A
+module _ (r : Option ℕ) (i : ℕ) (ts : List Tally) (c₀ c : List (List ℕ)) (b₀ b : List Float) (A : Answered r i ts c₀ c b₀ b) where
+  pub answered_rows : {q : ℕ} → r ≡ Some q → (q ≡ length ts) × Stretch i ts c₀ c b₀ b
+  answered_rows e = subst (λ (x : Option ℕ). Answered x i ts c₀ c b₀ b) e A
 
-  pub answered_inside : {q : ℕ} → r ≡ Rows q → q ≤ length c
+  pub answered_inside : {q : ℕ} → r ≡ Some q → q ≤ length c
   answered_inside {q} e =
       let S = answered_rows e in
       omega (arith, S.0, S.1.inside, S.1.rows.long)
 
-  pub answered_part : {q : ℕ} → r ≡ Rows q → q ≡ length (take q c)
+  pub answered_part : {q : ℕ} → r ≡ Some q → q ≡ length (take q c)
   answered_part {q} e = sym (length-take-le q c (answered_inside e))
 
-  pub answered_full : r ≡ Full → length c₀ < length ts
-  answered_full e = subst (λ (x : Laid). Answered x i ts c₀ c b₀ b) e A
+  pub answered_full : r ≡ None → length c₀ < length ts
+  answered_full e = subst (λ (x : Option ℕ). Answered x i ts c₀ c b₀ b) e A

@@ -2,16 +2,16 @@
 use Prim.Native.Nat.{ℕ, ◌%◌, ◌<◌}
 use native.Mathlib.Omega.{arith}
 use mathlib.Core.Path.{◌≡◌, refl, sym, ap, ◌∙◌}
-use mathlib.Core.Bool.{Bool, true, false, not, ◌&&◌, ◌||◌, cond}
+use mathlib.Core.Bool.{Bool, true, false, not, ◌&&◌, cond}
 use mathlib.Core.List.{List, map}
 use lib.Dec.{eqb}
 use lib.IntN.{ℤ, pos}
 use lib.ListN.{get_or}
 use mir.Syntax.{w32}
-use mir.Val.{SFits, of_z, to_z}
+use mir.Val.{SFits, to_z}
 use mir.Facts.{to_z-of_z}
 use Rattle.laws.specs.Lists.{eq_z, some?, ascends}
-use Rattle.laws.proofs.Bools.{or_none_right, and_false_right, and_true_right}
+use Rattle.laws.proofs.Bools.{and_false_right, and_true_right}
 use Rattle.rules.specs.Bytes.{count_of}
 use Rattle.rules.specs.Constants.{exempt_categories}
 use Rattle.rules.specs.Sheet.{Book, Fit, fit_of, bases_of}
@@ -28,14 +28,9 @@ use Rattle.info.specs.Sound.{SoundFit}
 use Rattle.info.proofs.Elements.{objects_length}
 use Rattle.info.proofs.Sheets.{numbered, sized}
 use Rattle.info.proofs.Rows.{origin_at, source_at}
-use Rattle.rows.specs.Entries.{exempt_bits, entry_row}
+use Rattle.rows.specs.Entries.{entry_row}
 use Rattle.rows.proofs.Defined.{target_number, quantity_number}
-use Rattle.rows.proofs.Written.{exempt_bits_lem, written}
-
-pub exempt : (c : ℕ) (z : ℤ) → SFits w32 z → c ≡ of_z w32 z → eqb c 6 || (eqb c 8 || (eqb c 16 || (eqb c 20 || (eqb c 32 || eqb c 65)))) ≡ some? (eq_z z) exempt_categories
-exempt c z f e =
-    ap (λ (b : Bool). eqb c 6 || (eqb c 8 || (eqb c 16 || (eqb c 20 || (eqb c 32 || b))))) (sym (or_none_right (eqb c 65)))
-    ∙ ap (λ (m : ℕ). some? (eqb m) exempt_bits) e ∙ exempt_bits_lem z f
+use Rattle.rows.proofs.Written.{written}
 
 buff_category : (f : Fit) (g : Origin) → get_or (origin_numbers g) 0 0 ≡ 1 → pos 0 ≡ source_category f g
 buff_category f (origin.Effect e o c a) h = absurd (omega arith)

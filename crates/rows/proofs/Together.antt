@@ -1,4 +1,5 @@
 -- The lists of the objects, one object after another, each in its own parts of the columns.
+use Rattle.std.specs.Prelude.{Option, Some, None}
 use Prim.Native.Nat.{ℕ, zero, suc, ◌+◌, ◌-◌, ◌≤◌, ◌<◌, ◌^◌}
 use native.Mathlib.Nat.{add-zero, zero-add, add_assoc, not-suc-le-zero, le_of_suc-le-suc}
 use native.Mathlib.Omega.{arith}
@@ -16,9 +17,9 @@ use Rattle.laws.proofs.Maps.{map-map, map_at, map-take}
 use Rattle.laws.proofs.Every.{every_at, every_take, every_drop}
 use Rattle.laws.proofs.Flat.{flat_append}
 use Rattle.laws.proofs.From.{from-length, from_append, from_at, from-take, flat-from-next}
-use Rattle.laws.proofs.Spans.{span_length, span_at, span_map}
+use Rattle.laws.proofs.Spans.{span_length, span_map}
 use Rattle.laws.proofs.Sums.{flat_part}
-use Rattle.laws.proofs.Laid.{laid-length, drop-laid, col_none, col_same, col_append}
+use Rattle.laws.proofs.Laid.{drop-laid, col_none, col_same, col_append}
 use Rattle.rules.specs.Bytes.{bits}
 use Rattle.rules.specs.Sheet.{Book, Fit}
 use Rattle.rules.specs.Item.{object}
@@ -28,10 +29,8 @@ use Rattle.rules.specs.declared.Pass2Effect.{Pass2Effect}
 use Rattle.info.specs.Stands.{numbered_at}
 use Rattle.rows.specs.Tallies.{hit_number, OfCollected}
 use Rattle.rows.specs.Entries.{hits_in, rows_for}
-use Rattle.rows.specs.declared.rows.Laid.{Laid}
-use Rattle.rows.specs.declared.rows.Laid.TheVariants.{Rows, Full}
 use Rattle.rows.specs.Effects.{Effects, Listing}
-use Rattle.rows.specs.Laying.{entries_of, EntriesLaid, RowsLaid, ObjectLaid}
+use Rattle.rows.specs.Laying.{entries_of, ObjectLaid}
 use Rattle.rows.specs.Parts.{hits_to, Parts, Parting, part_rows, rows_to, ListsLaid, AllLaid}
 use Rattle.rows.proofs.Owned.{numbers_length}
 
@@ -235,23 +234,23 @@ module _ (k : Book) (f : Fit) (c : List (List ℕ)) (v : List Float) (objects : 
         pub turn_stretch : length (take (room - n) (drop n rows)) ≡ length (take (room - n) (drop n bases))
         turn_stretch = stretch_long ∙ sym (span_length n (room - n) bases (omega (arith, T.inside, T.bases_long)))
 
-        module _ (r : Laid) (rows' : List (List ℕ)) (bases' : List Float) (segment' : List (List ℕ)) (values' : List Float)
+        module _ (r : Option ℕ) (rows' : List (List ℕ)) (bases' : List Float) (segment' : List (List ℕ)) (values' : List Float)
             (got : (es : List Pass2Effect) → Effects es c v objects → ObjectLaid r e (rows_for k f (object f i) (hits_in es segment)) (take (room - n) (drop n rows)) rows' (take (room - n) (drop n bases)) bases' segment' values') where
           -- the answer, for the parts
-          answer : (es : List Pass2Effect) (part : ℕ → List ℕ) → Effects es c v objects → Parts part objects entries₀ ends → (q : Laid) → r ≡ q
+          answer : (es : List Pass2Effect) (part : ℕ → List ℕ) → Effects es c v objects → Parts part objects entries₀ ends → (q : Option ℕ) → r ≡ q
               → ObjectLaid q e (part_rows k f es part i) (take (room - n) (drop n rows)) rows' (take (room - n) (drop n bases)) bases' segment' values'
           answer es part E Q q s =
-              subst (λ (x : Laid). ObjectLaid x e (part_rows k f es part i) (take (room - n) (drop n rows)) rows' (take (room - n) (drop n bases)) bases' segment' values') s
+              subst (λ (x : Option ℕ). ObjectLaid x e (part_rows k f es part i) (take (room - n) (drop n rows)) rows' (take (room - n) (drop n bases)) bases' segment' values') s
               (subst (λ (rs : List Row). ObjectLaid r e rs (take (room - n) (drop n rows)) rows' (take (room - n) (drop n bases)) bases' segment' values') (turn_rows es part Q) (got es E))
 
           -- no room for the rows of object i is no room for all
-          pub turn-full : r ≡ Full → (es : List Pass2Effect) (part : ℕ → List ℕ) → Effects es c v objects → Parts part objects entries₀ ends → room < length (rows_to k f es part objects)
+          pub turn-full : r ≡ None → (es : List Pass2Effect) (part : ℕ → List ℕ) → Effects es c v objects → Parts part objects entries₀ ends → room < length (rows_to k f es part objects)
           turn-full s es part E Q =
-              let less : length (take (room - n) (drop n rows)) < length (part_rows k f es part i) = answer es part E Q Full s in
+              let less : length (take (room - n) (drop n rows)) < length (part_rows k f es part i) = answer es part E Q None s in
               let all = to_most (part_rows k f es part) (i + 1) objects (omega arith) in
               omega (arith, less, all, stretch_long, to_next_length (part_rows k f es part) i, (T.sofar es part E Q).count, T.inside)
 
-          module _ {more : ℕ} (s : r ≡ Rows more) (kept : length segment' ≡ length segment) (also : length values' ≡ length (take (end - e) (drop e values)))
+          module _ {more : ℕ} (s : r ≡ Some more) (kept : length segment' ≡ length segment) (also : length values' ≡ length (take (end - e) (drop e values)))
               {rows'' : List (List ℕ)} {bases'' : List Float} {entries'' : List (List ℕ)} {values'' : List Float}
               (er : rows'' ≡ take n rows ++ (rows' ++ drop (room - n) (drop n rows))) (eb : bases'' ≡ take n bases ++ (bases' ++ drop (room - n) (drop n bases)))
               (ee : entries'' ≡ take e entries ++ (segment' ++ drop (end - e) (drop e entries))) (ev : values'' ≡ take e values ++ (values' ++ drop (end - e) (drop e values))) where
@@ -281,8 +280,8 @@ module _ (k : Book) (f : Fit) (c : List (List ℕ)) (v : List Float) (objects : 
                 K : Sofar es part i n e rows bases entries values
                 K = T.sofar es part E Q
 
-                A : ObjectLaid (Rows more) e (part_rows k f es part i) (take (room - n) (drop n rows)) rows' (take (room - n) (drop n bases)) bases' segment' values'
-                A = answer es part E Q (Rows more) s
+                A : ObjectLaid (Some more) e (part_rows k f es part i) (take (room - n) (drop n rows)) rows' (take (room - n) (drop n bases)) bases' segment' values'
+                A = answer es part E Q (Some more) s
 
                 old : List Row
                 old = rows_to k f es part i
@@ -304,7 +303,7 @@ module _ (k : Book) (f : Fit) (c : List (List ℕ)) (v : List Float) (objects : 
             pub turn-next : Turns (i + 1) (n + more) end rows'' bases'' entries'' values''
             turn-next =
                 let N = next L.effects P.part L.listed P.parts in
-                let A = answer L.effects P.part L.listed P.parts (Rows more) s in
+                let A = answer L.effects P.part L.listed P.parts (Some more) s in
                 record {
                   within = omega arith;
                   inside = omega (arith, A.0, A.1.inside, stretch_long, T.inside);
@@ -317,9 +316,9 @@ module _ (k : Book) (f : Fit) (c : List (List ℕ)) (v : List Float) (objects : 
 
   -- all objects
   pub turns_all : {i n e : ℕ} {rows : List (List ℕ)} {bases : List Float} {entries : List (List ℕ)} {values : List Float} → Turns i n e rows bases entries values → objects ≤ i
-      → (es : List Pass2Effect) (part : ℕ → List ℕ) → Effects es c v objects → Parts part objects entries₀ ends → AllLaid (Rows n) room (hits_to part objects) (rows_to k f es part objects) rows₀ rows bases₀ bases entries₀ entries values₀ values
+      → (es : List Pass2Effect) (part : ℕ → List ℕ) → Effects es c v objects → Parts part objects entries₀ ends → AllLaid (Some n) room (hits_to part objects) (rows_to k f es part objects) rows₀ rows bases₀ bases entries₀ entries values₀ values
   turns_all {i} {n} {e} {rows} {bases} {entries} {values} T h es part E Q =
       let same : i ≡ objects = omega (arith, T.within) in
       let K = T.sofar es part E Q in
-      subst (λ (m : ℕ). AllLaid (Rows n) room (hits_to part m) (rows_to k f es part m) rows₀ rows bases₀ bases entries₀ entries values₀ values) same
+      subst (λ (m : ℕ). AllLaid (Some n) room (hits_to part m) (rows_to k f es part m) rows₀ rows bases₀ bases entries₀ entries values₀ values) same
       (K.count, rw (sym K.count) T.inside, sym K.own ∙ K.start, K.laid)

@@ -1,22 +1,13 @@
 -- An entry written out from its effect's row of list 1.
-use Prim.Native.Nat.{ℕ, ◌<◌, ◌%◌}
+use Rattle.std.specs.Prelude.{None, Some}
+use Prim.Native.Nat.{ℕ}
 use mathlib.Core.Path.{◌≡◌, refl, sym, ap, ◌∙◌}
-use mathlib.Core.Bool.{Bool, true, false, not, ◌&&◌, ◌||◌, cond}
-use mathlib.Core.List.{List, [], ◌∷◌, ◌++◌, append_assoc}
-use lib.Dec.{eqb}
-use lib.IntN.{ℤ, pos}
-use lib.ListN.{get_or}
-use mir.Syntax.{w32}
-use mir.Val.{SFits, of_z}
-use mir.Facts.{sfits_lit}
-use Rattle.laws.specs.Lists.{eq_z, some?}
-use Rattle.laws.proofs.Signs.{eq_z-bits}
+use mathlib.Core.Bool.{Bool}
+use mathlib.Core.List.{List, [], ◌∷◌, ◌++◌}
 use Rattle.rules.specs.Bytes.{bits}
 use Rattle.rules.specs.Codes.{operator_code}
-use Rattle.rules.specs.Constants.{exempt_categories}
 use Rattle.rules.specs.Sheet.{Book, Fit}
-use Rattle.rules.specs.Info.{get_dogma_attribute, stackable}
-use Rattle.rules.specs.Dispatch.{source_category, is_source, Numbered, entry}
+use Rattle.rules.specs.Dispatch.{Numbered, entry}
 use Rattle.rules.specs.Columns.{yes1, origin_numbers, modifier_numbers, optional_numbers, collected_numbers, entry_numbers}
 use Rattle.rules.specs.declared.Item.{Item}
 use Rattle.rules.specs.declared.Pass2Effect.{Pass2Effect}
@@ -24,21 +15,8 @@ use Rattle.rules.specs.declared.Origin.{Origin}
 use Rattle.rules.specs.declared.Origin.TheVariants as origin
 use Rattle.rules.specs.declared.Modifier.{Modifier}
 use Rattle.rules.specs.declared.Modifier.TheVariants.{LocationRequiredSkillModifier, LocationGroupModifier, LocationModifier, OwnerRequiredSkillModifier, ItemModifier}
-use Rattle.rules.specs.declared.OptionalId.{OptionalId}
-use Rattle.rules.specs.declared.OptionalId.TheVariants.{Absent, Given}
-use Rattle.rows.specs.Entries.{exempt_bits, entry_row}
-
--- the exempt categories by their bits
-pub exempt_bits_lem : (c : ℤ) → SFits w32 c → some? (eqb (of_z w32 c)) exempt_bits ≡ some? (eq_z c) exempt_categories
-exempt_bits_lem c f =
-    rw (
-      eq_z-bits {w = w32} c (pos 6) f (sfits_lit tt),
-      eq_z-bits {w = w32} c (pos 8) f (sfits_lit tt),
-      eq_z-bits {w = w32} c (pos 16) f (sfits_lit tt),
-      eq_z-bits {w = w32} c (pos 20) f (sfits_lit tt),
-      eq_z-bits {w = w32} c (pos 32) f (sfits_lit tt),
-      eq_z-bits {w = w32} c (pos 65) f (sfits_lit tt),
-    ) refl
+use Rattle.rules.specs.Ids.{OptionalId}
+use Rattle.rows.specs.Entries.{entry_row}
 
 -- a modifier's two numbers
 record Two (l : List ℕ) : Type 0 where
@@ -58,10 +36,10 @@ abbrev row : Origin → List ℕ → OptionalId → ℕ → ℕ → ℕ → ℕ 
 row g m r op quantity target a = origin_numbers g ++ m ++ (op ∷ quantity ∷ target ∷ a ∷ optional_numbers r)
 
 written-by : (g : Origin) (r : OptionalId) (x y op quantity target a p q n : ℕ) → entry_row (row g (x ∷ y ∷ []) r op quantity target a) p q n ≡ origin_numbers g ++ (op ∷ p ∷ q ∷ (optional_numbers r ++ (n ∷ [])))
-written-by (origin.Effect e o c i) Absent x y op quantity target a p q n = refl
-written-by (origin.Effect e o c i) (Given b) x y op quantity target a p q n = refl
-written-by (origin.Buff b v) Absent x y op quantity target a p q n = refl
-written-by (origin.Buff b v) (Given d) x y op quantity target a p q n = refl
+written-by (origin.Effect e o c i) None x y op quantity target a p q n = refl
+written-by (origin.Effect e o c i) (Some b) x y op quantity target a p q n = refl
+written-by (origin.Buff b v) None x y op quantity target a p q n = refl
+written-by (origin.Buff b v) (Some d) x y op quantity target a p q n = refl
 
 module _ (k : Book) (f : Fit) (o : Item) (x : Numbered) where
   abbrev t : Pass2Effect

@@ -1,13 +1,11 @@
 -- What the lists hold of rows of the definition. Definitions only.
-use Rattle.std.specs.Prelude.{ℕ, ◌≤◌, ◌<◌, ◌≡◌, true, List, [], map, Float, length}
+use Rattle.std.specs.Prelude.{ℕ, ◌≤◌, ◌<◌, ◌≡◌, true, List, [], map, Float, length, Option, Some, None}
 use Rattle.laws.specs.Lists.{every?, flat}
 use Rattle.laws.specs.Columns.{Col}
 use Rattle.rules.specs.Dispatch.{Row}
 use Rattle.rules.specs.Columns.{origin_value, rows_numbers, entry_numbers}
 use Rattle.rules.specs.declared.Effect.{Effect}
 use Rattle.rows.specs.Tallies.{Tally, id_of, tally_numbers, narrow?}
-use Rattle.rows.specs.declared.rows.Laid.{Laid}
-use Rattle.rows.specs.declared.rows.Laid.TheVariants.{Rows, Full}
 
 -- rows of object i as its hits left them
 pub record Tallied (i : ℕ) (ts : List Tally) (rows : List (List ℕ)) : Type 0 where
@@ -29,6 +27,6 @@ pub record RowsLaid (e : ℕ) (rs : List Row) (c₀ c : List (List ℕ)) (b₀ b
   pub bases : Col (λ r. r.base) rs b₀ b
 
 -- both; or the rows are too many
-abbrev pub ObjectLaid : Laid → ℕ → List Row → List (List ℕ) → List (List ℕ) → List Float → List Float → List (List ℕ) → List Float → Type 0
-ObjectLaid (Rows n) e rs c₀ c b₀ b s v = (n ≡ length rs) × RowsLaid e rs c₀ c b₀ b × EntriesLaid rs s v
-ObjectLaid Full e rs c₀ c b₀ b s v = length c₀ < length rs
+abbrev pub ObjectLaid : Option ℕ → ℕ → List Row → List (List ℕ) → List (List ℕ) → List Float → List Float → List (List ℕ) → List Float → Type 0
+ObjectLaid (Some n) e rs c₀ c b₀ b s v = (n ≡ length rs) × RowsLaid e rs c₀ c b₀ b × EntriesLaid rs s v
+ObjectLaid None e rs c₀ c b₀ b s v = length c₀ < length rs

@@ -1,5 +1,5 @@
 -- The lists of all objects, whose hits stand in list 3 by object. Definitions only.
-use Rattle.std.specs.Prelude.{ℕ, ◌+◌, ◌≤◌, ◌<◌, ◌^◌, ◌≡◌, true, List, [], map, ltb, Float, length, get_or, take}
+use Rattle.std.specs.Prelude.{ℕ, ◌+◌, ◌≤◌, ◌<◌, ◌^◌, ◌≡◌, true, List, [], map, ltb, Float, length, get_or, take, Option, Some, None}
 use Rattle.laws.specs.Lists.{every?, flat, from}
 use Rattle.laws.specs.Columns.{Col}
 use Rattle.rules.specs.Sheet.{Book, Fit}
@@ -10,8 +10,6 @@ use Rattle.rules.specs.declared.Pass2Effect.{Pass2Effect}
 use Rattle.info.specs.Stands.{numbered_at}
 use Rattle.rows.specs.Tallies.{hit_number}
 use Rattle.rows.specs.Entries.{rows_for}
-use Rattle.rows.specs.declared.rows.Laid.{Laid}
-use Rattle.rows.specs.declared.rows.Laid.TheVariants.{Rows, Full}
 use Rattle.rows.specs.Laying.{entries_of}
 
 -- how many hits the first n objects have
@@ -47,6 +45,6 @@ pub record ListsLaid (rs : List Row) (r₀ r : List (List ℕ)) (b₀ b : List F
   pub values : Col (λ x. origin_value x.origin) (entries_of rs) v₀ v
 
 -- with so many entries; or there is no room for the rows
-abbrev pub AllLaid : Laid → ℕ → ℕ → List Row → List (List ℕ) → List (List ℕ) → List Float → List Float → List (List ℕ) → List (List ℕ) → List Float → List Float → Type 0
-AllLaid (Rows n) room m rs r₀ r b₀ b e₀ e v₀ v = (n ≡ length rs) × (length rs ≤ room) × (length (entries_of rs) ≡ m) × ListsLaid rs r₀ r b₀ b e₀ e v₀ v
-AllLaid Full room m rs r₀ r b₀ b e₀ e v₀ v = room < length rs
+abbrev pub AllLaid : Option ℕ → ℕ → ℕ → List Row → List (List ℕ) → List (List ℕ) → List Float → List Float → List (List ℕ) → List (List ℕ) → List Float → List Float → Type 0
+AllLaid (Some n) room m rs r₀ r b₀ b e₀ e v₀ v = (n ≡ length rs) × (length rs ≤ room) × (length (entries_of rs) ≡ m) × ListsLaid rs r₀ r b₀ b e₀ e v₀ v
+AllLaid None room m rs r₀ r b₀ b e₀ e v₀ v = room < length rs

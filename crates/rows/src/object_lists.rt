@@ -14,7 +14,7 @@ ghost use Rattle.rows.specs.Laying.{Tallied, EntriesLaid};
 ghost use Rattle.rows.specs.Parts.{hits_to, Parts, Parting, rows_to};
 
 use super::entries::write_entries;
-use super::rows::{Hints, Laid, object_rows};
+use super::rows::{Hints, object_rows};
 use super::spread::{set_firsts, spread};
 use columns::{
     AttributePlaces, AttributeRow, CollectedRow, EntryRow, Places, TABLE_OBJECTS, TablePairs,
@@ -79,7 +79,7 @@ pub fn object_lists(
     places: &AttributePlaces,
     i: usize,
     from: u32,
-) -> Laid
+) -> Option<usize>
     requires sound_book { SoundBook book.now pairs.now }
     requires sound_fit { SoundFit fit.now pairs.now }
     requires an_object { i < count_of pairs.now 6 }
@@ -89,12 +89,9 @@ pub fn object_lists(
     ensures laid { (es : List Pass2Effect) → Holding es collected collected_values pairs
         → ObjectLaidAt result from (rows_of book fit pairs i segment es) rows bases segment values }
 {
-    let laid = object_rows(
+    let k = object_rows(
         rows, bases, segment, collected, book, fit, pairs, places, hints, i,
-    );
-    let Laid::Rows(k) = laid else {
-        return Laid::Full;
-    };
+    )?;
     object_entries(
         &mut rows[..k],
         segment,
@@ -109,7 +106,7 @@ pub fn object_lists(
         i as u32,
         from,
     );
-    Laid::Rows(k)
+    Some(k)
 }
 
 // The rows and entries of all objects, whose segments end at `ends`: how many rows there are, or that they are more than the room.
@@ -127,7 +124,7 @@ pub fn all_lists(
     pairs: &TablePairs,
     places: &AttributePlaces,
     room: usize,
-) -> Laid
+) -> Option<usize>
     requires sound_book { SoundBook book.now pairs.now }
     requires sound_fit { SoundFit fit.now pairs.now }
     requires listed { Listing collected.now collected_values.now (count_of pairs.now 6) }
@@ -140,10 +137,9 @@ pub fn all_lists(
     let objects = count_of(pairs, TABLE_OBJECTS);
     let mut n: usize = 0;
     let mut from: usize = 0;
-    let mut i: usize = 0;
-    while i < objects {
+    for i in 0..objects {
         let end = index(ends[i]);
-        let got = object_lists(
+        n += object_lists(
             &mut rows[n..room],
             &mut bases[n..room],
             &mut entries[from..end],
@@ -157,13 +153,8 @@ pub fn all_lists(
             places,
             i,
             from as u32,
-        );
-        let Laid::Rows(more) = got else {
-            return Laid::Full;
-        };
-        n += more;
+        )?;
         from = end;
-        i += 1;
     }
-    Laid::Rows(n)
+    Some(n)
 }

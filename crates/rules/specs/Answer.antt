@@ -2,8 +2,11 @@
 use Rattle.std.specs.Prelude.{ℕ}
 use Rattle.rules.specs.declared.Refusal.{Refusal}
 use Rattle.rules.specs.declared.Refusal.TheVariants.{Shape, Func, Domain, Category, Operation, Other, Room, Number, Depth}
-use Rattle.rules.specs.declared.Answer.{Answer}
-use Rattle.rules.specs.declared.Answer.TheVariants.{Done, Refused}
+
+-- 01, "What comes back": what a run answers
+pub data Answer : Type 0 where
+  Done : Answer
+  Refused : Refusal → Answer
 
 -- 01, "What comes back", the first column
 abbrev pub number : Answer → ℕ

@@ -1,6 +1,6 @@
 -- Collection: which modifiers are taken, in order, and what is refused on the way. `pass_2.rs` up to the dispatch; 01, "Collection".
 -- It is a list of moves: a modifier taken (list 1), an effect without modifiers (list 4), or a refusal, which ends the run.
-use Rattle.std.specs.Prelude.{ℕ, suc, Bool, true, false, ◌&&◌, ◌||◌, not, cond, List, [], ◌∷◌, ◌++◌, ℤ, pos, leb, eqb}
+use Rattle.std.specs.Prelude.{ℕ, suc, Bool, true, false, ◌&&◌, ◌||◌, not, cond, List, [], ◌∷◌, ◌++◌, ℤ, pos, leb, eqb, None, Some}
 use Rattle.std.proofs.Math.Option.{Option, none, some}
 use Rattle.laws.specs.Lists.{eq_z, some?, keep, flat, span}
 use Rattle.rules.specs.Constants.{upgrade_load, remote_resistance}
@@ -21,8 +21,7 @@ use Rattle.rules.specs.declared.EffectOperator.{EffectOperator}
 use Rattle.rules.specs.declared.Modifier.{Modifier}
 use Rattle.rules.specs.declared.Modifier.TheVariants.{LocationRequiredSkillModifier, LocationGroupModifier, LocationModifier, OwnerRequiredSkillModifier, ItemModifier}
 use Rattle.rules.specs.declared.Origin.TheVariants.{Effect, Buff}
-use Rattle.rules.specs.declared.OptionalId.{OptionalId}
-use Rattle.rules.specs.declared.OptionalId.TheVariants.{Absent, Given}
+use Rattle.rules.specs.Ids.{OptionalId}
 use Rattle.rules.specs.declared.Pass2Effect.{Pass2Effect}
 use Rattle.rules.specs.declared.Refusal.{Refusal}
 use Rattle.rules.specs.declared.Refusal.TheVariants.{Func, Domain, Category, Operation, Other}
@@ -99,7 +98,7 @@ module _ (k : Book) (f : Fit) (o : Item) where
         source_quantity = o.quantity;
         target = target;
         target_attribute_id = m.modified_attribute_id;
-        resistance = Absent;
+        resistance = None;
       }) ∷ []))
 
   -- a fighter's effect that is not Passive is an ability, and the fit picks which run; a side effect is one that the fit names
@@ -132,7 +131,7 @@ module _ (k : Book) (f : Fit) (o : Item) where
 
 -- `get_resistance`: attribute 2138 names it, or else the effect does; 0 is none; "Min, max, resistance and usage chance 0 mean none"
 abbrev pub unless_zero : ℤ → OptionalId → OptionalId
-unless_zero a other = cond (eq_z a (pos 0)) other (Given a)
+unless_zero a other = cond (eq_z a (pos 0)) other (Some a)
 
 -- "Attribute 2138 at 0.9, the effect's own resistance 0: none"
 abbrev pub named : Fit → Item → ℤ
@@ -151,7 +150,7 @@ projected_modifier_moves f o e c m =
       source_quantity = o.quantity;
       target = target;
       target_attribute_id = m.modified_attribute_id;
-      resistance = unless_zero (named f o) (unless_zero e.resistance_attribute_id Absent);
+      resistance = unless_zero (named f o) (unless_zero e.resistance_attribute_id None);
     }) ∷ []
 
 -- "An effect with no modifiers goes to the plain list, unless projected"
@@ -177,7 +176,7 @@ buff_modifier_moves b op m =
       source_quantity = 1;
       target = 0;
       target_attribute_id = m.modified_attribute_id;
-      resistance = Absent;
+      resistance = None;
     }) ∷ []
 
 -- "Buffs test operation before any modifier"; "A missing effect or buff collection is passed over"

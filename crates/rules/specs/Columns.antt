@@ -1,6 +1,6 @@
 -- What every lent column holds after a run, by the length that was lent. 01, "What comes back"; after a refusal every list is empty,
 -- so each column is all zeros. What may be absent has a 0 or 1 beside it, and is 0 when absent; a signed number is its 32 bits.
-use Rattle.std.specs.Prelude.{ℕ, ◌+◌, Bool, true, false, List, [], ◌∷◌, ◌++◌, map, length, replicate, Float}
+use Rattle.std.specs.Prelude.{ℕ, ◌+◌, Bool, true, false, List, [], ◌∷◌, ◌++◌, map, length, replicate, Float, None, Some}
 use Rattle.std.proofs.Math.Option.{get_or}
 use Rattle.laws.specs.Lists.{flat}
 use Rattle.laws.specs.Floats.{zero_f}
@@ -21,8 +21,7 @@ use Rattle.rules.specs.declared.Origin.{Origin}
 use Rattle.rules.specs.declared.Origin.TheVariants as origin
 use Rattle.rules.specs.declared.Modifier.{Modifier}
 use Rattle.rules.specs.declared.Modifier.TheVariants.{LocationRequiredSkillModifier, LocationGroupModifier, LocationModifier, OwnerRequiredSkillModifier, ItemModifier}
-use Rattle.rules.specs.declared.OptionalId.{OptionalId}
-use Rattle.rules.specs.declared.OptionalId.TheVariants.{Absent, Given}
+use Rattle.rules.specs.Ids.{OptionalId}
 
 -- "yes is 1"
 abbrev pub yes1 : Bool → ℕ
@@ -31,8 +30,8 @@ yes1 false = 0
 
 -- "what may be absent has a 0 or 1 beside it, and is 0 when absent"
 abbrev pub optional_numbers : OptionalId → List ℕ
-optional_numbers Absent = 0 ∷ 0 ∷ []
-optional_numbers (Given a) = 1 ∷ bits a ∷ []
+optional_numbers None = 0 ∷ 0 ∷ []
+optional_numbers (Some a) = 1 ∷ bits a ∷ []
 
 -- 0 effect or 1 buff, effect id, source, source category, modifying attribute, buff id; and the buff's value beside them
 -- "Codes are the sheet's, objects go by number"

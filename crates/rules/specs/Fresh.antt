@@ -1,5 +1,5 @@
 -- Values with no memory, and what leads back to itself. 01, "How much the contracts say": "Demand 3 is stated over the memoryless definition".
-use Rattle.std.specs.Prelude.{ℕ, zero, suc, Bool, true, false, cond, List, [], ◌∷◌, ◌++◌, length, ℤ, pos, T, eqb, Float}
+use Rattle.std.specs.Prelude.{ℕ, zero, suc, Bool, true, false, cond, List, [], ◌∷◌, ◌++◌, length, ℤ, pos, T, eqb, Float, None, Some}
 use Rattle.std.proofs.Math.Option.{Option, none, some}
 use Rattle.laws.specs.Lists.{eq_z, some?, keep, flat}
 use Rattle.rules.specs.Answer.{Res, ok, refused, ◌>>=◌}
@@ -11,8 +11,7 @@ use Rattle.rules.specs.Value.{World, Reader, find_row, calculate}
 use Rattle.rules.specs.declared.Effect.{Effect}
 use Rattle.rules.specs.declared.Origin.{Origin}
 use Rattle.rules.specs.declared.Origin.TheVariants as origin
-use Rattle.rules.specs.declared.OptionalId.{OptionalId}
-use Rattle.rules.specs.declared.OptionalId.TheVariants.{Absent, Given}
+use Rattle.rules.specs.Ids.{OptionalId}
 use Rattle.rules.specs.declared.Refusal.TheVariants.{Depth}
 
 -- the same rows with nothing recorded
@@ -43,8 +42,8 @@ abbrev pub limit : ℕ → ℤ → List Key
 limit o a = cond (eq_z a (pos 0)) [] (record { object = o; id = a } ∷ [])
 
 abbrev pub resistance_needs : OptionalId → List Key
-resistance_needs Absent = []
-resistance_needs (Given a) = record { object = 0; id = a } ∷ []
+resistance_needs None = []
+resistance_needs (Some a) = record { object = 0; id = a } ∷ []
 
 abbrev pub entry_needs : OptionalId → Origin → List Key
 entry_needs res (origin.Buff b v) = []

@@ -1,4 +1,5 @@
 pub mod Answer
+pub mod Ids
 pub mod Codes
 pub mod Number
 pub mod Operate

@@ -1,5 +1,5 @@
 -- What the program `sheet` prints, as bytes of ASCII. 01, "The listing".
-use Rattle.std.specs.Prelude.{ℕ, zero, suc, ◌+◌, ◌/◌, ◌%◌, Bool, true, false, List, [], ◌∷◌, ◌++◌, length, ℤ, pos, negsuc, Float}
+use Rattle.std.specs.Prelude.{ℕ, zero, suc, ◌+◌, ◌/◌, ◌%◌, Bool, true, false, List, [], ◌∷◌, ◌++◌, length, ℤ, pos, negsuc, Float, None, Some, Option}
 use Prim.Native.Char.{code}
 use Prim.Native.String.{String}
 use Prim.Native.String as text
@@ -8,9 +8,8 @@ use Rattle.rules.specs.Number.{hundredths_of}
 use Rattle.rules.specs.Dispatch.{Row}
 use Rattle.rules.specs.Outcome.{Done}
 use Rattle.rules.specs.Columns.{value_list}
-use Rattle.rules.specs.declared.Answer.TheVariants.{Refused}
+use Rattle.rules.specs.Answer.{Refused}
 use Rattle.rules.specs.declared.Hundredths.{Hundredths}
-use Rattle.rules.specs.declared.Hundredths.TheVariants.{Rounded, Star}
 
 -- the bytes of a text
 abbrev pub ascii : String → List ℕ
@@ -35,9 +34,9 @@ minus_if true = ascii "-"
 minus_if false = []
 
 -- "two decimals", `*` from 10 ^ 12 in size up
-unfoldable pub decimals : Hundredths → List ℕ
-decimals Star = ascii "*"
-decimals (Rounded s c) = minus_if s ++ (natural (c / 100) ++ (ascii "." ++ ((48 + c / 10 % 10) ∷ (48 + c % 10) ∷ [])))
+unfoldable pub decimals : Option Hundredths → List ℕ
+decimals None = ascii "*"
+decimals (Some h) = minus_if h.minus ++ (natural (h.count / 100) ++ (ascii "." ++ ((48 + h.count / 10 % 10) ∷ (48 + h.count % 10) ∷ [])))
 
 -- "per row: object number, attribute id, value"; "One space between fields; lines end in LF"
 unfoldable pub line : Row → Float → List ℕ

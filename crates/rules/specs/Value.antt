@@ -1,5 +1,5 @@
 -- Values: an attribute's value from its base and its entries, with the memory of those already valued. `pass_3.rs`; 01, "Values".
-use Rattle.std.specs.Prelude.{ℕ, zero, suc, ◌-◌, min, Bool, true, false, ◌&&◌, ◌||◌, cond, List, [], ◌∷◌, ◌++◌, get_or, set, length, ℤ, pos, leb, ltb, eqb, Float}
+use Rattle.std.specs.Prelude.{ℕ, zero, suc, ◌-◌, min, Bool, true, false, ◌&&◌, ◌||◌, cond, List, [], ◌∷◌, ◌++◌, get_or, set, length, ℤ, pos, leb, ltb, eqb, Float, None, Some}
 use Rattle.std.proofs.Math.Option.{Option, none, some}
 use Rattle.std.specs.Float.Ieee.{lt}
 use Rattle.laws.specs.Lists.{eq_z}
@@ -16,8 +16,7 @@ use Rattle.rules.specs.Dispatch.{Row}
 use Rattle.rules.specs.declared.Effect.{Effect}
 use Rattle.rules.specs.declared.Origin.{Origin}
 use Rattle.rules.specs.declared.Origin.TheVariants as origin
-use Rattle.rules.specs.declared.OptionalId.{OptionalId}
-use Rattle.rules.specs.declared.OptionalId.TheVariants.{Absent, Given}
+use Rattle.rules.specs.Ids.{OptionalId}
 use Rattle.rules.specs.declared.EffectOperator.{EffectOperator}
 use Rattle.rules.specs.declared.EffectOperator.TheVariants.{PreAssign}
 use Rattle.rules.specs.declared.ItemState.{ItemState}
@@ -35,12 +34,12 @@ from_of (origin.Effect e o c a) = Object o
 from_of (origin.Buff b v) = Buff b
 
 abbrev pub effect_id_of : Origin → OptionalId
-effect_id_of (origin.Effect e o c a) = Given e
-effect_id_of (origin.Buff b v) = Absent
+effect_id_of (origin.Effect e o c a) = Some e
+effect_id_of (origin.Buff b v) = None
 
 abbrev pub source_attribute_id_of : Origin → OptionalId
-source_attribute_id_of (origin.Effect e o c a) = Given a
-source_attribute_id_of (origin.Buff b v) = Absent
+source_attribute_id_of (origin.Effect e o c a) = Some a
+source_attribute_id_of (origin.Buff b v) = None
 
 -- the lowest state of its source that would do; "Passive for a buff's"
 abbrev pub needed_state : Origin → ItemState
@@ -83,8 +82,8 @@ abbrev pub no_source : Source
 no_source =
     record {
       «from» = Object 0;
-      effect_id = Absent;
-      source_attribute_id = Absent;
+      effect_id = None;
+      source_attribute_id = None;
       operator = PreAssign;
       value = zero_f;
       quantity = 0;
@@ -187,8 +186,8 @@ module _ (w : World) (i : ℕ) (row : Row) where
   module _ (read : Reader) where
     -- by the ship's resistance, where one is named; "through sources, clamps and resistances"
     unfoldable pub resisted : OptionalId → Read → Res Read
-    resisted Absent r = ok r
-    resisted (Given a) r = do
+    resisted None r = ok r
+    resisted (Some a) r = do
       q ← read 0 a r.mem
       v ← number_at row.object (times r.value q.value)
       ok (record { value = v; mem = q.mem })

@@ -24,7 +24,7 @@ pub const CATEGORY_FIGHTER: i32 = 87;
 // Ship, Charge, Skill, Implant, Subsystem and Structure (pass_2.rs).
 pub const EXEMPT_PENALTY_CATEGORY_IDS: [i32; 6] = [6, 8, 16, 20, 32, 65];
 
-// Kinds of objects.
+// Kinds of objects, and slots: numbers, since the definition's Item has those of the sheet, which SHAPE tests once a record is read (Shape.object_good).
 pub const SHIP: u32 = 0;
 
 pub const MODE: u32 = 1;
@@ -94,13 +94,6 @@ pub enum EffectOperator {
     PostAssign,
 }
 
-// An id that may be absent.
-#[derive(Clone, Copy)]
-pub enum OptionalId {
-    Absent,
-    Given(i32),
-}
-
 // Where a modifier comes from, and where its strength is read. Objects go by their number.
 #[derive(Clone, Copy)]
 pub enum Origin {
@@ -135,7 +128,7 @@ pub struct Pass2Effect {
     pub source_quantity: u32,
     pub target: u32,
     pub target_attribute_id: i32,
-    pub resistance: OptionalId,
+    pub resistance: Option<i32>,
 }
 
 // An entry of an attribute row: a row of list 3. Its number is its effect's row in list 1, from 0.
@@ -145,7 +138,7 @@ pub struct Effect {
     pub operator: EffectOperator,
     pub penalty: bool,
     pub quantity: u32,
-    pub resistance: OptionalId,
+    pub resistance: Option<i32>,
     pub number: u32,
 }
 
@@ -163,12 +156,12 @@ pub struct RunsAt {
     pub lowest: ItemState,
 }
 
-// A source row, one record by value with its two floats: a row of list 5. Its state is the lowest of its source that would do.
+// A source row, a record by value with its two floats and a flag for the penalty, as 01 has it. Its state is the lowest of its source that would do.
 #[derive(Clone, Copy)]
 pub struct Source {
     pub from: SourceRef,
-    pub effect_id: OptionalId,
-    pub source_attribute_id: OptionalId,
+    pub effect_id: Option<i32>,
+    pub source_attribute_id: Option<i32>,
     pub operator: EffectOperator,
     pub value: f64,
     pub quantity: u32,
@@ -178,18 +171,11 @@ pub struct Source {
     pub state: ItemState,
 }
 
-// A float step's result.
+// A value as the listing has it: how many hundredths, and whether a minus stands before them.
 #[derive(Clone, Copy)]
-pub enum Step {
-    Finite(f64),
-    NotFinite,
-}
-
-// A value as the listing has it: how many hundredths, and whether a minus stands before them; or it is too large.
-#[derive(Clone, Copy)]
-pub enum Hundredths {
-    Rounded { minus: bool, count: u64 },
-    Star,
+pub struct Hundredths {
+    pub minus: bool,
+    pub count: u64,
 }
 
 // Table 1.
@@ -301,11 +287,4 @@ pub enum Refusal {
     Room(u32),
     Number(u32),
     Depth(u32),
-}
-
-// What a run answers.
-#[derive(Clone, Copy)]
-pub enum Answer {
-    Done,
-    Refused(Refusal),
 }

@@ -14,18 +14,14 @@ use Rattle.rules.specs.declared.Refusal.{Refusal}
 use Rattle.info.specs.Sound.{SoundFit}
 use Rattle.info.proofs.Elements.{objects_length}
 use Rattle.states.specs.Raised.{rows_of}
-use Rattle.run.specs.Listing.{lists_in, RoomsOf, RoomsLent, CountsOf, ListsHeld, ListedAs, RowsWithin}
+use Rattle.run.specs.Listing.{lists_in, RoomsOf, RoomsLent, CountsOf, ListsHeld, ListedAs}
 use Rattle.run.specs.declared.lists.ListCounts as lists
 use Rattle.run.specs.declared.lists.ListRooms as given
-use Rattle.run.specs.declared.lists.Listed.{Listed}
-use Rattle.run.specs.declared.lists.Listed.TheVariants as listed
 use Rattle.values.proofs.Taken.{few_objects}
-use Rattle.values.specs.declared.walk.Valued.{Valued}
+use Rattle.std.specs.Prelude.{Result, Ok, Err}
 use Rattle.values.specs.Setting as values
 use Rattle.values.specs.Setting.{SetAs}
 use Rattle.run.specs.Filled.{Columns, lent_of, RanAs, ran_by}
-use Rattle.run.specs.declared.Ran.{Ran}
-use Rattle.run.specs.declared.Ran.TheVariants as ran
 use Rattle.run.proofs.Joining.{refused_as, lists_refused, ran_as}
 
 -- ---- rooms
@@ -76,12 +72,11 @@ module _ (c : Columns) (s : given.ListRooms) (m : Measured c s) where
         plain = counted_left (length c.plain) (length c.plain) s.plain m.plain;
       }
 
-  pub values_lent : {l : Listed} {n : lists.ListCounts} → l ≡ listed.Done n → RowsWithin s.rows l → (n.rows ≤ length c.values) × (n.rows < 2 ^ 32)
-  values_lent {n = n} e h =
-      let few : n.rows ≤ s.rows = subst (λ (l : Listed). RowsWithin s.rows l) e h in (
-        omega (arith, few, min_right (length c.bases) (length c.values) s.rows (counted_right (length c.rows) (min (length c.bases) (length c.values)) s.rows m.rows)),
-        omega (arith, few, counted_few (length c.rows) (min (length c.bases) (length c.values)) s.rows m.rows),
-      )
+  pub values_lent : (n : lists.ListCounts) → n.rows ≤ s.rows → (n.rows ≤ length c.values) × (n.rows < 2 ^ 32)
+  values_lent n few = (
+    omega (arith, few, min_right (length c.bases) (length c.values) s.rows (counted_right (length c.rows) (min (length c.bases) (length c.values)) s.rows m.rows)),
+    omega (arith, few, counted_few (length c.rows) (min (length c.bases) (length c.values)) s.rows m.rows),
+  )
 
   pub sources_lent : (room : ℕ) → room ≡ counted (min (length c.sources) (length c.source_floats)) → (room ≤ length c.sources) × (room ≤ length c.source_floats) × (room ≤ 4294967295)
   sources_lent room e = (
@@ -96,23 +91,23 @@ pub recorded : (b : List ℕ) (p : List (List ℕ)) {n : ℕ} → n ≡ u32_at b
 unfolding fit_of
 recorded b p e = ap (λ (x : ℕ). eqb x 1) e
 
-module _ (a b : List ℕ) (p : List (List ℕ)) (sf : SoundFit b p) (c₀ c : Columns) (s : given.ListRooms) (m : Measured c₀ s) (r st : List (List ℕ)) (l : Listed) where
+module _ (a b : List ℕ) (p : List (List ℕ)) (sf : SoundFit b p) (c₀ c : Columns) (s : given.ListRooms) (m : Measured c₀ s) (r st : List (List ℕ)) where
   abbrev k : Book
   k = book_of a p
 
   abbrev f : Fit
   f = fit_of b p
 
-  abbrev Lists : Listed → Type 0
+  abbrev Lists : Result lists.ListCounts Refusal → Type 0
   Lists x = (q : Rooms) → RoomsOf q s → ListedAs (lists_in k f q) x k f c₀.collected c.collected c₀.collected_values c.collected_values c₀.rows r c₀.bases c.bases c₀.entries c.entries c₀.entry_values c.entry_values c₀.plain c.plain
 
   -- a list is full, or collection is refused
-  pub not_listed : {x : Refusal} → l ≡ listed.Refused x → Lists l → RanAs (run k f (rooms_of (lent_of c₀))) (ran.Refused x) st c₀ c
-  not_listed e h = refused_as st c₀ c (lists_refused k f (rooms_of (lent_of c₀)) (subst Lists e h (rooms_of (lent_of c₀)) (rooms_of_lem c₀ s m)))
+  pub not_listed : (x : Refusal) → Lists (Err x) → RanAs (run k f (rooms_of (lent_of c₀))) (Err x) st c₀ c
+  not_listed x h = refused_as st c₀ c (lists_refused k f (rooms_of (lent_of c₀)) (h (rooms_of (lent_of c₀)) (rooms_of_lem c₀ s m)))
 
-  module _ {n : lists.ListCounts} (e : l ≡ listed.Done n) (h : Lists l) (S : st ≡ rows_of k f) where
+  module _ (n : lists.ListCounts) (h : Lists (Ok n)) (S : st ≡ rows_of k f) where
     abbrev by_lists : (lists_in k f (rooms_of (lent_of c₀)) ≡ ok tt) × CountsOf n k f × ListsHeld k f c₀.collected c.collected c₀.collected_values c.collected_values c₀.rows r c₀.bases c.bases c₀.entries c.entries c₀.entry_values c.entry_values c₀.plain c.plain
-    by_lists = subst Lists e h (rooms_of (lent_of c₀)) (rooms_of_lem c₀ s m)
+    by_lists = h (rooms_of (lent_of c₀)) (rooms_of_lem c₀ s m)
 
     -- what the values ask for
     abbrev pub listed_as : (recording : Bool) (room : ℕ) → recording ≡ eqb f.recording 1 → values.RowsListed k f n.rows (record { room = room; recording = recording }) st r c.bases c.entries c.entry_values
@@ -128,8 +123,7 @@ module _ (a b : List ℕ) (p : List (List ℕ)) (sf : SoundFit b p) (c₀ c : Co
           recording = t;
         }
 
-    pub filled_as : (room objects : ℕ) (v : Valued) (y : Ran) → y ≡ ran_by v n objects → room ≡ counted (min (length c₀.sources) (length c₀.source_floats)) → objects ≡ count_of p 6 → SetAs (rows_in k f) (valued (world_of k f room) f.depth (starts_of f (rows_in k f)) (blank (rows_in k f))) v c₀.rows c.rows c₀.values c.values c₀.sources c.sources c₀.source_floats c.source_floats → RanAs (run k f (rooms_of (lent_of c₀))) y st c₀ c
-    filled_as room objects v y a g o w =
-        subst (λ (x : Ran). RanAs (run k f (rooms_of (lent_of c₀))) x st c₀ c) (sym a)
-        (ran_as k f (rooms_of (lent_of c₀)) by_lists.0 c₀ c st n objects by_lists.1 by_lists.2 S (o ∙ sym (objects_length b p)) (few_objects b p sf) v
-        (subst (λ (x : ℕ). SetAs (rows_in k f) (valued (world_of k f x) f.depth (starts_of f (rows_in k f)) (blank (rows_in k f))) v c₀.rows c.rows c₀.values c.values c₀.sources c.sources c₀.source_floats c.source_floats) g w))
+    pub filled_as : (room objects : ℕ) (v : Result ℕ Refusal) → room ≡ counted (min (length c₀.sources) (length c₀.source_floats)) → objects ≡ count_of p 6 → SetAs (rows_in k f) (valued (world_of k f room) f.depth (starts_of f (rows_in k f)) (blank (rows_in k f))) v c₀.rows c.rows c₀.values c.values c₀.sources c.sources c₀.source_floats c.source_floats → RanAs (run k f (rooms_of (lent_of c₀))) (ran_by v n objects) st c₀ c
+    filled_as room objects v g o w =
+        ran_as k f (rooms_of (lent_of c₀)) by_lists.0 c₀ c st n objects by_lists.1 by_lists.2 S (o ∙ sym (objects_length b p)) (few_objects b p sf) v
+        (subst (λ (x : ℕ). SetAs (rows_in k f) (valued (world_of k f x) f.depth (starts_of f (rows_in k f)) (blank (rows_in k f))) v c₀.rows c.rows c₀.values c.values c₀.sources c.sources c₀.source_floats c.source_floats) g w)

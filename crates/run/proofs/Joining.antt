@@ -18,14 +18,12 @@ use Rattle.run.specs.Listing.{lists_in, valued_in, CountsOf, ListsHeld}
 use Rattle.run.specs.declared.lists.ListCounts as lists
 use Rattle.run.proofs.Steps.{run_lists}
 use Rattle.values.proofs.Starts.{valued_grows}
-use Rattle.values.specs.declared.walk.Valued.{Valued}
-use Rattle.values.specs.declared.walk.Valued.TheVariants as got
+use Rattle.std.specs.Prelude.{Result, Ok, Err}
 use Rattle.values.specs.Setting.{SetAs, Set}
 use Rattle.run.specs.Filled.{Columns, Filled, RanAs, ran_by}
-use Rattle.run.specs.declared.Ran.TheVariants as ran
 
 -- a refusal, wherever it is met
-pub refused_as : {s : Res Done} {x : Refusal} (st : List (List ℕ)) (c₀ c : Columns) → s ≡ refused x → RanAs s (ran.Refused x) st c₀ c
+pub refused_as : {s : Res Done} {x : Refusal} (st : List (List ℕ)) (c₀ c : Columns) → s ≡ refused x → RanAs s (Err x) st c₀ c
 refused_as st c₀ c e = rw e refl
 
 module _ (k : Book) (f : Fit) (q : Rooms) where
@@ -76,11 +74,11 @@ module _ (k : Book) (f : Fit) (q : Rooms) where
             source_floats = v.floats;
           }
 
-      by_memory : (s : Res Mem) (x : Valued) → memory ≡ s → SetAs (rows_in k f) s x c₀.rows c.rows c₀.values c.values c₀.sources c.sources c₀.source_floats c.source_floats → RanAs (run k f q) (ran_by x n objects) st c₀ c
-      by_memory (ok m) (got.At used) g v = rw (after_lists, g) (filled m used g v)
-      by_memory (ok m) (got.Refused y) g v = absurd v
-      by_memory (refused x) (got.At used) g v = absurd v
-      by_memory (refused x) (got.Refused y) g v = rw (after_lists, g) v
+      by_memory : (s : Res Mem) (x : Result ℕ Refusal) → memory ≡ s → SetAs (rows_in k f) s x c₀.rows c.rows c₀.values c.values c₀.sources c.sources c₀.source_floats c.source_floats → RanAs (run k f q) (ran_by x n objects) st c₀ c
+      by_memory (ok m) (Ok used) g v = rw (after_lists, g) (filled m used g v)
+      by_memory (ok m) (Err y) g v = absurd v
+      by_memory (refused x) (Ok used) g v = absurd v
+      by_memory (refused x) (Err y) g v = rw (after_lists, g) v
 
-      pub ran_as : (x : Valued) → SetAs (rows_in k f) memory x c₀.rows c.rows c₀.values c.values c₀.sources c.sources c₀.source_floats c.source_floats → RanAs (run k f q) (ran_by x n objects) st c₀ c
+      pub ran_as : (x : Result ℕ Refusal) → SetAs (rows_in k f) memory x c₀.rows c.rows c₀.values c.values c₀.sources c.sources c₀.source_floats c.source_floats → RanAs (run k f q) (ran_by x n objects) st c₀ c
       ran_as x v = by_memory memory x refl v

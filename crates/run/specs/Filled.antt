@@ -1,5 +1,5 @@
 -- What a run leaves in the lent columns before their ends are cleared. Definitions only.
-use Rattle.std.specs.Prelude.{ℕ, ◌≤◌, ◌≡◌, List, [], ◌∷◌, map, Float, length, replicate}
+use Rattle.std.specs.Prelude.{ℕ, ◌≤◌, ◌≡◌, List, [], ◌∷◌, map, Float, length, replicate, Result, Ok, Err}
 use Rattle.std.proofs.Math.Option.{Option, get_or}
 use denote.Triple.Both.{Both}
 use Rattle.columns.specs.Lending.{LentColumn}
@@ -10,15 +10,11 @@ use Rattle.rules.specs.Answer.{Res, ok, refused}
 use Rattle.rules.specs.Columns.{collected_numbers, rows_numbers, entry_numbers, origin_value, plain_numbers, source_numbers, source_floats}
 use Rattle.rules.specs.Outcome.{Lent, Rooms, Done, run}
 use Rattle.rules.specs.Sheet.{Book, Fit}
+use Rattle.rules.specs.declared.Refusal.{Refusal}
 use Rattle.rules.specs.declared.Refusal.TheVariants.{Shape}
-use Rattle.shape.specs.declared.Shaped.{Shaped}
-use Rattle.shape.specs.declared.Shaped.TheVariants.{Sound, Bad}
+use Rattle.shape.specs.Shaped.{Shaped}
 use Rattle.clear.specs.declared.KeptCounts.{KeptCounts}
 use Rattle.run.specs.declared.lists.ListCounts as lists
-use Rattle.values.specs.declared.walk.Valued.{Valued}
-use Rattle.values.specs.declared.walk.Valued.TheVariants as valued
-use Rattle.run.specs.declared.Ran.{Ran}
-use Rattle.run.specs.declared.Ran.TheVariants as ran
 
 -- the ten lent columns
 pub record Columns : Type 0 where
@@ -95,19 +91,19 @@ pub record Filled (d : Done) (n : KeptCounts) (st : List (List ℕ)) (c₀ c : C
   pub source_floats : Col source_floats (flat (λ x. x) d.sources) c₀.source_floats c.source_floats
 
 -- a run that is done has filled the columns; after a refusal they may hold anything, as long as they were
-abbrev pub RanAs : Res Done → Ran → List (List ℕ) → Columns → Columns → Type 0
-RanAs (ok d) (ran.Done n) st c₀ c = Filled d n st c₀ c
-RanAs (ok d) (ran.Refused y) st c₀ c = ⊥
-RanAs (refused x) (ran.Done n) st c₀ c = ⊥
-RanAs (refused x) (ran.Refused y) st c₀ c = y ≡ x
+abbrev pub RanAs : Res Done → Result KeptCounts Refusal → List (List ℕ) → Columns → Columns → Type 0
+RanAs (ok d) (Ok n) st c₀ c = Filled d n st c₀ c
+RanAs (ok d) (Err y) st c₀ c = ⊥
+RanAs (refused x) (Ok n) st c₀ c = ⊥
+RanAs (refused x) (Err y) st c₀ c = y ≡ x
 
 -- the answer once the lists are counted, by what the values gave
-abbrev pub ran_by : Valued → lists.ListCounts → ℕ → Ran
-ran_by (valued.At used) n objects =
-    ran.Done (record { objects = objects; collected = n.collected; rows = n.rows; entries = n.entries; plain = n.plain; sources = used })
-ran_by (valued.Refused y) n objects = ran.Refused y
+abbrev pub ran_by : Result ℕ Refusal → lists.ListCounts → ℕ → Result KeptCounts Refusal
+ran_by (Ok used) n objects =
+    Ok (record { objects = objects; collected = n.collected; rows = n.rows; entries = n.entries; plain = n.plain; sources = used })
+ran_by (Err y) n objects = Err y
 
 -- what is sound is run; a bad table is refused
 abbrev pub decided : Shaped → Book → Fit → Rooms → Res Done
-decided Sound k f q = run k f q
-decided (Bad t) k f q = refused (Shape t)
+decided (Ok s) k f q = run k f q
+decided (Err bad) k f q = refused (Shape bad.table)

@@ -1,5 +1,5 @@
 -- Lists 1 to 4 of a run: the steps of the definition's `run` before any value, and what the columns hold after them. Definitions only.
-use Rattle.std.specs.Prelude.{ℕ, ◌≤◌, ◌<◌, ◌^◌, ◌≡◌, cond, List, leb, Float, length}
+use Rattle.std.specs.Prelude.{ℕ, ◌≤◌, ◌<◌, ◌^◌, ◌≡◌, cond, List, leb, Float, length, Result, Ok, Err}
 use Rattle.std.proofs.Math.Option.{none, some}
 use Rattle.columns.specs.Lending.{LentColumn}
 use Rattle.laws.specs.Columns.{Col}
@@ -12,13 +12,10 @@ use Rattle.rules.specs.Outcome as outcome
 use Rattle.rules.specs.Outcome.{full, collected_in, rows_in, world_of, starts_of, blank, valued}
 use Rattle.rows.specs.Laying.{entries_of}
 use Rattle.rows.specs.Parts.{ListsLaid}
-use Rattle.rules.specs.declared.Refusal.TheVariants.{Room}
-use Rattle.dispatch.specs.declared.Dispatched.{Dispatched}
-use Rattle.dispatch.specs.declared.Dispatched.TheVariants.{Lists, Full}
+use Rattle.rules.specs.declared.Refusal.{Refusal}
+use Rattle.dispatch.specs.declared.DispatchedCounts.{DispatchedCounts}
 use Rattle.run.specs.declared.lists.ListRooms.{ListRooms}
 use Rattle.run.specs.declared.lists.ListCounts.{ListCounts}
-use Rattle.run.specs.declared.lists.Listed.{Listed}
-use Rattle.run.specs.declared.lists.Listed.TheVariants.{Done, Refused}
 
 -- `run`, up to its values: base attributes, collection, dispatch
 unfoldable pub lists_in : Book → Fit → outcome.Rooms → Res Unit
@@ -67,22 +64,22 @@ pub record ListsHeld (k : Book) (f : Fit) (c₀ c : List (List ℕ)) (v₀ v : L
   pub plain : Col plain_numbers (plain_of (moves k f)) p₀ p
 
 -- the answer, by dispatch's and the counts of lists 1 and 4
-abbrev pub listed_of : Dispatched → ℕ → ℕ → Listed
-listed_of (Lists a m) n p = Done (record { collected = n; rows = a; entries = m; plain = p })
-listed_of (Full t) n p = Refused (Room t)
+abbrev pub listed_of : Result DispatchedCounts Refusal → ℕ → ℕ → Result ListCounts Refusal
+listed_of (Ok d) n p = Ok (record { collected = n; rows = d.rows; entries = d.entries; plain = p })
+listed_of (Err x) n p = Err x
 
 -- the rows have room
-abbrev pub RowsWithin : ℕ → Listed → Type 0
-RowsWithin room (Done n) = n.rows ≤ room
-RowsWithin room (Refused x) = Unit {0}
+abbrev pub RowsWithin : ℕ → Result ListCounts Refusal → Type 0
+RowsWithin room (Ok n) = n.rows ≤ room
+RowsWithin room (Err x) = Unit {0}
 
 -- what an answer says of the steps and of the columns
-abbrev pub ListedAs : Res Unit → Listed → Book → Fit → List (List ℕ) → List (List ℕ) → List Float → List Float → List (List ℕ) → List (List ℕ) → List Float → List Float → List (List ℕ) → List (List ℕ) → List Float → List Float → List (List ℕ) → List (List ℕ) → Type 0
-ListedAs s (Done n) k f c₀ c v₀ v r₀ r b₀ b e₀ e w₀ w p₀ p = (s ≡ ok tt) × CountsOf n k f × ListsHeld k f c₀ c v₀ v r₀ r b₀ b e₀ e w₀ w p₀ p
-ListedAs s (Refused x) k f c₀ c v₀ v r₀ r b₀ b e₀ e w₀ w p₀ p = s ≡ refused x
+abbrev pub ListedAs : Res Unit → Result ListCounts Refusal → Book → Fit → List (List ℕ) → List (List ℕ) → List Float → List Float → List (List ℕ) → List (List ℕ) → List Float → List Float → List (List ℕ) → List (List ℕ) → List Float → List Float → List (List ℕ) → List (List ℕ) → Type 0
+ListedAs s (Ok n) k f c₀ c v₀ v r₀ r b₀ b e₀ e w₀ w p₀ p = (s ≡ ok tt) × CountsOf n k f × ListsHeld k f c₀ c v₀ v r₀ r b₀ b e₀ e w₀ w p₀ p
+ListedAs s (Err x) k f c₀ c v₀ v r₀ r b₀ b e₀ e w₀ w p₀ p = s ≡ refused x
 
 -- by the definition's rooms the answer and the columns say what the definition g says
-abbrev pub ListsGive : Book → Fit → ListRooms → LentColumn (List ℕ) → LentColumn Float → LentColumn (List ℕ) → LentColumn Float → LentColumn (List ℕ) → LentColumn Float → LentColumn (List ℕ) → Listed → (outcome.Rooms → Res Unit) → Type 0
+abbrev pub ListsGive : Book → Fit → ListRooms → LentColumn (List ℕ) → LentColumn Float → LentColumn (List ℕ) → LentColumn Float → LentColumn (List ℕ) → LentColumn Float → LentColumn (List ℕ) → Result ListCounts Refusal → (outcome.Rooms → Res Unit) → Type 0
 ListsGive k f s c v r b e w p a g =
     (q : outcome.Rooms) → RoomsOf q s
     → ListedAs (g q) a k f c.entry.now c.exit.now v.entry.now v.exit.now r.entry.now r.exit.now b.entry.now b.exit.now e.entry.now e.exit.now w.entry.now w.exit.now p.entry.now p.exit.now

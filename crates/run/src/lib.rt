@@ -5,7 +5,7 @@ ghost use Rattle.std.specs.Prelude.{◌≡◌, min};
 ghost use Rattle.rules.specs.Outcome as outcome;
 ghost use Rattle.rules.specs.Sheet.{book_of, fit_of};
 ghost use Rattle.info.specs.Sound.{SoundBook, SoundFit};
-ghost use Rattle.run.specs.Filled.{lent_columns, lent_of, RanAs, ran_by};
+ghost use Rattle.run.specs.Filled.{lent_columns, lent_of, RanAs};
 
 use clear::KeptCounts;
 use columns::{
@@ -14,55 +14,17 @@ use columns::{
 };
 use info::header::{count_of, recording_of};
 use info::places::{attribute_places, effect_places};
-use lists::{ListCounts, ListRooms, Listed, set_lists};
+use lists::{ListRooms, set_lists};
 use rules::Refusal;
 use sources::Recording;
 use states::correct_states;
 use values::set_values;
-use values::walk::Valued;
-
-// The counts of a run that is done; or why it is refused.
-#[derive(Clone, Copy)]
-pub enum Ran {
-    Done(KeptCounts),
-    Refused(Refusal),
-}
 
 // A list's room is its shortest column, at most what 32 bits count.
 fn room_of(a: usize, b: usize) -> u32
     ensures defined { result ≡ outcome.counted (min a b) }
 {
-    let least = least_of(a, b);
-    if least < 4294967295 {
-        return least as u32;
-    }
-    4294967295
-}
-
-// The lesser of two.
-fn least_of(a: usize, b: usize) -> usize
-    ensures defined { result ≡ min a b }
-{
-    if a < b { a } else { b }
-}
-
-// The answer once the lists are counted.
-fn ran_of(valued: Valued, n: ListCounts, objects: usize) -> Ran
-    ensures defined { result ≡ ran_by valued n objects }
-{
-    match valued {
-        Valued::At(used) => {
-            Ran::Done(KeptCounts {
-                objects: objects,
-                collected: n.collected,
-                rows: n.rows,
-                entries: n.entries,
-                plain: n.plain,
-                sources: used as usize,
-            })
-        }
-        Valued::Refused(y) => Ran::Refused(y),
-    }
+    u32::try_from(a.min(b)).unwrap_or(u32::MAX)
 }
 
 // A sound sheet: states, lists 1 to 4, then values and source rows.
@@ -81,7 +43,7 @@ pub fn fill(
     book: &[u8],
     fit: &[u8],
     pairs: &TablePairs,
-) -> Ran
+) -> Result<KeptCounts, Refusal>
     requires sound_book { SoundBook book.now pairs.now }
     requires sound_fit { SoundFit fit.now pairs.now }
     ensures defined { let lists = lent_columns collected collected_values rows bases values entries entry_values plain sources source_values in
@@ -94,7 +56,7 @@ pub fn fill(
     correct_states(states, book, fit, pairs, &of_effects);
     let rooms = ListRooms {
         collected: room_of(collected.len(), collected_values.len()) as usize,
-        rows: room_of(rows.len(), least_of(bases.len(), values.len())) as usize,
+        rows: room_of(rows.len(), bases.len().min(values.len())) as usize,
         entries: room_of(entries.len(), entry_values.len()) as usize,
         plain: room_of(plain.len(), plain.len()) as usize,
     };
@@ -102,7 +64,7 @@ pub fn fill(
         room: room_of(sources.len(), source_values.len()),
         recording: recording_of(fit, pairs) == 1,
     };
-    let listed = set_lists(
+    let n = set_lists(
         collected,
         collected_values,
         rows,
@@ -116,28 +78,30 @@ pub fn fill(
         &of_effects,
         &of_attributes,
         rooms,
-    );
-    match listed {
-        Listed::Done(n) => {
-            let valued = set_values(
-                rows,
-                values,
-                sources,
-                source_values,
-                bases,
-                entries,
-                entry_values,
-                states,
-                book,
-                fit,
-                pairs,
-                n.rows,
-                run,
-            );
-            ran_of(valued, n, count_of(pairs, TABLE_OBJECTS))
-        }
-        Listed::Refused(x) => Ran::Refused(x),
-    }
+    )?;
+    let used = set_values(
+        rows,
+        values,
+        sources,
+        source_values,
+        bases,
+        entries,
+        entry_values,
+        states,
+        book,
+        fit,
+        pairs,
+        n.rows,
+        run,
+    )?;
+    Ok(KeptCounts {
+        objects: count_of(pairs, TABLE_OBJECTS),
+        collected: n.collected,
+        rows: n.rows,
+        entries: n.entries,
+        plain: n.plain,
+        sources: used as usize,
+    })
 }
 
 pub mod lists;

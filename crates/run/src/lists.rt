@@ -1,16 +1,14 @@
 // Lists 1 to 4 of a sound sheet: base attributes, collection and dispatch, in 01's order.
-ghost use Rattle.std.specs.Prelude.{◌≡◌};
 ghost use Rattle.rules.specs.Sheet.{book_of, fit_of};
 ghost use Rattle.info.specs.Sound.{SoundBook, SoundFit};
-ghost use Rattle.run.specs.Listing.{RoomsLent, ListsGive, RowsWithin, listed_of, lists_in};
+ghost use Rattle.run.specs.Listing.{RoomsLent, ListsGive, RowsWithin, lists_in};
 
 use collect::objects::collect;
 use columns::{
     AttributePlaces, AttributeRow, CollectedRow, EffectPlaces, EntryRow, PlainRow, TablePairs,
 };
+use dispatch::dispatch;
 use dispatch::room::base_total;
-use dispatch::{Dispatched, dispatch};
-use modifier::moves::Counted;
 use rules::Refusal;
 
 // The rooms of lists 1 to 4.
@@ -31,30 +29,6 @@ pub struct ListCounts {
     pub plain: usize,
 }
 
-// The counts; or the first refusal.
-#[derive(Clone, Copy)]
-pub enum Listed {
-    Done(ListCounts),
-    Refused(Refusal),
-}
-
-// The whole answer, by dispatch's and by the rows of lists 1 and 4.
-fn with_counts(given: Dispatched, collected: usize, plain: usize) -> Listed
-    ensures defined { result ≡ listed_of given collected plain }
-{
-    match given {
-        Dispatched::Lists(rows, entries) => {
-            Listed::Done(ListCounts {
-                collected,
-                rows,
-                entries,
-                plain,
-            })
-        }
-        Dispatched::Full(list) => Listed::Refused(Refusal::Room(list)),
-    }
-}
-
 // Lists 1 to 4. The base attributes are to have room before anything is collected. After a refusal the columns may hold anything: who lent them clears them.
 pub fn set_lists(
     collected: &mut [CollectedRow],
@@ -70,7 +44,7 @@ pub fn set_lists(
     effect_places: &EffectPlaces,
     attribute_places: &AttributePlaces,
     rooms: ListRooms,
-) -> Listed
+) -> Result<ListCounts, Refusal>
     requires sound_book { SoundBook book.now pairs.now }
     requires sound_fit { SoundFit fit.now pairs.now }
     requires roomy { RoomsLent rooms collected.old collected_values.old rows.old bases.old entries.old entry_values.old plain.old }
@@ -81,9 +55,9 @@ pub fn set_lists(
 {
     let base = base_total(fit, pairs);
     if rooms.rows < base {
-        return Listed::Refused(Refusal::Room(2));
+        return Err(Refusal::Room(2));
     }
-    let got = collect(
+    let counts = collect(
         collected,
         collected_values,
         plain,
@@ -93,26 +67,26 @@ pub fn set_lists(
         effect_places,
         rooms.collected,
         rooms.plain,
-    );
-    match got {
-        Counted::At(n, p) => {
-            let given = dispatch(
-                rows,
-                bases,
-                entries,
-                entry_values,
-                collected,
-                collected_values,
-                book,
-                fit,
-                pairs,
-                attribute_places,
-                n,
-                rooms.rows,
-                rooms.entries,
-            );
-            with_counts(given, n, p)
-        }
-        Counted::Refused(x) => Listed::Refused(x),
-    }
+    )?;
+    let dispatched = dispatch(
+        rows,
+        bases,
+        entries,
+        entry_values,
+        collected,
+        collected_values,
+        book,
+        fit,
+        pairs,
+        attribute_places,
+        counts.collected,
+        rooms.rows,
+        rooms.entries,
+    )?;
+    Ok(ListCounts {
+        collected: counts.collected,
+        rows: dispatched.rows,
+        entries: dispatched.entries,
+        plain: counts.plain,
+    })
 }

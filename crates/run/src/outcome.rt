@@ -4,12 +4,13 @@ ghost use Rattle.rules.specs.Sheet.{book_of, fit_of};
 ghost use Rattle.shape.specs.Shaped.{SoundBy};
 ghost use Rattle.run.specs.Filled.{lent_columns, lent_of, RanAs, decided};
 
-use super::{Ran, fill};
+use super::fill;
+use clear::KeptCounts;
 use columns::{
     AttributeRow, CollectedRow, EntryRow, PlainRow, SourceFloats, SourceRow, States, TablePairs,
 };
 use rules::Refusal;
-use shape::Shaped;
+use shape::BadTable;
 
 // Any bytes that are judged, any lists: SHAPE's refusal, or the run. After a refusal the columns may hold anything: who lent them clears them.
 pub fn filled(
@@ -27,33 +28,29 @@ pub fn filled(
     book: &[u8],
     fit: &[u8],
     pairs: &TablePairs,
-    verdict: Shaped,
-) -> Ran
+    verdict: Result<(), BadTable>,
+) -> Result<KeptCounts, Refusal>
     requires sound { SoundBy verdict book.now fit.now pairs.now }
     ensures defined { let lists = lent_columns collected collected_values rows bases values entries entry_values plain sources source_values in
         let k = book_of book.now pairs.now in
         let f = fit_of fit.now pairs.now in
         RanAs (decided verdict k f (outcome.rooms_of (lent_of lists.entry))) result states.new lists.entry lists.exit }
 {
-    match verdict {
-        Shaped::Bad(table) => Ran::Refused(Refusal::Shape(table)),
-        Shaped::Sound => {
-            fill(
-                states,
-                collected,
-                collected_values,
-                rows,
-                bases,
-                values,
-                entries,
-                entry_values,
-                plain,
-                sources,
-                source_values,
-                book,
-                fit,
-                pairs,
-            )
-        }
-    }
+    verdict?;
+    fill(
+        states,
+        collected,
+        collected_values,
+        rows,
+        bases,
+        values,
+        entries,
+        entry_values,
+        plain,
+        sources,
+        source_values,
+        book,
+        fit,
+        pairs,
+    )
 }

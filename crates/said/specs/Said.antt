@@ -1,7 +1,7 @@
 -- What a program says: text for standard output, or a line for standard error. Definitions only.
-use Rattle.std.specs.Prelude.{ℕ, Bool, true, false, List, ◌++◌, take}
+use Rattle.std.specs.Prelude.{ℕ, ◌≤◌, List, ◌++◌, take, Result, Ok, Err, MatchResult}
 use Rattle.rules.specs.Listing.{natural}
-use Rattle.said.specs.declared.Said.{Said}
+use Rattle.said.specs.declared.RefusalLine.{RefusalLine}
 
 pub data Says : Type 0 where
   answer : List ℕ → Says
@@ -12,9 +12,10 @@ unfoldable pub bad_line : List ℕ → ℕ → List ℕ → List ℕ
 bad_line what n why = what ++ (natural n ++ why)
 
 -- what stands at the front of a text
-abbrev pub says_if : Bool → List ℕ → Says
-says_if true t = answer t
-says_if false t = refusal t
+abbrev pub says_of : Result ℕ RefusalLine → List ℕ → Says
+says_of (Ok end) text = answer (take end text)
+says_of (Err line) text = refusal (take line.end text)
 
-abbrev pub says_of : Said → List ℕ → Says
-says_of s text = says_if s.good (take s.end text)
+-- and ends inside it
+abbrev pub SaidWithin : Result ℕ RefusalLine → ℕ → Type 0
+SaidWithin r n = MatchResult r (λ end. end ≤ n) (λ line. line.end ≤ n)

@@ -1,15 +1,13 @@
 -- An admission is done or refused, and so is a leaving.
-use Prim.Native.Nat.{ℕ, zero, suc, ◌+◌, ◌-◌, ◌≤◌, ◌<◌}
+use Prim.Native.Nat.{ℕ, zero, suc, ◌<◌}
 use native.Mathlib.Omega.{arith}
 use mathlib.Core.Path.{◌≡◌, refl, sym, ap, ◌∙◌}
-use mathlib.Core.Bool.{Bool, true, false, ◌&&◌}
-use mathlib.Core.List.{List, [], ◌∷◌}
+use mathlib.Core.Bool.{Bool, true, false}
 use mathlib.Core.Option.{Option, none, some}
 use lib.Dec.{ltb, eqb}
 use borrow.Author.Tests.{ltb-true, ltb-false, eqb-true, eqb-false}
-use Rattle.free_table.specs.declared.Stretch.{Stretch}
 use Rattle.free_table.specs.Table.{empty}
-use Rattle.seats.specs.Seats.{Hall, free_of, seat_of, table_good, Cut, cut_first, freed, Seated, Done, Table, Pilot, Length, Pool, number, Given, refused, with_seat, seat, admit, leave}
+use Rattle.seats.specs.Seats.{Hall, free_of, seat_of, table_good, Cut, cut_first, freed, Seated, Done, Table, Pilot, Length, Pool, number, refused, with_seat, seat, admit, leave}
 use Rattle.seats.proofs.Good.{Good, good}
 use Rattle.seats.proofs.Ways.{admit_bad, admit-number, admit_in, admit_none, admit-cut, leave_bad, leave-number, leave_out, leave-done}
 

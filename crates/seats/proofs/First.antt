@@ -1,36 +1,74 @@
--- The search for the first stretch that is long enough, a turn at a time.
-use Prim.Native.Nat.{ℕ, zero, suc, ◌+◌, ◌-◌, ◌≤◌, ◌<◌}
+-- The first stretch that is long enough, and the first that begins behind a row, as a search over the stretches finds them.
+use Prim.Native.Nat.{ℕ, zero, suc, ◌+◌, ◌≤◌, ◌<◌}
 use native.Mathlib.Omega.{arith}
+use native.Mathlib.Nat.{zero-add}
 use mathlib.Core.Path.{◌≡◌, refl, sym, ap, ◌∙◌}
-use mathlib.Core.Bool.{Bool, true, false}
-use mathlib.Core.List.{List}
-use lib.Dec.{leb}
-use lib.ListN.{get_or}
-use borrow.Author.Tests.{le-leb, lt-leb}
+use mathlib.Core.Bool.{Bool, true, false, cond, not}
+use mathlib.Core.List.{List, [], ◌∷◌}
+use lib.Dec.{leb, ltb}
+use lib.ListN.{length, take, drop, get_or}
+use lib.Seq.{length-take-le}
+use borrow.Author.Tests.{ltb-true, ltb-false}
+use Rattle.std.specs.Prelude.{Option, Some, None}
+use Rattle.std.specs.Option.{unwrap_or}
+use Rattle.std.specs.List.{position_or_len}
+use Rattle.std.proofs.lemmas.List.Sums.{prefix_len-le-length}
+use Rattle.laws.proofs.Scans.{drop-step}
 use Rattle.free_table.specs.declared.Stretch.{Stretch}
 use Rattle.free_table.specs.Table.{empty, pick}
-use Rattle.seats.specs.Plan.{first_from}
+use Rattle.seats.specs.Plan.{first_from, place_in, place_of}
 
--- i is the place that is looked at next: what is left decides
-pub record Seeking (t : List Stretch) (n w i : ℕ) : Type 0 where
-  pub within : i ≤ n
-  pub still : first_from t w i (n - i) ≡ first_from t w 0 n
+position_cons : (p : Stretch → Bool) (x : Stretch) (xs : List Stretch) → position_or_len p (x ∷ xs) ≡ pick (p x) 0 (suc (position_or_len p xs))
+position_cons p x xs = by (p x) refl
+  where
+    by : (b : Bool) → p x ≡ b → position_or_len p (x ∷ xs) ≡ pick b 0 (suc (position_or_len p xs))
+    by true e = rw e refl
+    by false e = rw e (omega arith)
 
-pub seek_none : (t : List Stretch) (n w : ℕ) → Seeking t n w 0
-seek_none t n w = record { within = omega arith; still = ap (first_from t w 0) (let e : n - 0 ≡ n = omega arith in e) }
+first_place : (t : List Stretch) (w i n : ℕ) → i + n ≤ length t → first_from t w i n ≡ i + position_or_len (λ s. leb w s.length) (take n (drop i t))
+first_place t w i zero h = omega arith
+first_place t w i (suc n) h =
+    turn (first_place t w (i + 1) n (omega (arith, h))) (leb w (get_or t i empty).length)
+    ∙ ap (λ (k : ℕ). i + k) (sym (position_cons (λ s. leb w s.length) (get_or t i empty) (take n (drop (i + 1) t))))
+    ∙ ap (λ (l : List Stretch). i + position_or_len (λ s. leb w s.length) (take (suc n) l)) (sym (drop-step t i empty (omega (arith, h))))
+  where
+    turn : first_from t w (i + 1) n ≡ (i + 1) + position_or_len (λ s. leb w s.length) (take n (drop (i + 1) t)) → (b : Bool) → pick b i (first_from t w (i + 1) n) ≡ i + pick b 0 (suc (position_or_len (λ s. leb w s.length) (take n (drop (i + 1) t))))
+    turn e true = omega arith
+    turn e false = omega (arith, e)
 
-step : (t : List Stretch) (n w i : ℕ) → i < n → first_from t w i (n - i) ≡ pick (leb w (get_or t i empty).length) i (first_from t w (i + 1) (n - (i + 1)))
-step t n w i h = ap (first_from t w i) (let e : n - i ≡ suc (n - (i + 1)) = omega (arith, h) in e)
+module _ (t : List Stretch) (n : ℕ) (few : n ≤ length t) where
+  -- what the search over the first n gives
+  pub first-found : (w : ℕ) {o : Option ℕ} → o ≡ cond (ltb (position_or_len (λ s. leb w s.length) (take n t)) (length (take n t))) (Some (position_or_len (λ s. leb w s.length) (take n t))) None
+      → o ≡ place_in n (first_from t w 0 n)
+  first-found w e = e ∙ rw (length-take-le n t few, first_place t w 0 n (omega (arith, few)), zero-add (position_or_len (λ s. leb w s.length) (take n t))) refl
 
-pub seek_hit : {t : List Stretch} {n w i : ℕ} → Seeking t n w i → i < n → w ≤ (get_or t i empty).length → i ≡ first_from t w 0 n
-seek_hit {t} {n} {w} {i} s h k = sym (sym s.still ∙ step t n w i h ∙ ap (λ (b : Bool). pick b i (first_from t w (i + 1) (n - (i + 1)))) (le-leb w (get_or t i empty).length k))
+  place-is : (a : ℕ) (l : List Stretch) → place_of a l ≡ position_or_len (λ s. ltb a s.start) l
+  place-is a [] = refl
+  place-is a (s ∷ l) = ap (λ (k : ℕ). pick (ltb a s.start) 0 (suc k)) (place-is a l) ∙ sym (position_cons (λ r. ltb a r.start) s l)
 
-pub seek_next : {t : List Stretch} {n w i : ℕ} → Seeking t n w i → i < n → (get_or t i empty).length < w → Seeking t n w (i + 1)
-seek_next {t} {n} {w} {i} s h k =
-    record {
-      within = omega (arith, h);
-      still = sym (ap (λ (b : Bool). pick b i (first_from t w (i + 1) (n - (i + 1)))) (lt-leb w (get_or t i empty).length k)) ∙ sym (step t n w i h) ∙ s.still;
-    }
+  -- and n where it finds none
+  pub first-behind : (a : ℕ) {o : Option ℕ} → o ≡ cond (ltb (position_or_len (λ s. ltb a s.start) (take n t)) (length (take n t))) (Some (position_or_len (λ s. ltb a s.start) (take n t))) None
+      → unwrap_or o n ≡ place_of a (take n t)
+  first-behind a {o} e = by (ltb (position_or_len (λ s. ltb a s.start) (take n t)) (length (take n t))) refl
+    where
+      most : position_or_len (λ s. ltb a s.start) (take n t) ≤ length (take n t)
+      most = prefix_len-le-length (λ s. not (ltb a s.start)) (take n t)
 
-pub seek_end : {t : List Stretch} {n w i : ℕ} → Seeking t n w i → n ≤ i → n ≡ first_from t w 0 n
-seek_end {t} {n} {w} {i} s h = (let e : n ≡ i = omega (arith, h, s.within) in e) ∙ ap (first_from t w i) (let z : 0 ≡ n - i = omega (arith, h) in z) ∙ s.still
+      by : (b : Bool) → ltb (position_or_len (λ s. ltb a s.start) (take n t)) (length (take n t)) ≡ b → unwrap_or o n ≡ place_of a (take n t)
+      by true g = rw (e, g) (sym (place-is a (take n t)))
+      by false g = rw (e, g) ((let z = ltb-false (position_or_len (λ s. ltb a s.start) (take n t)) (length (take n t)) g in let y = length-take-le n t few in omega (arith, z, y, most)) ∙ sym (place-is a (take n t)))
+
+-- a place that is told lies below n, and is none where it does not
+pub place_some : {n j i : ℕ} {o : Option ℕ} → o ≡ place_in n j → o ≡ Some i → (i ≡ j) × (i < n)
+place_some {n} {j} {i} e f = by (ltb j n) refl
+  where
+    by : (b : Bool) → ltb j n ≡ b → (i ≡ j) × (i < n)
+    by true g = let z : Some i ≡ Some j = sym f ∙ e ∙ rw g refl in let y : i ≡ j = cc in let x = ltb-true j n g in (y, omega (arith, x, y))
+    by false g = let z : Some i ≡ None = sym f ∙ e ∙ rw g refl in cc
+
+pub place_none : {n j : ℕ} {o : Option ℕ} → o ≡ place_in n j → ((i : ℕ) → o ≡ Some i → ⊥) → n ≤ j
+place_none {n} {j} e f = by (ltb j n) refl
+  where
+    by : (b : Bool) → ltb j n ≡ b → n ≤ j
+    by true g = absurd (f j (e ∙ rw g refl))
+    by false g = ltb-false j n g

@@ -12,7 +12,7 @@ use borrow.Author.Tests.{leb-true, leb-false, eqb-true, eqb-false, ltb-true, ltb
 use Rattle.laws.specs.Lists.{put}
 use Rattle.free_table.specs.declared.Stretch.{Stretch}
 use Rattle.free_table.specs.Table.{empty, pick}
-use Rattle.seats.specs.Seats.{Cut, rest_of, behind, taken, cut_first, tabled}
+use Rattle.seats.specs.Seats.{Cut, rest_of, behind, taken, cut_first}
 use Rattle.seats.specs.Told.{cut_table}
 use Rattle.seats.specs.Plan.{first_from, shut_of}
 use Rattle.seats.proofs.Rows.{some_same, none_some}

@@ -2,24 +2,22 @@
 use Prim.Native.Nat.{ℕ, zero, suc, ◌+◌, ◌-◌, ◌≤◌, ◌<◌}
 use native.Mathlib.Omega.{arith}
 use native.Mathlib.Nat.{zero-add}
-use mathlib.Core.Path.{◌≡◌, refl, sym, ap, ◌∙◌, subst}
-use mathlib.Core.Bool.{Bool, true, false, ◌&&◌, ◌||◌, not}
+use mathlib.Core.Path.{◌≡◌, refl, sym, ap, ◌∙◌}
+use mathlib.Core.Bool.{Bool, true, false, ◌&&◌, not}
 use mathlib.Core.List.{List, [], ◌∷◌, ◌++◌, map}
-use lib.Dec.{leb, ltb, eqb}
+use lib.Dec.{eqb}
 use lib.ListN.{length, take, drop, get_or, set, replicate, length-append, take-append-drop}
 use lib.Seq.{length-take-le}
 use borrow.Author.Tests.{le-leb, lt-leb}
 use Rattle.laws.specs.Lists.{every?, some?, from}
-use Rattle.laws.proofs.Bools.{and_assoc, and_both, and_left, and_right, same_test}
-use Rattle.laws.proofs.Every.{every_append}
+use Rattle.laws.proofs.Bools.{and_assoc}
 use Rattle.laws.proofs.From.{table-next, table-length}
-use Rattle.laws.proofs.Maps.{take_next}
 use Rattle.laws.proofs.Scans.{drop-step, drop_end}
 use Rattle.free_table.specs.declared.Stretch.{Stretch}
 use Rattle.free_table.specs.Table.{empty}
-use Rattle.seats.specs.Tiling.{end_of, holds, one, how_many, inside, tiled, lengths}
+use Rattle.seats.specs.Tiling.{how_many, inside, tiled, lengths}
 use Rattle.seats.specs.Tests.{clear_of, tested}
-use Rattle.seats.specs.Seats.{Hall, free_of, seat_of, seats_of, same_five, apart, table_good}
+use Rattle.seats.specs.Seats.{seat_of, same_five, apart, table_good}
 use Rattle.seats.specs.Told.{hall_of}
 use Rattle.seats.proofs.Tiles.{tested-tiled}
 use Rattle.seats.proofs.Same.{many_append, empties_hold, tiled_same}
@@ -37,29 +35,6 @@ app_none {A} (x ∷ a) = ap (λ (l : List A). x ∷ l) (app_none a)
 pub set_next : {A : Type 0} (f : List A) (x y : A) (r : List A) → set (f ++ (x ∷ r)) (length f) y ≡ (f ++ (y ∷ [])) ++ r
 set_next [] x y r = refl
 set_next {A} (z ∷ f) x y r = ap (λ (l : List A). z ∷ l) (set_next f x y r)
-
--- ---- the free ones
-
-pub record Filling (t : List Stretch) (n : ℕ) (all : List Stretch) (i : ℕ) : Type 0 where
-  pub within : i ≤ n
-  pub is : all ≡ take i t ++ replicate (33 - i) empty
-
-pub filling_none : (t : List Stretch) (n : ℕ) → Filling t n (replicate 33 empty) 0
-filling_none t n = record { within = omega arith; is = refl }
-
-pub filling_next : {t : List Stretch} {n : ℕ} {all : List Stretch} {i : ℕ} → Filling t n all i → n ≤ length t → n ≤ 17 → i < n → Filling t n (set all i (get_or t i empty)) (i + 1)
-filling_next {t} {n} {all} {i} f h k l =
-    record {
-      within = omega (arith, l);
-      is =
-          ap (λ (a : List Stretch). set a i (get_or t i empty)) (f.is ∙ ap (λ (m : ℕ). take i t ++ replicate m empty) (let z : 33 - i ≡ suc (33 - (i + 1)) = omega (arith, k, l) in z))
-          ∙ ap (λ (m : ℕ). set (take i t ++ (empty ∷ replicate (33 - (i + 1)) empty)) m (get_or t i empty)) (sym (length-take-le i t (omega (arith, h, l))))
-          ∙ set_next (take i t) empty (get_or t i empty) (replicate (33 - (i + 1)) empty)
-          ∙ ap (λ (a : List Stretch). a ++ replicate (33 - (i + 1)) empty) (sym (take_next t i empty (omega (arith, h, l))));
-    }
-
-pub filling_end : {t : List Stretch} {n : ℕ} {all : List Stretch} {i : ℕ} → Filling t n all i → n ≤ i → all ≡ take n t ++ replicate (33 - n) empty
-filling_end {t} {n} {all} {i} f h = f.is ∙ ap (λ (m : ℕ). take m t ++ replicate (33 - m) empty) (let z : i ≡ n = omega (arith, h, f.within) in z)
 
 -- ---- the pilots'
 

@@ -5,11 +5,11 @@ use native.Mathlib.Nat.{zero-add}
 use mathlib.Core.Path.{◌≡◌, refl, sym, ap, ◌∙◌, subst}
 use mathlib.Core.Bool.{Bool, true, false, ◌&&◌, ◌||◌, not}
 use mathlib.Core.List.{List, [], ◌∷◌, ◌++◌, map}
-use mathlib.Core.Option.{Option, none, some}
+use mathlib.Core.Option.{some}
 use lib.Dec.{leb, ltb, eqb}
 use lib.ListN.{length, take, drop, get_or, set, replicate, length-append, length-drop, length-set}
 use lib.Seq.{length-take-le, get_or-set_same, get_or-set_other}
-use borrow.Author.Tests.{leb-true, ltb-true, ltb-false, eqb-true, eqb-false, eq-eqb, le-leb, le-ltb, lt-ltb}
+use borrow.Author.Tests.{leb-true, ltb-true, ltb-false, eqb-true, eqb-false, eq-eqb, le-leb}
 use Rattle.laws.specs.Lists.{every?, from}
 use Rattle.laws.proofs.Bools.{and_left, and_right, and_both}
 use Rattle.laws.proofs.From.{table_at, table-length, is-table}
@@ -18,11 +18,11 @@ use Rattle.free_table.specs.Table.{empty}
 use Rattle.seats.specs.Tiling.{end_of, holds, one, how_many, inside, tiled, lengths}
 use Rattle.seats.specs.Tests.{overlaps}
 use Rattle.seats.specs.Seats.{Hall, free_of, seat_of, seats_of, all, apart, same_pair, same_five, table_good, Cut, cut_first, in_order, freed, tabled, five, with_seat}
-use Rattle.seats.proofs.Tiles.{each_row, rows_by, clear_from_lem, inside-row, in_by, tiled-lengths}
-use Rattle.seats.proofs.Rows.{front, Cuts, cut_rows, joined_rows, in_order_rows}
-use Rattle.seats.proofs.Apart.{CutApart, cut_apart, leaver-apart, apart_long, apart_tail}
+use Rattle.seats.proofs.Tiles.{each_row, rows_by, clear_from_lem, in_by, tiled-lengths}
+use Rattle.seats.proofs.Rows.{cut_rows, joined_rows, in_order_rows}
+use Rattle.seats.proofs.Apart.{cut_apart, leaver-apart, apart_long, apart_tail}
 use Rattle.seats.proofs.Same.{Tiles, tiles, tiled-by, none_held, many_append, lengths_append}
-use Rattle.seats.proofs.Few.{is_in_lem, free_few, free_fewer}
+use Rattle.seats.proofs.Few.{is_in_lem, free_few}
 
 pub record Good (h : Hall) : Type 0 where
   pub room : 17 ≤ length h.table

@@ -5,7 +5,7 @@ use native.Mathlib.Nat.{zero-add}
 use mathlib.Core.Path.{◌≡◌, refl, sym, ap, ◌∙◌, subst}
 use mathlib.Core.Bool.{Bool, true, false, cond}
 use mathlib.Core.List.{List, [], ◌∷◌, ◌++◌}
-use lib.Dec.{leb, ltb, eqb}
+use lib.Dec.{ltb, eqb}
 use lib.ListN.{length, take, drop, get_or, set, replicate, length-append, length-drop}
 use lib.Seq.{length-take-le, get_or-take}
 use borrow.Author.Tests.{ltb-true, ltb-false, eqb-true, eqb-false, eq-eqb, ne_eqb, lt-ltb, le-ltb}
@@ -14,7 +14,7 @@ use Rattle.free_table.specs.declared.Stretch.{Stretch}
 use Rattle.free_table.specs.Table.{empty, pick}
 use Rattle.seats.specs.Tiling.{end_of}
 use Rattle.seats.specs.Tests.{put_at}
-use Rattle.seats.specs.Seats.{both, in_order, meet, joined, freed, tabled}
+use Rattle.seats.specs.Seats.{both, in_order, meet, joined, freed}
 use Rattle.seats.specs.Told.{ReadyFor, freed_table}
 use Rattle.seats.specs.Plan.{place_of}
 use Rattle.seats.proofs.Gather.{app_app, set_next}
@@ -171,39 +171,40 @@ pub record Counting (l : List Stretch) (m e i : ℕ) : Type 0 where
   pub most : m ≤ i + 1
   pub within : i < length l
 
-pub counting_none : {l : List Stretch} {x : Stretch} {e : ℕ} → x ≡ get_or l 0 empty → 0 < length l → e ≡ end_of x → Counting l 1 e 0
-counting_none {l} {x} {e} f h g =
+pub counting_none : {l : List Stretch} {x : Stretch} → x ≡ get_or l 0 empty → 0 < length l → Counting l 1 (end_of x) 0
+counting_none {l} {x} f h =
     record {
       now = get_or l 0 empty;
-      end = sym (g ∙ ap end_of f);
+      end = sym (ap end_of f);
       left = (let z = ap (λ (q : List Stretch). length (joined q)) (drop-step l 0 empty h) in omega (arith, z));
       most = omega arith;
       within = h;
     }
 
-module _ {l : List Stretch} {m e i : ℕ} (c : Counting l m e i) (h : i + 1 < length l) {x : Stretch} (f : x ≡ get_or l (i + 1) empty) {a b : ℕ} (g : a ≡ x.start) (k : b ≡ end_of x) where
+-- the next is x, and the one at hand ends at r
+module _ {l : List Stretch} {m e i : ℕ} (c : Counting l m e i) (h : i + 1 < length l) {x : Stretch} (f : x ≡ get_or l (i + 1) empty) {r : ℕ} (g : r ≡ e) where
   rest : drop (i + 1) l ≡ x ∷ drop (i + 1 + 1) l
   rest = drop-step l (i + 1) empty h ∙ ap (λ (y : Stretch). y ∷ drop (i + 1 + 1) l) (sym f)
 
-  pub counting_gap : (e ≡ a → ⊥) → Counting l (m + 1) b (i + 1)
+  pub counting_gap : (r ≡ x.start → ⊥) → Counting l (m + 1) (end_of x) (i + 1)
   counting_gap n =
       record {
         now = x;
-        end = sym k;
+        end = refl;
         left =
             let z = c.left in
-            let y = ap (λ (q : List Stretch). length (joined (c.now ∷ q))) rest ∙ ap length (joined_gap c.now x (drop (i + 1 + 1) l) (λ w. n (sym c.end ∙ w ∙ sym g))) in
+            let y = ap (λ (q : List Stretch). length (joined (c.now ∷ q))) rest ∙ ap length (joined_gap c.now x (drop (i + 1 + 1) l) (λ w. n (g ∙ sym c.end ∙ w))) in
             omega (arith, z, y);
         most = (let z = c.most in omega (arith, z));
         within = h;
       }
 
-  pub counting_touch : e ≡ a → Counting l m b (i + 1)
+  pub counting_touch : r ≡ x.start → Counting l m (end_of x) (i + 1)
   counting_touch n =
-      let t : end_of c.now ≡ x.start = c.end ∙ n ∙ g in
+      let t : end_of c.now ≡ x.start = c.end ∙ sym g ∙ n in
       record {
         now = both c.now x;
-        end = (let z : end_of (both c.now x) ≡ end_of x = omega (arith, t) in z) ∙ sym k;
+        end = (let z : end_of (both c.now x) ≡ end_of x = omega (arith, t) in z);
         left = ap (λ (q : List Stretch). m + length q) (sym (ap (λ (q : List Stretch). joined (c.now ∷ q)) rest ∙ joined_touch c.now x (drop (i + 1 + 1) l) t)) ∙ c.left;
         most = (let z = c.most in omega (arith, z));
         within = h;
@@ -267,23 +268,23 @@ module _ {l u₀ u : List Stretch} {m a w i : ℕ} (c : Joining l u₀ u m a w i
     next : joined l ≡ c.done ++ joined (now ∷ x ∷ drop (i + 1 + 1) l)
     next = c.is ∙ ap (λ (q : List Stretch). c.done ++ joined (now ∷ q)) (drop-step l (i + 1) empty h ∙ ap (λ (y : Stretch). y ∷ drop (i + 1 + 1) l) (sym f))
 
-    pub joining_touch : {b : ℕ} → b ≡ x.start → a + w ≡ b → Joining l u₀ u m a (w + x.length) (i + 1)
+    pub joining_touch : {r : ℕ} → r ≡ a + w → r ≡ x.start → Joining l u₀ u m a (w + x.length) (i + 1)
     joining_touch g k =
         record {
           done = c.done;
-          is = next ∙ ap (λ (q : List Stretch). c.done ++ q) (joined_touch now x (drop (i + 1 + 1) l) (k ∙ g));
+          is = next ∙ ap (λ (q : List Stretch). c.done ++ q) (joined_touch now x (drop (i + 1 + 1) l) (sym g ∙ k));
           table = c.table;
           count = c.count;
           end = (let z = ap end_of f in omega (arith, safe, z, k, g));
           within = h;
         }
 
-    pub joining_gap : {b : ℕ} → b ≡ x.start → (a + w ≡ b → ⊥) → Joining l u₀ (set u m now) (m + 1) x.start x.length (i + 1)
+    pub joining_gap : {r : ℕ} → r ≡ a + w → (r ≡ x.start → ⊥) → Joining l u₀ (set u m now) (m + 1) x.start x.length (i + 1)
     joining_gap g k =
         record {
           done = c.done ++ (now ∷ []);
           is =
-              next ∙ ap (λ (q : List Stretch). c.done ++ q) (joined_gap now x (drop (i + 1 + 1) l) (λ z. k (z ∙ sym g)))
+              next ∙ ap (λ (q : List Stretch). c.done ++ q) (joined_gap now x (drop (i + 1 + 1) l) (λ z. k (g ∙ z)))
               ∙ sym (app_app c.done (now ∷ []) (joined (x ∷ drop (i + 1 + 1) l)));
           table = stored;
           count = longer;

@@ -1,23 +1,24 @@
 -- A loop over a list: what is left decides.
-use Prim.Native.Nat.{ℕ, zero, suc, ◌+◌, ◌-◌, ◌*◌, ◌≤◌, ◌<◌}
+use Prim.Native.Nat.{ℕ, ◌+◌, ◌-◌, ◌*◌, ◌≤◌, ◌<◌}
 use native.Mathlib.Omega.{arith}
 use native.Mathlib.Nat.{zero-add}
 use mathlib.Core.Path.{◌≡◌, refl, sym, ap, ◌∙◌}
 use mathlib.Core.Bool.{Bool, true, false, ◌&&◌, ◌||◌, not}
-use mathlib.Core.List.{List, [], ◌∷◌, ◌++◌, map}
+use mathlib.Core.List.{List, [], ◌∷◌}
 use lib.Dec.{leb, ltb, eqb}
-use lib.ListN.{length, take, drop, get_or, set, replicate}
-use lib.Seq.{length-take-le, get_or-take}
-use borrow.Author.Tests.{leb-true, leb-false, ltb-true, ltb-false, eqb-true, eqb-false, le-leb, lt-leb, le-ltb, lt-ltb, not-true, not-false}
-use Rattle.laws.specs.Lists.{every?, some?, from}
+use lib.ListN.{length, take, drop, get_or, length-drop}
+use lib.Seq.{length-take-le, get_or-take, take_all}
+use borrow.Author.Tests.{leb-true, leb-false, ltb-true, ltb-false, eqb-true, eqb-false, le-ltb, lt-ltb}
+use Rattle.std.specs.List.{list_all}
+use Rattle.laws.specs.Lists.{every?, some?}
 use Rattle.laws.proofs.Bools.{and_true_right}
 use Rattle.laws.proofs.Scans.{drop-step, drop_end}
 use Rattle.free_table.specs.declared.Stretch.{Stretch}
-use Rattle.free_table.specs.Table.{empty, pick}
+use Rattle.free_table.specs.Table.{empty}
 use Rattle.seats.specs.Tiling.{end_of, inside, lengths}
-use Rattle.seats.specs.Tests.{overlaps, clear_from, clear_of}
+use Rattle.seats.specs.Tests.{clear_from, clear_of}
 use Rattle.seats.specs.Seats.{apart}
-use Rattle.seats.specs.Plan.{touches_at, place_of}
+use Rattle.seats.specs.Plan.{touches_at}
 use Rattle.seats.proofs.Apart.{above}
 
 module _ {A B : Type 0} (g : List A → B) (xs : List A) where
@@ -38,16 +39,14 @@ module _ {A B : Type 0} {g : List A → B} {xs : List A} {a i : ℕ} (l : Left g
   pub left_end : length xs ≤ i → g (drop a xs) ≡ g []
   left_end h = l.left ∙ ap g (drop_end xs i h)
 
--- every one passes
-module _ {A : Type 0} (f : A → Bool) {xs : List A} {a i : ℕ} (l : Left (every? f) xs a i) (d : A) (h : i < length xs) where
-  pub every_pass : f (get_or xs i d) ≡ true → Left (every? f) xs a (i + 1)
-  every_pass e = left_next l d h (ap (λ (b : Bool). b && every? f (drop (i + 1) xs)) e)
+-- a test of each that agrees with another
+pub all_every : {A : Type 0} (f g : A → Bool) → ((x : A) → f x ≡ g x) → (xs : List A) → list_all f xs ≡ every? g xs
+all_every f g e [] = refl
+all_every f g e (x ∷ xs) = rw (e x, all_every f g e xs) refl
 
-  pub every_fail : f (get_or xs i d) ≡ false → false ≡ every? f (drop a xs)
-  every_fail e = sym (left_now l d h ∙ ap (λ (b : Bool). b && every? f (drop (i + 1) xs)) e)
-
-pub every_end : {A : Type 0} (f : A → Bool) {xs : List A} {a i : ℕ} → Left (every? f) xs a i → length xs ≤ i → true ≡ every? f (drop a xs)
-every_end f l h = sym (left_end l h)
+-- what stands from place k on, of n elements
+pub whole_rest : {A : Type 0} (xs : List A) (k n : ℕ) → length xs ≡ n → take (n - k) (drop k xs) ≡ drop k xs
+whole_rest xs k n e = take_all (n - k) (drop k xs) (let z = length-drop k xs in omega (arith, z, e))
 
 -- ---- inside the pool
 
@@ -59,23 +58,17 @@ inside-leaves n s = by (eqb s.length 0) (leb (end_of s) n) refl refl
     by false true e f = rw (e, f, lt-ltb 0 s.length (let z = eqb-false s.length 0 e in omega (arith, z)), le-ltb n (end_of s) (leb-true (end_of s) n f)) refl
     by false false e f = rw (e, f, lt-ltb 0 s.length (let z = eqb-false s.length 0 e in omega (arith, z)), lt-ltb n (end_of s) (leb-false (end_of s) n f)) refl
 
-pub is-inside : (n : ℕ) (s : Stretch) {r : Bool} → r ≡ ltb 0 s.length && ltb n (end_of s) → r ≡ false → inside n s ≡ true
-is-inside n s e f = inside-leaves n s ∙ ap not (sym e ∙ f)
-
-pub is_outside : (n : ℕ) (s : Stretch) {r : Bool} → r ≡ ltb 0 s.length && ltb n (end_of s) → r ≡ true → inside n s ≡ false
-is_outside n s e f = inside-leaves n s ∙ ap not (sym e ∙ f)
-
 -- ---- clear of the later ones
 
 module _ {xs : List Stretch} {i : ℕ} (l : Left clear_of xs 0 i) (h : i < length xs) {r : Bool} (e : r ≡ clear_from (get_or xs i empty) (drop (i + 1) xs)) where
   turn : (t : Bool) → r ≡ t → clear_of (get_or xs i empty ∷ drop (i + 1) xs) ≡ t && clear_of (drop (i + 1) xs)
   turn t f = ap (λ (b : Bool). b && clear_of (drop (i + 1) xs)) (sym e ∙ f)
 
-  pub clear_next : not r ≡ false → Left clear_of xs 0 (i + 1)
-  clear_next f = left_next l empty h (turn true (not-false r f))
+  pub clear_next : r ≡ true → Left clear_of xs 0 (i + 1)
+  clear_next f = left_next l empty h (turn true f)
 
-  pub clear_stop : not r ≡ true → false ≡ clear_of xs
-  clear_stop f = sym (left_now l empty h ∙ turn false (not-true r f))
+  pub clear_stop : r ≡ false → false ≡ clear_of xs
+  clear_stop f = sym (left_now l empty h ∙ turn false f)
 
 -- ---- in order
 
@@ -154,17 +147,15 @@ module _ (t : List Stretch) (n i : ℕ) where
 pub record Summing (xs : List Stretch) (sum i : ℕ) : Type 0 where
   pub left : sum + lengths (drop i xs) ≡ lengths xs
   pub most : sum ≤ i * 4294967295
-  pub within : i ≤ 33
 
 pub summing_none : (xs : List Stretch) → Summing xs 0 0
-summing_none xs = record { left = zero-add (lengths xs); most = omega arith; within = omega arith }
+summing_none xs = record { left = zero-add (lengths xs); most = omega arith }
 
-pub summing_next : {xs : List Stretch} {sum i : ℕ} → Summing xs sum i → i < length xs → i < 33 → {r : ℕ} → (r ≡ (get_or xs i empty).length) × (r < 4294967296) → Summing xs (sum + r) (i + 1)
-summing_next {xs} {sum} {i} s h k m =
+pub summing_next : {xs : List Stretch} {sum i : ℕ} → Summing xs sum i → i < length xs → (get_or xs i empty).length < 4294967296 → Summing xs (sum + (get_or xs i empty).length) (i + 1)
+summing_next {xs} {sum} {i} s h m =
     record {
-      left = (let e = ap lengths (drop-step xs i empty h) in let z = s.left in omega (arith, e, z, m.0));
-      most = (let z = s.most in omega (arith, z, m.1));
-      within = omega (arith, k);
+      left = (let e = ap lengths (drop-step xs i empty h) in let z = s.left in omega (arith, e, z));
+      most = (let z = s.most in omega (arith, z, m));
     }
 
 pub summing_end : {xs : List Stretch} {sum i : ℕ} → Summing xs sum i → length xs ≤ i → sum ≡ lengths xs

@@ -1,27 +1,24 @@
 -- "reached-good", "lowest-run", "serves-again": what holds of any calls, one after another.
-use Prim.Native.Nat.{ℕ, zero, suc, ◌+◌, ◌-◌, ◌≤◌, ◌<◌}
+use Prim.Native.Nat.{ℕ, ◌+◌, ◌≤◌, ◌<◌}
 use native.Mathlib.Omega.{arith}
-use native.Mathlib.Nat.{zero-add}
 use mathlib.Core.Path.{◌≡◌, refl, sym, ap, ◌∙◌, subst}
-use mathlib.Core.Bool.{Bool, true, false, ◌&&◌}
-use mathlib.Core.List.{List, [], ◌∷◌, ◌++◌, map}
+use mathlib.Core.Bool.{Bool, true, false}
+use mathlib.Core.List.{List, [], ◌∷◌, ◌++◌}
 use mathlib.Core.Option.{Option, none, some}
-use lib.Dec.{leb, ltb, eqb}
-use lib.ListN.{length, take, get_or, set, replicate, length-set}
-use borrow.Author.Tests.{leb-true, leb-false, ltb-true, ltb-false, le-leb, lt-ltb}
-use Rattle.laws.specs.Lists.{from}
+use lib.Dec.{leb, ltb}
+use lib.ListN.{length, take, replicate, length-set}
+use borrow.Author.Tests.{leb-false, ltb-true, ltb-false}
 use Rattle.free_table.specs.declared.Stretch.{Stretch}
 use Rattle.free_table.specs.Table.{empty}
-use Rattle.seats.specs.Tiling.{end_of, holds, one, how_many, lengths, tiled}
-use Rattle.seats.specs.Seats.{Hall, free_of, seat_of, seats_of, apart, table_good, Cut, behind, taken, cut_first, freed, five, Seated, Done, Table, Pilot, Length, Pool, number, Given, refused, with_seat, seat, admit, leave}
+use Rattle.seats.specs.Tiling.{end_of, one, how_many, lengths, tiled}
+use Rattle.seats.specs.Seats.{Hall, free_of, seat_of, seats_of, apart, table_good, Cut, behind, taken, cut_first, freed, five, Done, Table, number, Given, with_seat, seat, admit, leave}
 use Rattle.seats.specs.Calls.{Call, Admit, Leave, then, after, start, FreeRun, Placed, at, nowhere}
-use Rattle.seats.proofs.Tiles.{in_by, in_low, in_high}
-use Rattle.seats.proofs.Rows.{Cuts, cut_rows, some_same}
-use Rattle.seats.proofs.Apart.{above, apart_above, apart_tail, apart_long}
-use Rattle.seats.proofs.Same.{Tiles, tiled-by, many_append, empties_hold}
+use Rattle.seats.proofs.Rows.{cut_rows, some_same}
+use Rattle.seats.proofs.Apart.{apart_tail}
+use Rattle.seats.proofs.Same.{tiled-by, empties_hold}
 use Rattle.seats.proofs.Few.{is_in_lem, past_it, none_before, gap}
 use Rattle.seats.proofs.Fit.{cut-yes, cut_no}
-use Rattle.seats.proofs.Good.{Good, good, good_by, good_conserves, rows_of, none_above, in_pool, own_seat, other_seat, cut_keeps, freed_keeps, freed_rows}
+use Rattle.seats.proofs.Good.{Good, good_by, good_conserves, rows_of, in_pool, own_seat, cut_keeps, freed_keeps, freed_rows}
 use Rattle.seats.proofs.Ways.{admit-cut, leave-done}
 use Rattle.seats.proofs.Either.{AdmitWay, admitted, turned_away, admit_way, LeaveWay, left, kept_in, leave_way}
 

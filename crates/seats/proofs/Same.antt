@@ -4,10 +4,10 @@ use native.Mathlib.Omega.{arith}
 use native.Mathlib.Nat.{zero-add}
 use mathlib.Core.Path.{◌≡◌, refl, sym, ap, ◌∙◌}
 use mathlib.Core.Bool.{Bool, true, false, ◌&&◌, ◌||◌}
-use mathlib.Core.List.{List, [], ◌∷◌, ◌++◌, map}
+use mathlib.Core.List.{List, [], ◌∷◌, ◌++◌}
 use lib.Dec.{leb, ltb, eqb}
-use lib.ListN.{length, get_or, set, replicate}
-use borrow.Author.Tests.{leb-true, leb-false, eqb-true, eqb-false, eq-eqb, le-leb, le-ltb}
+use lib.ListN.{replicate}
+use borrow.Author.Tests.{leb-true, leb-false, eqb-true, eqb-false, eq-eqb, le-ltb}
 use Rattle.laws.specs.Lists.{every?, from}
 use Rattle.laws.proofs.Bools.{and_left, and_right, and_both, same_test}
 use Rattle.free_table.specs.declared.Stretch.{Stretch}

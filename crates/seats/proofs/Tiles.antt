@@ -6,8 +6,6 @@ use mathlib.Core.Path.{◌≡◌, refl, sym, ap, ◌∙◌, subst}
 use mathlib.Core.Bool.{Bool, true, false, ◌&&◌, ◌||◌, not}
 use mathlib.Core.List.{List, [], ◌∷◌}
 use lib.Dec.{leb, ltb, eqb}
-use lib.ListN.{get_or}
-use lib.ListN as list
 use borrow.Author.Tests.{leb-true, leb-false, ltb-true, ltb-false, eqb-true, eqb-false, eq-eqb, le-leb, lt-ltb}
 use Rattle.laws.specs.Lists.{every?, from}
 use Rattle.laws.proofs.Bools.{and_left, and_right, and_both, same_test, both_ways}

@@ -1,19 +1,20 @@
 -- The ways out of an admission and of a leaving, and what is told at each.
-use Prim.Native.Nat.{ℕ, zero, suc, ◌+◌, ◌-◌, ◌≤◌, ◌<◌}
+use Prim.Native.Nat.{ℕ, zero, suc, ◌-◌, ◌≤◌, ◌<◌}
 use native.Mathlib.Omega.{arith}
-use mathlib.Core.Path.{◌≡◌, refl, sym, ap, ◌∙◌, subst}
-use mathlib.Core.Bool.{Bool, true, false, ◌&&◌, not}
+use mathlib.Core.Path.{◌≡◌, refl, sym, ap, ◌∙◌}
+use mathlib.Core.Bool.{Bool, true, false, ◌&&◌}
 use mathlib.Core.List.{List, [], ◌∷◌}
-use mathlib.Core.Option.{Option, none, some}
-use lib.Dec.{leb, ltb, eqb}
+use lib.Dec.{ltb, eqb}
 use lib.ListN.{length, take, get_or, set, replicate}
-use borrow.Author.Tests.{eq-eqb, ne_eqb, lt-ltb, le-ltb, ltb-true, ltb-false, not-true, not-false}
+use borrow.Author.Tests.{eq-eqb, ne_eqb, lt-ltb, le-ltb, ltb-true, ltb-false}
 use Rattle.free_table.specs.declared.Stretch.{Stretch}
 use Rattle.free_table.specs.Table.{empty, pick}
-use Rattle.seats.specs.declared.Seat.{Seat}
 use Rattle.seats.specs.declared.Left.{Left}
-use Rattle.seats.specs.Seats.{Hall, free_of, seat_of, is_in, table_good, Cut, cut_first, freed, Seated, Done, Table, Pilot, Length, Pool, number, place, Given, refused, five, with_seat, seat, admit, leave}
-use Rattle.seats.specs.Told.{hall_of, told, told_left, roomed}
+use Rattle.seats.specs.Seats.{Hall, free_of, seat_of, is_in, table_good, cut_first, freed, Seated, Done, Table, Pilot, Length, Pool, Given, refused, with_seat, seat, admit, leave}
+use Rattle.std.specs.Prelude.{Result, Ok, Err}
+use Rattle.seats.specs.declared.SeatRefusal.{SeatRefusal}
+use Rattle.seats.specs.declared.SeatRefusal.TheVariants as refusal
+use Rattle.seats.specs.Told.{hall_of, answer_by, answered, left_answered, roomed}
 use Rattle.seats.specs.Plan.{first_from}
 use Rattle.seats.proofs.Fit.{Found, none_found, found_at, found_start, found_count}
 use Rattle.seats.proofs.Gather.{too_many}
@@ -119,65 +120,65 @@ module _ (t : List Stretch) (n : ℕ) (ss : List (List (List ℕ))) (m room p w 
   abbrev given : Given
   given = roomed room hall (admit hall p w)
 
-  abbrev Out : Seat → List (List (List ℕ)) → Type 0
-  Out r ws = (r ≡ told given) × (ws ≡ given.hall.seats)
+  abbrev Out : Result ℕ SeatRefusal → List (List (List ℕ)) → Type 0
+  Out r ws = (r ≡ answered given) × (ws ≡ given.hall.seats)
 
-  refuses : {a : Seated} {r : Seat} → given ≡ refused a hall → r ≡ record { number = number a; place = place a; free = n } → Out r ss
-  refuses e f = (f ∙ sym (ap told e), sym (ap (λ (g : Given). g.hall.seats) e))
+  refuses : {a : Seated} → given ≡ refused a hall → Out (answer_by a n) ss
+  refuses e = (sym (ap answered e), sym (ap (λ (g : Given). g.hall.seats) e))
 
-  pub out_room : {r : Seat} → room < 17 → r ≡ record { number = 18; place = 0; free = n } → Out r ss
-  out_room h f = refuses {a = Table} (roomed_small room hall (admit hall p w) h) f
+  pub out_room : room < 17 → Out (Err refusal.Table) ss
+  out_room h = refuses {a = Table} (roomed_small room hall (admit hall p w) h)
 
   module _ (wide : 17 ≤ room) where
     is : {g : Given} → admit hall p w ≡ g → given ≡ g
     is e = roomed_wide room hall (admit hall p w) wide ∙ e
 
     module _ {b : Bool} (tested : b ≡ table_good hall) where
-      pub out_table : {r : Seat} → not b ≡ true → r ≡ record { number = 18; place = 0; free = n } → Out r ss
-      out_table k f = refuses {a = Table} (is (admit_bad hall p w (sym tested ∙ not-true b k))) f
+      pub out_table : b ≡ false → Out (Err refusal.Table) ss
+      out_table k = refuses {a = Table} (is (admit_bad hall p w (sym tested ∙ k)))
 
-      module _ (passed : not b ≡ false) where
+      module _ (passed : b ≡ true) where
         pub good : table_good hall ≡ true
-        good = sym tested ∙ not-false b passed
+        good = sym tested ∙ passed
 
-        pub out_number : {r : Seat} → 15 < p → r ≡ record { number = 13; place = p; free = n } → Out r ss
-        out_number k f = refuses {a = Pilot p} (is (admit-number hall p w good (omega (arith, k)))) f
+        pub out_number : 15 < p → Out (Err (refusal.Pilot p)) ss
+        out_number k = refuses {a = Pilot p} (is (admit-number hall p w good (omega (arith, k))))
 
         module _ (pilot : p ≤ 15) where
-          pub out_in : {r : Seat} → 0 < (seat_of ss p).length → r ≡ record { number = 13; place = p; free = n } → Out r ss
-          out_in k f = refuses {a = Pilot p} (is (admit_in hall p w good (omega (arith, pilot)) k)) f
+          pub out_in : 0 < (seat_of ss p).length → Out (Err (refusal.Pilot p)) ss
+          out_in k = refuses {a = Pilot p} (is (admit_in hall p w good (omega (arith, pilot)) k))
 
           module _ (out : (seat_of ss p).length ≤ 0) where
-            pub out_length : {r : Seat} → w ≡ 0 → r ≡ record { number = 14; place = p; free = n } → Out r ss
-            out_length k f = refuses {a = Length p} (is (admit_none hall p w good (omega (arith, pilot)) (omega (arith, out)) k)) f
+            pub out_length : w ≡ 0 → Out (Err (refusal.Length p)) ss
+            out_length k = refuses {a = Length p} (is (admit_none hall p w good (omega (arith, pilot)) (omega (arith, out)) k))
 
-            module _ (some-rows : w ≡ 0 → ⊥) (long : length t ≡ 17) {i : ℕ} (found : i ≡ first_from t w 0 n) where
+            module _ (some-rows : w ≡ 0 → ⊥) (long : length t ≡ 17) where
               few : n ≤ length t
               few = let z = good_few t n ss m long good in omega (arith, z, long)
 
               cut : admit hall p w ≡ seat hall p w (cut_first w (take n t))
               cut = admit-cut hall p w good (omega (arith, pilot)) (omega (arith, out)) some-rows
 
-              pub out_pool : {r : Seat} → n ≤ i → r ≡ record { number = 12; place = p; free = n } → Out r ss
-              out_pool k f = refuses {a = Pool p} (is (cut ∙ ap (seat hall p w) (none_found t n w few found k))) f
+              pub out_pool : n ≤ first_from t w 0 n → Out (Err (refusal.Pool p)) ss
+              out_pool k = refuses {a = Pool p} (is (cut ∙ ap (seat hall p w) (none_found t n w few refl k)))
 
-              module _ (k : i < n) where
+              module _ {i : ℕ} (found : i ≡ first_from t w 0 n) (k : i < n) where
                 abbrev here : Found w (take n t) i
                 here = found_at t n w few found k
 
                 seated : given ≡ record { answer = Done; hall = with_seat hall here.cut.rest p (record { start = here.cut.start; length = w }) }
                 seated = is (cut ∙ ap (seat hall p w) here.is)
 
-                done : {x : ℕ} → x ≡ length here.cut.rest → Out (record { number = 0; place = 0; free = x }) (set ss p (replicate 5 ((get_or t i empty).start ∷ w ∷ [])))
+                done : {x : ℕ} → x ≡ length here.cut.rest → Out (Ok x) (set ss p (replicate 5 ((get_or t i empty).start ∷ w ∷ [])))
                 done e = (
-                  ap (λ (y : ℕ). record { number = 0; place = 0; free = y }) e ∙ sym (ap told seated),
+                  ap Ok e ∙ sym (ap answered seated),
                   ap (λ (y : ℕ). set ss p (replicate 5 (y ∷ w ∷ []))) (sym (found_start t n w few found k)) ∙ sym (ap (λ (g : Given). g.hall.seats) seated),
                 )
 
-                pub out_all : (get_or t i empty).length ≡ w → Out (record { number = 0; place = 0; free = n - 1 }) (set ss p (replicate 5 ((get_or t i empty).start ∷ w ∷ [])))
+                pub out_all : (get_or t i empty).length ≡ w → Out (Ok (n - 1)) (set ss p (replicate 5 ((get_or t i empty).start ∷ w ∷ [])))
                 out_all e = done (sym (found_count t n w few found k ∙ ap (λ (b : Bool). pick b (n - 1) n) (eq-eqb (get_or t i empty).length w e)))
 
-                pub out_part : ((get_or t i empty).length ≡ w → ⊥) → Out (record { number = 0; place = 0; free = n }) (set ss p (replicate 5 ((get_or t i empty).start ∷ w ∷ [])))
+                pub out_part : ((get_or t i empty).length ≡ w → ⊥) → Out (Ok n) (set ss p (replicate 5 ((get_or t i empty).start ∷ w ∷ [])))
                 out_part e = done (sym (found_count t n w few found k ∙ ap (λ (b : Bool). pick b (n - 1) n) (ne_eqb (get_or t i empty).length w e)))
 
 -- ---- and of a leaving
@@ -189,41 +190,44 @@ module _ (t : List Stretch) (n : ℕ) (ss : List (List (List ℕ))) (m room p : 
   abbrev leaves : Given
   leaves = roomed room leaving (leave leaving p)
 
-  abbrev Says : Left → Type 0
-  Says r = r ≡ told_left leaves (seat_of ss p)
+  abbrev Says : Result Left SeatRefusal → Type 0
+  Says r = r ≡ left_answered leaves (seat_of ss p)
 
-  says-refused : {a : Seated} {r : Left} → leaves ≡ refused a leaving → r ≡ told_left (refused a leaving) (seat_of ss p) → Says r
-  says-refused e f = f ∙ sym (ap (λ (g : Given). told_left g (seat_of ss p)) e)
+  says : {g : Given} → leaves ≡ g → Says (left_answered g (seat_of ss p))
+  says e = sym (ap (λ (g : Given). left_answered g (seat_of ss p)) e)
 
-  pub left_room : {r : Left} → room < 17 → r ≡ told_left (refused Table leaving) (seat_of ss p) → Says r
-  left_room h f = says-refused {a = Table} (roomed_small room leaving (leave leaving p) h) f
+  pub left_room : room < 17 → Says (Err refusal.Table)
+  left_room h = says (roomed_small room leaving (leave leaving p) h)
 
   module _ (wide : 17 ≤ room) {b : Bool} (tested : b ≡ table_good leaving) where
     so : {g : Given} → leave leaving p ≡ g → leaves ≡ g
     so e = roomed_wide room leaving (leave leaving p) wide ∙ e
 
-    pub left_table : {r : Left} → not b ≡ true → r ≡ told_left (refused Table leaving) (seat_of ss p) → Says r
-    left_table k f = says-refused {a = Table} (so (leave_bad leaving p (sym tested ∙ not-true b k))) f
+    pub left_table : b ≡ false → Says (Err refusal.Table)
+    left_table k = says (so (leave_bad leaving p (sym tested ∙ k)))
 
-    module _ (passed : not b ≡ false) where
+    module _ (passed : b ≡ true) where
       sound : table_good leaving ≡ true
-      sound = sym tested ∙ not-false b passed
+      sound = sym tested ∙ passed
 
       pub left_few : length t ≡ 17 → n ≤ 17
       left_few long = good_few t n ss m long sound
 
-      pub left_number : {r : Left} → 15 < p → r ≡ told_left (refused (Pilot p) leaving) (seat_of ss p) → Says r
-      left_number k f = says-refused {a = Pilot p} (so (leave-number leaving p sound (omega (arith, k)))) f
+      pub left_number : 15 < p → Says (Err (refusal.Pilot p))
+      left_number k = says (so (leave-number leaving p sound (omega (arith, k))))
 
-      pub left_out : {r : Left} → p ≤ 15 → (seat_of ss p).length ≡ 0 → r ≡ told_left (refused (Pilot p) leaving) (seat_of ss p) → Says r
-      left_out l k f = says-refused {a = Pilot p} (so (leave_out leaving p sound (omega (arith, l)) k)) f
+      -- the stretch s as the code reads it
+      module _ (pilot : p ≤ 15) {s : Stretch} (own : s ≡ seat_of ss p) where
+        pub left_out : s.length ≡ 0 → Says (Err (refusal.Pilot p))
+        left_out k = says (so (leave_out leaving p sound (omega (arith, pilot)) (sym (ap (λ (x : Stretch). x.length) own) ∙ k)))
 
-      pub left_done : {x : ℕ} → p ≤ 15 → ((seat_of ss p).length ≡ 0 → ⊥) → x ≡ length (freed (seat_of ss p) (take n t))
-          → Says (record { number = 0; place = 0; free = x; start = (seat_of ss p).start; length = (seat_of ss p).length })
-      left_done l k e =
-          ap (λ (y : ℕ). record { number = 0; place = 0; free = y; start = (seat_of ss p).start; length = (seat_of ss p).length }) e
-          ∙ sym (ap (λ (g : Given). told_left g (seat_of ss p)) (so (leave-done leaving p sound (omega (arith, l)) (positive (seat_of ss p).length k))))
-        where
-          positive : (y : ℕ) → (y ≡ 0 → ⊥) → 0 < y
-          positive zero z = absurd (z refl)
-          positive (suc y) z = omega arith
+        pub left_done : {x : ℕ} → (s.length ≡ 0 → ⊥) → x ≡ length (freed s (take n t)) → Says (Ok (record { free = x; stretch = s }))
+        left_done {x} k e =
+            same own e ∙ says (so (leave-done leaving p sound (omega (arith, pilot)) (positive (seat_of ss p).length (λ z. k (ap (λ (y : Stretch). y.length) own ∙ z)))))
+          where
+            same : {r : Stretch} → s ≡ r → x ≡ length (freed s (take n t)) → ◌≡◌ {A = Result Left SeatRefusal} (Ok (record { free = x; stretch = s })) (Ok (record { free = length (freed r (take n t)); stretch = r }))
+            same f g = rw (g, f) refl
+
+            positive : (y : ℕ) → (y ≡ 0 → ⊥) → 0 < y
+            positive zero z = absurd (z refl)
+            positive (suc y) z = omega arith

@@ -1,23 +1,27 @@
 -- From the first seventeen to the whole table: what is decided of them is decided of it, and what is stored stands before the rest.
-use Prim.Native.Nat.{ℕ, zero, suc, ◌+◌, ◌-◌, ◌≤◌, ◌<◌, max}
+use Prim.Native.Nat.{ℕ, zero, suc, ◌-◌, ◌≤◌, ◌<◌, max}
 use native.Mathlib.Omega.{arith}
 use mathlib.Core.Path.{◌≡◌, refl, sym, ap, ◌∙◌, subst}
 use mathlib.Core.Bool.{Bool, true, false, ◌&&◌}
 use mathlib.Core.List.{List, [], ◌∷◌, ◌++◌, map}
 use mathlib.Core.Option.{Option, none, some}
 use lib.Dec.{leb, ltb, eqb}
-use lib.ListN.{get_or, set, take, drop, length, replicate, length-append, length-drop, take-append-drop}
+use lib.ListN.{get_or, take, drop, length, replicate, length-append, length-drop, take-append-drop}
 use lib.Seq.{length-take-le, get_or-take}
-use borrow.Author.Tests.{le-leb, lt-leb, ltb-true, ltb-false, le-ltb, lt-ltb, eqb-true, eqb-false, eq-eqb, ne_eqb}
+use borrow.Author.Tests.{le-leb, lt-leb, ltb-true, ltb-false, eqb-true, eqb-false, eq-eqb, ne_eqb}
 use Rattle.laws.specs.Lists.{every?, from}
 use Rattle.laws.proofs.Bools.{same_test}
 use Rattle.free_table.specs.declared.Stretch.{Stretch}
-use Rattle.free_table.specs.Table.{empty, pick, front, loaded, laid, stored}
+use Rattle.free_table.specs.Table.{empty, pick, loaded, stored}
+use Rattle.free_table.proofs.Fronts.{loaded-is, stored_is}
+use Rattle.std.specs.Prelude.{Result, Ok, Err}
 use Rattle.seats.specs.declared.Seat.{Seat}
 use Rattle.seats.specs.declared.Left.{Left}
+use Rattle.seats.specs.declared.SeatRefusal.{SeatRefusal}
+use Rattle.seats.specs.declared.SeatRefusal.TheVariants as refusal
 use Rattle.seats.specs.Tiling.{end_of, tiled}
-use Rattle.seats.specs.Seats.{Hall, free_of, seat_of, seats_of, same_five, apart, table_good, Cut, cut_first, freed, Seated, Done, Table, Pilot, Length, Pool, number, place, Given, refused, tabled, five, with_seat, seat, admit, leave}
-use Rattle.seats.specs.Told.{hall_of, told, told_left, leaver, roomed, Ready, ReadyFor, cut_table, freed_table}
+use Rattle.seats.specs.Seats.{Hall, seat_of, same_five, apart, table_good, Cut, cut_first, freed, Seated, Done, Table, Pilot, Length, Pool, number, place, Given, refused, tabled, with_seat, seat, admit, leave}
+use Rattle.seats.specs.Told.{hall_of, told, answer_by, answered, left_answered, refusal_told, done_told, leaver, roomed, Ready, ReadyFor, cut_table, freed_table}
 use Rattle.seats.proofs.Fit.{cut_short}
 use Rattle.seats.proofs.Gather.{app_app}
 use Rattle.seats.proofs.Good.{Good, good, good_few, free_long, free_end, seat_end, freed_few}
@@ -25,32 +29,6 @@ use Rattle.seats.proofs.Ways.{roomed_small, roomed_wide, admit_bad, leave_bad, a
 use Rattle.seats.proofs.Either.{positive, AdmitWay, admitted, turned_away, admit_way, LeaveWay, left, kept_in, leave_way}
 
 -- ---- lists
-
-front_cons : (s : Stretch) (t : List Stretch) (i n : ℕ) → front (s ∷ t) (suc i) n ≡ front t i n
-front_cons s t i zero = refl
-front_cons s t i (suc n) = ap (λ (a : ℕ). get_or t i empty ∷ front (s ∷ t) a n) (let e : suc i + 1 ≡ suc (i + 1) = omega arith in e) ∙ ap (λ (l : List Stretch). get_or t i empty ∷ l) (front_cons s t (i + 1) n)
-
-front-is : (t : List Stretch) (n : ℕ) → n ≤ length t → front t 0 n ≡ take n t
-front-is t zero h = refl
-front-is [] (suc n) h = absurd (omega (arith, h))
-front-is (s ∷ t) (suc n) h = ap (λ (l : List Stretch). s ∷ l) (front_cons s t 0 n ∙ front-is t n (omega (arith, h)))
-
-laid_cons : (s x : Stretch) (t z : List Stretch) (i n : ℕ) → laid (s ∷ t) (x ∷ z) (suc i) n ≡ s ∷ laid t z i n
-laid_cons s x t z i zero = refl
-laid_cons s x t z i (suc n) =
-    ap (λ (a : ℕ). laid (s ∷ set t i (get_or z i empty)) (x ∷ z) a n) (let e : suc i + 1 ≡ suc (i + 1) = omega arith in e) ∙ laid_cons s x (set t i (get_or z i empty)) z (i + 1) n
-
-laid-is : (t z : List Stretch) (n : ℕ) → n ≤ length t → n ≤ length z → laid t z 0 n ≡ take n z ++ drop n t
-laid-is t z zero h k = refl
-laid-is [] z (suc n) h k = absurd (omega (arith, h))
-laid-is (s ∷ t) [] (suc n) h k = absurd (omega (arith, k))
-laid-is (s ∷ t) (x ∷ z) (suc n) h k = laid_cons x x t z 0 n ∙ ap (λ (l : List Stretch). x ∷ l) (laid-is t z n (omega (arith, h)) (omega (arith, k)))
-
-take_same : (z : List Stretch) (n : ℕ) → length z ≡ n → take n z ≡ z
-take_same [] zero h = refl
-take_same [] (suc n) h = refl
-take_same (x ∷ z) zero h = absurd (omega (arith, h))
-take_same (x ∷ z) (suc n) h = ap (λ (l : List Stretch). x ∷ l) (take_same z n (omega (arith, h)))
 
 take-take : (m n : ℕ) (t : List Stretch) → m ≤ n → take m (take n t) ≡ take m t
 take-take zero n t h = refl
@@ -63,14 +41,6 @@ drop-take zero n t h = take-append-drop n t
 drop-take (suc m) zero t h = absurd (omega (arith, h))
 drop-take (suc m) (suc n) [] h = refl
 drop-take (suc m) (suc n) (s ∷ t) h = drop-take m n t (omega (arith, h))
-
-pub loaded-is : (ys : List Stretch) → 17 ≤ length ys → loaded ys ≡ take 17 ys
-unfolding loaded
-loaded-is ys h = ap (λ (b : Bool). pick b (front ys 0 17) (replicate 17 empty)) (le-leb 17 (length ys) h) ∙ front-is ys 17 h
-
-stored_is : (ys z : List Stretch) → 17 ≤ length ys → length z ≡ 17 → stored ys z ≡ z ++ drop 17 ys
-unfolding stored
-stored_is ys z h k = laid-is ys z 17 h (omega (arith, k)) ∙ ap (λ (l : List Stretch). l ++ drop 17 ys) (take_same z 17 k)
 
 tabled_long : (t : List Stretch) (n : ℕ) (fs : List Stretch) → n ≤ length t → length fs ≤ length t → length (tabled t n fs) ≡ length t
 tabled_long t n fs h k =
@@ -138,6 +108,77 @@ module _ (ys : List Stretch) (n : ℕ) (ss : List (List (List ℕ))) (m : ℕ) w
             (λ t. absurd (let z = good_few (good t) in omega (arith, z, more)))
 
 -- ---- what is told
+
+-- of what the code answers, where n stretches were free before
+abbrev pub seat_for : Result ℕ SeatRefusal → ℕ → Seat
+seat_for (Ok x) n = done_told x
+seat_for (Err y) n = refusal_told y n
+
+pub refusal-number : (y : SeatRefusal) (n : ℕ) → (refusal_told y n).number ≡ 0 → ⊥
+refusal-number refusal.Table n e = omega (arith, e)
+refusal-number (refusal.Pilot p) n e = omega (arith, e)
+refusal-number (refusal.Length p) n e = omega (arith, e)
+refusal-number (refusal.Pool p) n e = omega (arith, e)
+
+seat_by : (a : Seated) (c n : ℕ) → (0 < number a → c ≡ n) → seat_for (answer_by a c) n ≡ record { number = number a; place = place a; free = c }
+seat_by Done c n h = refl
+seat_by Table c n h = rw (h (omega arith)) refl
+seat_by (Pilot p) c n h = rw (h (omega arith)) refl
+seat_by (Length p) c n h = rw (h (omega arith)) refl
+seat_by (Pool p) c n h = rw (h (omega arith)) refl
+
+-- which answers they are
+pub ok_done : {A : Type 0} (a : Seated) (x : A) {l : A} → Ok l ≡ answer_by a x → (a ≡ Done) × (l ≡ x)
+ok_done Done x e = (refl, (cc))
+ok_done Table x e = cc
+ok_done (Pilot p) x e = cc
+ok_done (Length p) x e = cc
+ok_done (Pool p) x e = cc
+
+pub err_number : {A : Type 0} (a : Seated) (x : A) {y : SeatRefusal} → Err y ≡ answer_by a x → 0 < number a
+err_number Done x e = cc
+err_number Table x e = omega arith
+err_number (Pilot p) x e = omega arith
+err_number (Length p) x e = omega arith
+err_number (Pool p) x e = omega arith
+
+-- a leaving's answer without the stretch
+abbrev pub free_in : Result Left SeatRefusal → Result ℕ SeatRefusal
+free_in (Ok l) = Ok l.free
+free_in (Err y) = Err y
+
+pub free-answered : (g : Given) (s : Stretch) → free_in (left_answered g s) ≡ answered g
+free-answered g s = by g.answer
+  where
+    by : (a : Seated) → free_in (answer_by a (record { free = g.hall.count; stretch = s })) ≡ answer_by a g.hall.count
+    by Done = refl
+    by Table = refl
+    by (Pilot p) = refl
+    by (Length p) = refl
+    by (Pool p) = refl
+
+module _ (room : ℕ) (h : Hall) where
+  -- a refusal leaves the count
+  counts : (g : Given) → (0 < number g.answer → g.hall.count ≡ h.count) → 0 < number (roomed room h g).answer → (roomed room h g).hall.count ≡ h.count
+  counts g f = by (ltb room 17) refl
+    where
+      by : (b : Bool) → ltb room 17 ≡ b → 0 < number (roomed room h g).answer → (roomed room h g).hall.count ≡ h.count
+      by true e k = ap (λ (x : Given). x.hall.count) (roomed_small room h g (ltb-true room 17 e))
+      by false e k = let w = roomed_wide room h g (ltb-false room 17 e) in ap (λ (x : Given). x.hall.count) w ∙ f (subst (λ (x : Given). 0 < number x.answer) w k)
+
+  pub admitted-told : (p w : ℕ) {r : Result ℕ SeatRefusal} → r ≡ answered (roomed room h (admit h p w)) → seat_for r h.count ≡ told (roomed room h (admit h p w))
+  admitted-told p w e = ap (λ (x : Result ℕ SeatRefusal). seat_for x h.count) e ∙ seat_by (roomed room h (admit h p w)).answer (roomed room h (admit h p w)).hall.count h.count (counts (admit h p w) (by (admit_way h p w)))
+    where
+      by : AdmitWay h p w → 0 < number (admit h p w).answer → (admit h p w).hall.count ≡ h.count
+      by (admitted g l k z c f q) n = absurd (let y = ap (λ (x : Given). number x.answer) q in omega (arith, n, y))
+      by (turned_away a l d f) n = ap (λ (x : Given). x.hall.count) f
+
+  pub left-told : (p : ℕ) {r : Result ℕ SeatRefusal} → r ≡ answered (roomed room h (leave h p)) → seat_for r h.count ≡ told (roomed room h (leave h p))
+  left-told p e = ap (λ (x : Result ℕ SeatRefusal). seat_for x h.count) e ∙ seat_by (roomed room h (leave h p)).answer (roomed room h (leave h p)).hall.count h.count (counts (leave h p) (by (leave_way h p)))
+    where
+      by : LeaveWay h p → 0 < number (leave h p).answer → (leave h p).hall.count ≡ h.count
+      by (left g l k q) n = absurd (let y = ap (λ (x : Given). number x.answer) q in omega (arith, n, y))
+      by (kept_in a l d f) n = ap (λ (x : Given). x.hall.count) f
 
 -- the same answer, the same count and the same stretches
 pub record Alike (g g' : Given) : Type 0 where

@@ -1,5 +1,5 @@
 -- The searches and shifts of the code, by places of the table. Definitions only.
-use Rattle.std.specs.Prelude.{ℕ, zero, suc, ◌+◌, ◌-◌, Bool, ◌&&◌, ◌||◌, List, [], ◌∷◌, leb, ltb, eqb, get_or, set}
+use Rattle.std.specs.Prelude.{ℕ, zero, suc, ◌+◌, ◌-◌, Bool, ◌&&◌, ◌||◌, List, [], ◌∷◌, leb, ltb, eqb, get_or, set, cond, Option, Some, None}
 use Rattle.free_table.specs.declared.Stretch.{Stretch}
 use Rattle.free_table.specs.Table.{empty, pick}
 use Rattle.seats.specs.Tiling.{end_of}
@@ -15,6 +15,10 @@ bad_at t n i = eqb (get_or t i empty).length 0 || touches_at t n i
 abbrev pub first_from : List Stretch → ℕ → ℕ → ℕ → ℕ
 first_from t w i zero = i
 first_from t w i (suc m) = pick (leb w (get_or t i empty).length) i (first_from t w (i + 1) m)
+
+-- a place below n is one
+abbrev pub place_in : ℕ → ℕ → Option ℕ
+place_in n i = cond (ltb i n) (Some i) None
 
 -- the m stretches from place j, each moved down by one, the first first
 abbrev pub down_from : List Stretch → ℕ → ℕ → List Stretch

@@ -1,5 +1,5 @@
 -- What code can test without a look at each row. Definitions only.
-use Rattle.std.specs.Prelude.{ℕ, ◌-◌, max, min, Bool, true, false, ◌&&◌, not, List, [], ◌∷◌, ltb, eqb, get_or}
+use Rattle.std.specs.Prelude.{ℕ, ◌-◌, max, min, Bool, true, ◌&&◌, not, List, [], ◌∷◌, ltb, eqb, get_or}
 use Rattle.laws.specs.Lists.{every?}
 use Rattle.free_table.specs.declared.Stretch.{Stretch}
 use Rattle.free_table.specs.Table.{empty, pick}

@@ -1,18 +1,46 @@
 -- What the caller is told, of the first seventeen places of a table of `room`. Definitions only.
-use Rattle.std.specs.Prelude.{ℕ, ◌+◌, ◌≤◌, ◌<◌, List, ltb, length, take, get_or}
+use Rattle.std.specs.Prelude.{ℕ, ◌≤◌, ◌<◌, List, ltb, length, take, get_or, Result, Ok, Err}
 use Rattle.std.proofs.Math.Option.{Option, none, some}
 use Rattle.free_table.specs.declared.Stretch.{Stretch}
 use Rattle.free_table.specs.Table.{empty, pick}
 use Rattle.seats.specs.declared.Seat.{Seat}
 use Rattle.seats.specs.declared.Left.{Left}
+use Rattle.seats.specs.declared.SeatRefusal.{SeatRefusal}
+use Rattle.seats.specs.declared.SeatRefusal.TheVariants as refusal
 use Rattle.seats.specs.Tiling.{end_of}
-use Rattle.seats.specs.Seats.{Hall, Cut, Given, Seated, Done, Table, Pilot, Length, Pool, number, place, refused, tabled, freed, seat_of, admit, leave}
+use Rattle.seats.specs.Seats.{Hall, Cut, Given, Seated, Done, Table, Pilot, Length, Pool, number, place, refused, tabled, freed}
 
 abbrev pub hall_of : List Stretch → ℕ → List (List (List ℕ)) → ℕ → Hall
 hall_of t n ss m = record { rows = m; table = t; count = n; seats = ss }
 
 abbrev pub told : Given → Seat
 told g = record { number = number g.answer; place = place g.answer; free = g.hall.count }
+
+-- what a caller is told of a refusal, and where it is done
+abbrev pub refusal_told : SeatRefusal → ℕ → Seat
+refusal_told refusal.Table n = record { number = 18; place = 0; free = n }
+refusal_told (refusal.Pilot p) n = record { number = 13; place = p; free = n }
+refusal_told (refusal.Length p) n = record { number = 14; place = p; free = n }
+refusal_told (refusal.Pool p) n = record { number = 12; place = p; free = n }
+
+abbrev pub done_told : ℕ → Seat
+done_told n = record { number = 0; place = 0; free = n }
+
+-- what the code answers where x is the value of what is done
+abbrev pub answer_by : {A : Type 0} → Seated → A → Result A SeatRefusal
+answer_by Done x = Ok x
+answer_by Table x = Err refusal.Table
+answer_by (Pilot p) x = Err (refusal.Pilot p)
+answer_by (Length p) x = Err (refusal.Length p)
+answer_by (Pool p) x = Err (refusal.Pool p)
+
+-- of an admission: how many free stretches there are now
+abbrev pub answered : Given → Result ℕ SeatRefusal
+answered g = answer_by g.answer g.hall.count
+
+-- of a leaving also the stretch s that the leaver had
+abbrev pub left_answered : Given → Stretch → Result Left SeatRefusal
+left_answered g s = answer_by g.answer (record { free = g.hall.count; stretch = s })
 
 -- the stretch s that a leaver had; a refused one leaves none
 abbrev pub leaver : Seated → Stretch → Stretch
@@ -21,16 +49,6 @@ leaver Table s = empty
 leaver (Pilot p) s = empty
 leaver (Length p) s = empty
 leaver (Pool p) s = empty
-
-abbrev pub told_left : Given → Stretch → Left
-told_left g s =
-    record {
-      number = number g.answer;
-      place = place g.answer;
-      free = g.hall.count;
-      start = (leaver g.answer s).start;
-      length = (leaver g.answer s).length;
-    }
 
 -- a table of fewer than seventeen places is no table
 unfoldable pub roomed : ℕ → Hall → Given → Given

@@ -1,4 +1,5 @@
 -- What a given value says of its parts, and what makes one.
+use Rattle.std.specs.Prelude.{None, Some}
 use Prim.Native.Nat.{ℕ}
 use mathlib.Core.Path.{◌≡◌, refl, sym, ap, subst, ◌∙◌}
 use mathlib.Core.Bool.{Bool, true, false}
@@ -17,8 +18,7 @@ use Rattle.rules.specs.Fresh.{unrecorded, forgetful}
 use Rattle.rules.specs.declared.Effect.{Effect}
 use Rattle.rules.specs.declared.Origin.{Origin}
 use Rattle.rules.specs.declared.Origin.TheVariants as origin
-use Rattle.rules.specs.declared.OptionalId.{OptionalId}
-use Rattle.rules.specs.declared.OptionalId.TheVariants.{Absent, Given}
+use Rattle.rules.specs.Ids.{OptionalId}
 use Rattle.rules.proofs.Results.{then, got}
 use Rattle.settled.specs.Given.{listed_reader, idle, idles, where_recorded, given}
 
@@ -31,8 +31,8 @@ module _ (w : World) (look : ℕ → ℤ → Res Float) (i : ℕ) (row : Row) wh
   resisted_any : (x : OptionalId) (v : Float) (m n : Mem)
       → ◌≡◌ {A = Res (Unit {0})} (resisted w i row reads x (record { value = v; mem = m }) >>= λ s. ok tt) (resisted w i row reads x (record { value = v; mem = n }) >>= λ s. ok tt)
   unfolding resisted
-  resisted_any Absent v m n = refl
-  resisted_any (Given a) v m n = by (look 0 a)
+  resisted_any None v m n = refl
+  resisted_any (Some a) v m n = by (look 0 a)
     where
       held : (y : Res Float) → ◌≡◌ {A = Res (Unit {0})} ((y >>= λ z. ok (record { value = z; mem = m })) >>= λ (s : Read). ok tt) ((y >>= λ z. ok (record { value = z; mem = n })) >>= λ (s : Read). ok tt)
       held (ok z) = refl

@@ -1,13 +1,13 @@
 -- Two calculations side by side: where the first is done, the second is done too, and what they give is related, or it is refused
 -- for want of depth or room.
+use Rattle.std.specs.Prelude.{None, Some}
 use Prim.Native.Nat.{ℕ}
 use mathlib.Core.Path.{◌≡◌, refl, subst}
 use lib.Ieee.{Float}
 use Rattle.rules.specs.Answer.{Res, ok, refused, ◌>>=◌}
 use Rattle.rules.specs.Number.{number_at}
 use Rattle.rules.specs.declared.Refusal.{Refusal}
-use Rattle.rules.specs.declared.Step.{Step}
-use Rattle.rules.specs.declared.Step.TheVariants.{Finite, NotFinite}
+use Rattle.rules.specs.Number.{Step}
 
 -- wanted is what the second may be refused for
 pub data Tends (Wanted : Refusal → Type 0) {A B : Type 0} (R : A → B → Type 0) : Res A → Res B → Type 0 where
@@ -40,8 +40,8 @@ unfolding number_at
 number_tends {Wanted = Wanted} o s t e = subst (λ (u : Step). Tends Wanted (λ (x y : Float). x ≡ y) (number_at o s) (number_at o u)) e (same s)
   where
     same : (s : Step) → Tends Wanted (λ (x y : Float). x ≡ y) (number_at o s) (number_at o s)
-    same (Finite x) = tends refl
-    same NotFinite = stops
+    same (Some x) = tends refl
+    same None = stops
 
 -- the first is done: the second is related, or short
 pub rests : {Wanted : Refusal → Type 0} {A B C : Type 0} {R : A → B → Type 0} {S : C → B → Type 0} (x : Res A) (a : A) (c : C) (y : Res B) → x ≡ ok a → Tends Wanted R x y → ((b : B) → R a b → S c b) → Tends Wanted S (ok c) y

@@ -1,5 +1,6 @@
 -- A row's calculation with nothing recorded beside the same in its world, with another reader: they give the same value where the readers
 -- do on all that the row needs and the first one's idle entries have a strength; what holds of the second memory's values is kept.
+use Rattle.std.specs.Prelude.{None, Some}
 use Prim.Native.Nat.{ℕ, zero, suc, ◌-◌, min}
 use mathlib.Core.Path.{◌≡◌, refl, ap, ap₂, subst, ◌∙◌}
 use mathlib.Core.Bool.{Bool, true, false, ◌&&◌, ◌||◌, cond}
@@ -23,8 +24,7 @@ use Rattle.rules.specs.Fresh.{unrecorded, limit, resistance_needs, entry_needs, 
 use Rattle.rules.specs.declared.Effect.{Effect}
 use Rattle.rules.specs.declared.Source.{Source}
 use Rattle.rules.specs.declared.EffectOperator.{EffectOperator}
-use Rattle.rules.specs.declared.OptionalId.{OptionalId}
-use Rattle.rules.specs.declared.OptionalId.TheVariants.{Absent, Given}
+use Rattle.rules.specs.Ids.{OptionalId}
 use Rattle.rules.specs.declared.Origin.{Origin}
 use Rattle.rules.specs.declared.Origin.TheVariants as origin
 use Rattle.rules.specs.declared.Refusal.{Refusal}
@@ -116,8 +116,8 @@ module _ (Wanted : Refusal → Type 0) (w : World) (no_room : w.recording ≡ tr
 
     resisted_tends : (a : OptionalId) (q p : Read) → Each Agree (resistance_needs a) → Got q p → Tends Wanted Got (resisted (unrecorded w) i row read a q) (resisted w i row read' a p)
     unfolding resisted
-    resisted_tends Absent q p h g = tends g
-    resisted_tends (Given a) q p h g =
+    resisted_tends None q p h g = tends g
+    resisted_tends (Some a) q p h g =
         on _ _ (h.0 q.mem p.mem g.inv)
         (λ x y k. on _ _ (number_tends row.object (times q.value x.value) (times p.value y.value) (ap₂ times g.value k.value))
         (λ u v e. tends (record { value = e; inv = k.inv })))

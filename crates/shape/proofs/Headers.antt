@@ -29,57 +29,6 @@ each_table p e {t} h = rw (← (nth h t)) at (every_at p (from 0 10) t t e h)
 pub at_most : (f : ℕ → ℕ) (m : ℕ) → every? (λ k. leb (f k) m) (from 0 10) ≡ true → {t : ℕ} → t < 10 → f t ≤ m
 at_most f m e {t} h = leb-true (f t) m (each_table (λ k. leb (f k) m) e h)
 
-module _ (pairs : List (List ℕ)) (n : ℕ) where
-  -- table t + 1 has at most its most records, and begins at the end of those before
-  abbrev here : ℕ → ℕ → ℕ → Bool
-  here i end t = leb (count_of pairs (t + 1)) (limit_of (t + 1)) && eqb (offset_of pairs (t + 1)) end
-
-  abbrev end_at : ℕ → ℕ → ℕ
-  end_at end t = offset_of pairs (t + 1) + width_of (t + 1) * count_of pairs (t + 1)
-
-  abbrev at_length : ℕ → Bool
-  at_length end = eqb end n
-
-  -- tables 1 to t are placed, up to the end
-  pub record Placed (t end : ℕ) : Type 0 where
-    pub tables : Scan here end_at at_length (every? (placed pairs) (from 0 10) && eqb (end_of pairs 10) n) (from 0 10) 10 t end
-    pub near : end ≤ 100 + 1114112 * t
-
-  placed-from : (a m : ℕ) → every? (placed pairs) (from a m) && eqb (end_of pairs (a + m)) n ≡ scan here end_at at_length a (end_of pairs a) (from a m)
-  unfolding scan
-  placed-from a zero = rw add-zero refl
-  placed-from a (suc m) =
-      and_assoc (placed pairs a) (every? (placed pairs) (from (suc a) m)) (eqb (end_of pairs (a + suc m)) n)
-      ∙ rw (next, add-one) (ap (λ (b : Bool). placed pairs a && b) (placed-from (suc a) m))
-    where
-      next : a + suc m ≡ suc a + m
-      next = omega arith
-
-  pub placed-start : Placed 0 100
-  placed-start = record { tables = scan_all refl (placed-from 0 10); near = omega arith }
-
-  module _ {t end : ℕ} (at : Placed t end) (h : t < 10) {count offset limit : ℕ} (c : count ≡ count_of pairs (t + 1)) (o : offset ≡ offset_of pairs (t + 1)) (l : limit ≡ limit_of (t + 1)) where
-    tested : (b : Bool) → leb count limit && eqb offset end ≡ b → b ≡ here t end t
-    tested b e = sym e ∙ rw (c, o, l) refl
-
-    pub too_many : limit < count → false ≡ every? (placed pairs) (from 0 10) && eqb (end_of pairs 10) n
-    too_many e = scan_failed at.tables h (nth h) (tested false (rw (lt-leb count limit e))) refl
-
-    module _ (few : count ≤ limit) where
-      pub elsewhere : (offset ≡ end → ⊥) → false ≡ every? (placed pairs) (from 0 10) && eqb (end_of pairs 10) n
-      elsewhere e = scan_failed at.tables h (nth h) (tested false (rw (le-leb count limit few, ne_eqb offset end e))) refl
-
-      module _ {width : ℕ} (w : width ≡ width_of (t + 1)) where
-        pub small : width * count ≤ 1114112
-        small = mul-le-mul {n₂ = 68} {m₂ = 16384} (rw w (at_most (λ k. width_of (k + 1)) 68 refl h)) (le_trans few (rw l (at_most (λ k. limit_of (k + 1)) 16384 refl h)))
-
-        pub placed-next : offset ≡ end → Placed (t + 1) (offset + width * count)
-        placed-next e =
-            record {
-              tables = scan_next at.tables h (nth h) (tested true (rw (le-leb count limit few, eq-eqb offset end e))) refl (rw (o, w, c) refl);
-              near = omega (arith, small, at.near);
-            }
-
 -- ---- a good header
 
 both_ways : (t : Bool) → false ≡ true → t ≡ true

@@ -35,12 +35,10 @@ pub fn attributes_good(book: &[u8], pairs: &TablePairs) -> bool
 {
     let n = count_of(pairs, 1);
     let mut last = 0;
-    let mut i = 0;
-    while i < n {
+    for i in 0..n {
         let r = attribute(book, pairs, i);
         let good = attribute_good(i, last, r);
         last = r.id;
-        i += 1;
         if !good {
             return false;
         }
@@ -64,12 +62,10 @@ pub fn effects_good(book: &[u8], pairs: &TablePairs) -> bool
     let n = count_of(pairs, 2);
     let modifiers = count_of(pairs, 3);
     let mut last = 0;
-    let mut i = 0;
-    while i < n {
+    for i in 0..n {
         let r = effect(book, pairs, i);
         let good = effect_good(i, last, r, modifiers);
         last = r.id;
-        i += 1;
         if !good {
             return false;
         }
@@ -91,12 +87,10 @@ pub fn type_effects_good(book: &[u8], pairs: &TablePairs) -> bool
 {
     let n = count_of(pairs, 4);
     let mut last = 0;
-    let mut i = 0;
-    while i < n {
+    for i in 0..n {
         let r = type_effect(book, pairs, i);
         let good = type_effect_good(i, last, r);
         last = r.type_id;
-        i += 1;
         if !good {
             return false;
         }
@@ -120,12 +114,10 @@ pub fn buff_collections_good(book: &[u8], pairs: &TablePairs) -> bool
     let n = count_of(pairs, 5);
     let modifiers = count_of(pairs, 3);
     let mut last = 0;
-    let mut i = 0;
-    while i < n {
+    for i in 0..n {
         let r = buff_collection(book, pairs, i);
         let good = buff_collection_good(i, last, r, modifiers);
         last = r.id;
-        i += 1;
         if !good {
             return false;
         }

@@ -21,6 +21,7 @@ use numbers::is_finite;
 use rules::{BOOSTER, BaseAttribute, CHAR, CHARGE, ITEM, Item, MODE, PROJECTED, SHIP, SKILL};
 
 // Whether an object of kind k may stand right after one of kind a.
+#[tactic(auto, unfolding(rules::specs::Shape::follows))]
 fn follows(a: u32, k: u32) -> bool
     ensures defined { result ≡ rule.follows a k }
 {
@@ -44,6 +45,7 @@ fn follows(a: u32, k: u32) -> bool
 }
 
 // Whether an object's codes and ranges are good; there are n base attributes and m ids.
+#[tactic(auto, unfolding(rules::specs::Shape::object_good))]
 pub fn object_good(o: Item, n: usize, m: usize) -> bool
     ensures defined { (f : Fit) → n ≡ length f.bases → m ≡ length f.ids → result ≡ object_good f o }
 {
@@ -77,14 +79,12 @@ pub fn objects_good(fit: &[u8], pairs: &TablePairs) -> bool
     let bases = count_of(pairs, 7);
     let ids = count_of(pairs, 8);
     let mut last = SHIP;
-    let mut i = 0;
-    while i < n {
+    for i in 0..n {
         let o = object(fit, pairs, i);
         let kind = o.kind;
         let standing = stands(i, last, kind);
         let good = standing & object_good(o, bases, ids);
         last = kind;
-        i += 1;
         if !good {
             return false;
         }
@@ -120,10 +120,8 @@ fn bases_finite(fit: &[u8], pairs: &TablePairs) -> bool
     ensures defined { result ≡ every? (λ x. finite x.value) (fit_at fit pairs).bases }
 {
     let n = count_of(pairs, 7);
-    let mut i = 0;
-    while i < n {
+    for i in 0..n {
         let good = base_finite(fit, pairs, i);
-        i += 1;
         if !good {
             return false;
         }
@@ -145,12 +143,10 @@ fn range_ascends(fit: &[u8], pairs: &TablePairs, first: usize, n: usize) -> bool
     ensures defined { result ≡ ascends (map (λ x. x.attribute_id) (span first n (fit_at fit pairs).bases)) }
 {
     let mut last = 0;
-    let mut i = 0;
-    while i < n {
+    for i in 0..n {
         let r = base_attribute(fit, pairs, first + i);
         let good = base_attribute_stands(i, last, r);
         last = r.attribute_id;
-        i += 1;
         if !good {
             return false;
         }
@@ -165,13 +161,11 @@ fn bases_ascend(fit: &[u8], pairs: &TablePairs) -> bool
     ensures defined { result ≡ every? (range_ascends (fit_at fit pairs)) (fit_at fit pairs).objects }
 {
     let n = count_of(pairs, 6);
-    let mut i = 0;
-    while i < n {
+    for i in 0..n {
         let o = object(fit, pairs, i);
         let first = index(o.first_attribute);
         let count = index(o.attributes);
         let good = range_ascends(fit, pairs, first, count);
-        i += 1;
         if !good {
             return false;
         }
@@ -180,6 +174,7 @@ fn bases_ascend(fit: &[u8], pairs: &TablePairs) -> bool
 }
 
 // Whether table 7 is good: floats finite, and the base attributes of one object ascend strictly.
+#[tactic(auto, unfolding(rules::specs::Shape::bases_good))]
 pub fn bases_good(fit: &[u8], pairs: &TablePairs) -> bool
     requires held_fit { HeldFit fit.now pairs.now }
     requires good_objects { objects_good (fit_of fit.now pairs.now) ≡ true }
@@ -197,11 +192,9 @@ pub fn buffs_good(fit: &[u8], pairs: &TablePairs) -> bool
     ensures defined { result ≡ buffs_good (fit_at fit pairs) }
 {
     let n = count_of(pairs, 9);
-    let mut i = 0;
-    while i < n {
+    for i in 0..n {
         let r = projected_buff(fit, pairs, i);
         let good = is_finite(r.value);
-        i += 1;
         if !good {
             return false;
         }
@@ -216,12 +209,10 @@ pub fn asks_good(fit: &[u8], pairs: &TablePairs) -> bool
 {
     let n = count_of(pairs, 10);
     let objects = count_of(pairs, 6);
-    let mut i = 0;
-    while i < n {
+    for i in 0..n {
         let a = ask(fit, pairs, i);
         let o = index(a.object);
         let good = o < objects;
-        i += 1;
         if !good {
             return false;
         }

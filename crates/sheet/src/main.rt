@@ -2,7 +2,7 @@
 #![tactic(auto)]
 
 use listed::asked_text;
-use program::{arg_count, complain, is_word, read_whole, say};
+use program::{Whole, arg_count, complain, is_word, read_whole, say};
 use text::TEXT_BYTES;
 
 fn main(rt: HostRuntime) {
@@ -15,13 +15,11 @@ fn main(rt: HostRuntime) {
         return;
     }
     let mut buffer = [0u8; 65536];
-    let input = read_whole(&mut buffer, &mut rt.reader());
-    if input.failed {
+    let Ok(Whole { bytes, more }) = read_whole(&mut buffer, &mut rt.reader()) else {
         complain(&rt.stderr(), b"sheet: standard input cannot be read\n");
         return;
-    }
-    let n = input.bytes;
+    };
     let mut text = [0u8; TEXT_BYTES];
-    let end = asked_text(&mut text, &buffer[..n], input.more, bits);
-    say(&rt, &rt.stderr(), &text[..end], true);
+    let end = asked_text(&mut text, &buffer[..bytes], more, bits);
+    say(&rt, &rt.stderr(), &text[..end]);
 }

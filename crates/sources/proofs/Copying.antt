@@ -12,42 +12,42 @@ use Rattle.rules.specs.Value.{World, Mem, own_sources, to_source, note}
 use Rattle.rules.specs.declared.Effect.{Effect}
 use Rattle.rules.specs.declared.Source.{Source}
 use Rattle.rules.specs.declared.Refusal.{Refusal}
-use Rattle.sources.specs.declared.Noted.{Noted}
-use Rattle.sources.specs.declared.Noted.TheVariants.{At, Refused}
+use Rattle.sources.specs.declared.SourceCounts.{SourceCounts}
+use Rattle.std.specs.Prelude.{Result, Ok, Err}
 use Rattle.sources.specs.declared.Recording.{Recording}
 use Rattle.sources.specs.Keeping.{RunOf, Begins, Keeping, NotedAs, Advanced, more_of, notes, penalised_notes}
 
 -- an answer says how the definition went
 module _ (counts : List ℕ) (room : ℕ) (s₀ : List (List ℕ)) (f₀ : List (List Float)) (i : ℕ) (s : List (List ℕ)) (f : List (List Float)) where
-  pub record Went (x : Res Mem) (own used : ℕ) : Type 0 where
+  pub record Went (x : Res Mem) (now : SourceCounts) : Type 0 where
     pub mem : Mem
     pub is : x ≡ ok mem
-    pub keeping : Keeping counts room s₀ f₀ i mem s f own used
+    pub keeping : Keeping counts room s₀ f₀ i mem s f now.own now.used
 
-  pub went : (x : Res Mem) {own used : ℕ} → NotedAs counts room s₀ f₀ i x (At own used) s f → Went x own used
+  pub went : (x : Res Mem) {now : SourceCounts} → NotedAs counts room s₀ f₀ i x (Ok now) s f → Went x now
   went (ok m) h = record { mem = m; is = refl; keeping = h }
   went (refused y) h = absurd h
 
-  pub ended : (x : Res Mem) {y : Refusal} → NotedAs counts room s₀ f₀ i x (Refused y) s f → x ≡ refused y
+  pub ended : (x : Res Mem) {y : Refusal} → NotedAs counts room s₀ f₀ i x (Err y) s f → x ≡ refused y
   ended (ok m) h = absurd h
   ended (refused y) h = ap refused (sym h)
 
 module _ (w : World) (counts : List ℕ) (s₀ : List (List ℕ)) (f₀ : List (List Float)) (i : ℕ) (row : Row) (r : Source) (copies : ℕ) (m : Mem) where
   -- n copies are noted
-  pub record Copied (n : ℕ) (s : List (List ℕ)) (f : List (List Float)) (own used : ℕ) : Type 0 where
+  pub record Copied (n : ℕ) (s : List (List ℕ)) (f : List (List Float)) (now : SourceCounts) : Type 0 where
     pub mem : Mem
-    pub keeping : Keeping counts w.room s₀ f₀ i mem s f own used
+    pub keeping : Keeping counts w.room s₀ f₀ i mem s f now.own now.used
     pub same : notes w i row copies r m ≡ notes w i row (copies - n) r mem
     pub fit : w.recording ≡ true → length (own_sources i mem) + (copies - n) ≤ get_or counts i 0
 
-  pub start : {s : List (List ℕ)} {f : List (List Float)} {own used : ℕ} → Keeping counts w.room s₀ f₀ i m s f own used
-      → (w.recording ≡ true → length (own_sources i m) + copies ≤ get_or counts i 0) → Copied 0 s f own used
+  pub start : {s : List (List ℕ)} {f : List (List Float)} {now : SourceCounts} → Keeping counts w.room s₀ f₀ i m s f now.own now.used
+      → (w.recording ≡ true → length (own_sources i m) + copies ≤ get_or counts i 0) → Copied 0 s f now
   start k h = record { mem = m; keeping = k; same = ap (λ (n : ℕ). notes w i row n r m) whole; fit = λ e. omega (arith, h e) }
     where
       whole : copies ≡ copies - 0
       whole = omega arith
 
-  module _ {n : ℕ} {s : List (List ℕ)} {f : List (List Float)} {own used : ℕ} (c : Copied n s f own used) where
+  module _ {n : ℕ} {s : List (List ℕ)} {f : List (List Float)} {now : SourceCounts} (c : Copied n s f now) where
     pub free : n < copies → w.recording ≡ true → length (own_sources i c.mem) + 1 ≤ get_or counts i 0
     free h e = omega (arith, h, c.fit e)
 
@@ -62,8 +62,8 @@ module _ (w : World) (counts : List ℕ) (s₀ : List (List ℕ)) (f₀ : List (
         more = rw less refl
 
     module _ (s' : List (List ℕ)) (f' : List (List Float)) (h : n < copies) where
-      pub again : {a b : ℕ} → a ≤ own + 1 → NotedAs counts w.room s₀ f₀ i (note w i row r c.mem) (At a b) s' f' → Copied (n + 1) s' f' a b
-      again {a} {b} l g =
+      pub again : {next : SourceCounts} → next.own ≤ now.own + 1 → NotedAs counts w.room s₀ f₀ i (note w i row r c.mem) (Ok next) s' f' → Copied (n + 1) s' f' next
+      again l g =
           let t = went counts w.room s₀ f₀ i s' f' (note w i row r c.mem) g in
           record {
             mem = t.mem;
@@ -72,10 +72,10 @@ module _ (w : World) (counts : List ℕ) (s₀ : List (List ℕ)) (f₀ : List (
             fit = λ e. omega (arith, h, c.fit e, l, t.keeping.mine, c.keeping.mine);
           }
 
-      pub stopped : (y : Refusal) → NotedAs counts w.room s₀ f₀ i (note w i row r c.mem) (Refused y) s' f' → NotedAs counts w.room s₀ f₀ i (notes w i row copies r m) (Refused y) s' f'
+      pub stopped : (y : Refusal) → NotedAs counts w.room s₀ f₀ i (note w i row r c.mem) (Err y) s' f' → NotedAs counts w.room s₀ f₀ i (notes w i row copies r m) (Err y) s' f'
       stopped y g = rw (next h ∙ ap (λ (x : Res Mem). x >>= λ m'. notes w i row (copies - (n + 1)) r m') (ended counts w.room s₀ f₀ i s' f' (note w i row r c.mem) g)) refl
 
-    pub done : copies ≤ n → NotedAs counts w.room s₀ f₀ i (notes w i row copies r m) (At own used) s f
+    pub done : copies ≤ n → NotedAs counts w.room s₀ f₀ i (notes w i row copies r m) (Ok now) s f
     unfolding notes
     done h = rw (c.same ∙ none) c.keeping
       where
@@ -86,10 +86,10 @@ module _ (w : World) (counts : List ℕ) (s₀ : List (List ℕ)) (f₀ : List (
         none = rw zero_left refl
 
 -- the same of every world that the columns hold, as a loop keeps it
-abbrev pub AllCopied : Recording → ℕ → Source → ℕ → List (List ℕ) → List (List Float) → ℕ → ℕ → ℕ → List (List ℕ) → List (List Float) → ℕ → ℕ → Type 0
-AllCopied run first r copies s₁ f₁ own₁ used₁ n s f own used =
+abbrev pub AllCopied : Recording → ℕ → Source → ℕ → List (List ℕ) → List (List Float) → SourceCounts → ℕ → List (List ℕ) → List (List Float) → SourceCounts → Type 0
+AllCopied run first r copies s₁ f₁ began n s f now =
     (w : World) (counts : List ℕ) (s₀ : List (List ℕ)) (f₀ : List (List Float)) (i : ℕ) (row : Row) (m : Mem) → RunOf w run → Begins counts i first
-    → Keeping counts w.room s₀ f₀ i m s₁ f₁ own₁ used₁ → (w.recording ≡ true → length (own_sources i m) + copies ≤ get_or counts i 0) → Copied w counts s₀ f₀ i row r copies m n s f own used
+    → Keeping counts w.room s₀ f₀ i m s₁ f₁ began.own began.used → (w.recording ≡ true → length (own_sources i m) + copies ≤ get_or counts i 0) → Copied w counts s₀ f₀ i row r copies m n s f now
 
 pub more_on : (t : Bool) (a b n k : ℕ) → b ≡ a + more_of t n → {c : ℕ} → c ≡ b + more_of t k → c ≡ a + more_of t (n + k)
 more_on true a b n k p q = omega (arith, p, q)
@@ -106,42 +106,28 @@ none_more false a = omega arith
 pub all_more : (t : Bool) (a b n k : ℕ) → n ≤ k → k ≤ n → b ≡ a + more_of t n → b ≡ a + more_of t k
 all_more t a b n k h l p = p ∙ ap (λ (x : ℕ). a + more_of t x) (omega (arith, h, l))
 
--- n notes and then k
-pub advanced_on : (t : Bool) (x : Noted) (own used a b n k : ℕ) → a ≡ own + more_of t n → b ≡ used + more_of t n → Advanced t k a b x → Advanced t (n + k) own used x
-advanced_on t (At c d) own used a b n k p q h = (more_on t own a n k p h.0, more_on t used b n k q h.1)
-advanced_on t (Refused y) own used a b n k p q h = tt
-
--- the counts of a penalised entry's source rows
-pub none_rest : (t : Bool) (q : ℕ) (own used a : ℕ) {b n : ℕ} → n ≡ min q 8 → q ≤ 8 → (a ≡ own + more_of t n) × (b ≡ used + more_of t n) → (a ≡ own + more_of t (min q 9)) × (b ≡ used + more_of t (min q 9))
-none_rest t q own used a e h p = let same : min q 9 ≡ min q 8 = omega (arith, h) in rw (same, sym e) p
-
-pub one_rest : (t : Bool) (q : ℕ) (x : Noted) (own used a b n : ℕ) → n ≡ min q 8 → 8 < q → (a ≡ own + more_of t n) × (b ≡ used + more_of t n) → Advanced t 1 a b x → Advanced t (min q 9) own used x
-one_rest t q x own used a b n e h p g =
-    let nine : min q 9 ≡ n + 1 = omega (arith, e, h) in
-    rw nine (advanced_on t x own used a b n 1 p.0 p.1 g)
-
 -- a penalised entry: copies, then the rest
 module _ (w : World) (counts : List ℕ) (s₀ : List (List ℕ)) (f₀ : List (List Float)) (i : ℕ) (row : Row) (e : Effect) (v : Float) (m : Mem) (s : List (List ℕ)) (f : List (List Float)) where
   abbrev one : Source
   one = to_source e v true 1 true
 
-  pub refused_copies : (n : ℕ) (y : Refusal) → n ≡ min e.quantity 8 → NotedAs counts w.room s₀ f₀ i (notes w i row n one m) (Refused y) s f → NotedAs counts w.room s₀ f₀ i (penalised_notes w i row e v m) (Refused y) s f
+  pub refused_copies : (n : ℕ) (y : Refusal) → n ≡ min e.quantity 8 → NotedAs counts w.room s₀ f₀ i (notes w i row n one m) (Err y) s f → NotedAs counts w.room s₀ f₀ i (penalised_notes w i row e v m) (Err y) s f
   unfolding penalised_notes
   refused_copies n y p g = rw (sym p, ended counts w.room s₀ f₀ i s f (notes w i row n one m) g) refl
 
-  pub no_rest : (n own used : ℕ) → n ≡ min e.quantity 8 → e.quantity ≤ 8 → NotedAs counts w.room s₀ f₀ i (notes w i row n one m) (At own used) s f → NotedAs counts w.room s₀ f₀ i (penalised_notes w i row e v m) (At own used) s f
+  pub no_rest : (n : ℕ) (now : SourceCounts) → n ≡ min e.quantity 8 → e.quantity ≤ 8 → NotedAs counts w.room s₀ f₀ i (notes w i row n one m) (Ok now) s f → NotedAs counts w.room s₀ f₀ i (penalised_notes w i row e v m) (Ok now) s f
   unfolding penalised_notes
-  no_rest n own used p q g =
+  no_rest n now p q g =
       let t = went counts w.room s₀ f₀ i s f (notes w i row n one m) g in
       let none : e.quantity - 8 ≡ 0 = omega (arith, q) in
       rw (sym p, t.is, none) t.keeping
 
   -- the memory after the copies, and the rest with its one source row
-  module _ (n own used : ℕ) (p : n ≡ min e.quantity 8) (g : NotedAs counts w.room s₀ f₀ i (notes w i row n one m) (At own used) s f) where
-    pub copied : Went counts w.room s₀ f₀ i s f (notes w i row n one m) own used
+  module _ (n : ℕ) (now : SourceCounts) (p : n ≡ min e.quantity 8) (g : NotedAs counts w.room s₀ f₀ i (notes w i row n one m) (Ok now) s f) where
+    pub copied : Went counts w.room s₀ f₀ i s f (notes w i row n one m) now
     copied = went counts w.room s₀ f₀ i s f (notes w i row n one m) g
 
-    pub rest : (x : Noted) (s' : List (List ℕ)) (f' : List (List Float)) → 8 < e.quantity → NotedAs counts w.room s₀ f₀ i (note w i row (to_source e v true (e.quantity - 8) true) copied.mem) x s' f'
+    pub rest : (x : Result SourceCounts Refusal) (s' : List (List ℕ)) (f' : List (List Float)) → 8 < e.quantity → NotedAs counts w.room s₀ f₀ i (note w i row (to_source e v true (e.quantity - 8) true) copied.mem) x s' f'
         → NotedAs counts w.room s₀ f₀ i (penalised_notes w i row e v m) x s' f'
     unfolding penalised_notes
     rest x s' f' q h = rw (sym p, copied.is) (more (e.quantity - 8) (omega (arith, q)) h)

@@ -1,15 +1,14 @@
 -- One entry more: what it is, and what it adds to the source rows planned.
-use Prim.Native.Nat.{ℕ, ◌+◌, ◌≤◌, ◌<◌, min}
+use Prim.Native.Nat.{ℕ, ◌+◌, ◌≤◌, ◌<◌}
 use native.Mathlib.Omega.{arith}
 use mathlib.Core.Path.{◌≡◌, sym, ap, subst, ◌∙◌}
-use mathlib.Core.Bool.{Bool, true, false, ◌&&◌, cond}
+use mathlib.Core.Bool.{Bool}
 use mathlib.Core.List.{List, [], map}
 use lib.Ieee.{Float, nan}
 use lib.ListN.{length, get_or}
 use Rattle.laws.specs.Lists.{span, total}
 use Rattle.laws.proofs.Spans.{map_span_next}
 use Rattle.laws.proofs.Sums.{total_snoc}
-use Rattle.rules.specs.Operate.{has_penalty}
 use Rattle.rules.specs.declared.Effect.{Effect}
 use Rattle.reading.specs.Held.{EntryHeld, Sourced, is_running}
 use Rattle.sources.specs.Planned.{planned_if}
@@ -30,13 +29,6 @@ counted states es first i e {more = more} t q a b d =
     let sum : planned_in states es first (i + 1) ≡ planned_in states es first i + planned_by states entry = ap total (map_span_next first i es e t (planned_by states))
     ∙ total_snoc (map (planned_by states) (span first i es)) (planned_by states entry) in
     omega (arith, a, added, sum)
-
--- the branches of one entry's count
-pub planned_copies : (running : Bool) (e : Effect) {p : Bool} {r : ℕ} → p ≡ has_penalty e.operator → (running && (e.penalty && p)) ≡ true → r ≡ min e.quantity 9 → r ≡ planned_if running e
-planned_copies running e {p} h t q = q ∙ sym (ap (λ (b : Bool). cond b (min e.quantity 9) 1) (sym (ap (λ (b : Bool). running && (e.penalty && b)) h) ∙ t))
-
-pub planned_one : (running : Bool) (e : Effect) {p : Bool} → p ≡ has_penalty e.operator → (running && (e.penalty && p)) ≡ false → 1 ≡ planned_if running e
-planned_one running e {p} h t = sym (ap (λ (b : Bool). cond b (min e.quantity 9) 1) (sym (ap (λ (b : Bool). running && (e.penalty && b)) h) ∙ t))
 
 -- all of them
 pub ends : (states : List (List ℕ)) (es : List Effect) (first i count : ℕ) {tot : ℕ} → i ≤ count → count ≤ i → tot ≡ planned_in states es first i → tot ≡ planned_in states es first count

@@ -18,7 +18,8 @@ use Rattle.rules.specs.Columns.{source_numbers, source_floats}
 use Rattle.rules.specs.Value.{World, Mem, own_sources, note}
 use Rattle.rules.specs.declared.Source.{Source}
 use Rattle.rules.specs.declared.Refusal.TheVariants.{Room}
-use Rattle.sources.specs.declared.Noted.TheVariants.{At, Refused}
+use Rattle.sources.specs.declared.SourceCounts.{SourceCounts}
+use Rattle.std.specs.Prelude.{Ok, Err}
 use Rattle.sources.specs.Shown.{filled, shown, placed, first_of}
 use Rattle.sources.specs.Keeping.{Begins, Keeping, NotedAs}
 use Rattle.sources.proofs.Showing.{filled_snoc, shown_put, shown_past}
@@ -38,23 +39,23 @@ module _ (w : World) (i : ℕ) (row : Row) (r : Source) (m : Mem) where
   unfolding note
   note_on e h = rw e (rw (h, note) refl)
 
-module _ (w : World) (counts : List ℕ) (s₀ : List (List ℕ)) (f₀ : List (List Float)) (i : ℕ) (row : Row) (m : Mem) (r : Source) {s : List (List ℕ)} {f : List (List Float)} {own used : ℕ}
-    (k : Keeping counts w.room s₀ f₀ i m s f own used) where
+module _ (w : World) (counts : List ℕ) (s₀ : List (List ℕ)) (f₀ : List (List Float)) (i : ℕ) (row : Row) (m : Mem) (r : Source) {s : List (List ℕ)} {f : List (List Float)} {now : SourceCounts}
+    (k : Keeping counts w.room s₀ f₀ i m s f now.own now.used) where
   -- nothing is recorded
-  pub off : w.recording ≡ false → NotedAs counts w.room s₀ f₀ i (note w i row r m) (At own used) s f
+  pub off : w.recording ≡ false → NotedAs counts w.room s₀ f₀ i (note w i row r m) (Ok now) s f
   off e = rw (note_off w i row r m e) k
 
   -- no room
-  pub full : w.recording ≡ true → w.room ≤ used → NotedAs counts w.room s₀ f₀ i (note w i row r m) (Refused (Room 5)) s f
+  pub full : w.recording ≡ true → w.room ≤ now.used → NotedAs counts w.room s₀ f₀ i (note w i row r m) (Err (Room 5)) s f
   full e h = rw (note_full w i row r m e (le-ltb m.used w.room (omega (arith, h, k.all)))) refl
 
   abbrev after : Mem
   after = record { values = m.values; sources = set m.sources i (own_sources i m ++ (r ∷ [])); used = suc m.used }
 
-  module _ {first : ℕ} (b : Begins counts i first) (fit : length (own_sources i m) < get_or counts i 0) (free : used < w.room) (small : w.room ≤ 4294967295) where
+  module _ {first : ℕ} (b : Begins counts i first) (fit : length (own_sources i m) < get_or counts i 0) (free : now.used < w.room) (small : w.room ≤ 4294967295) where
     -- a column after the row went to its place
-    held : {B : Type 0} (enc : Source → B) (c c₀ : List B) → c ≡ shown enc w.room counts m.sources c₀ → placed w.room (first + own) (enc r) c ≡ shown enc w.room counts after.sources c₀
-    held {B} enc c c₀ e = elim (true_or_false (ltb (first + own) w.room)) [
+    held : {B : Type 0} (enc : Source → B) (c c₀ : List B) → c ≡ shown enc w.room counts m.sources c₀ → placed w.room (first + now.own) (enc r) c ≡ shown enc w.room counts after.sources c₀
+    held {B} enc c c₀ e = elim (true_or_false (ltb (first + now.own) w.room)) [
       | inl t ↦ inside t
       | inr t ↦ past t
     ]
@@ -62,16 +63,16 @@ module _ (w : World) (counts : List ℕ) (s₀ : List (List ℕ)) (f₀ : List (
         snoc : filled (get_or counts i 0) (own_sources i m ++ (r ∷ [])) ≡ set (filled (get_or counts i 0) (get_or m.sources i [])) (length (own_sources i m)) (some r)
         snoc = filled_snoc (get_or counts i 0) (own_sources i m) r fit
 
-        inside : ltb (first + own) w.room ≡ true → placed w.room (first + own) (enc r) c ≡ shown enc w.room counts after.sources c₀
+        inside : ltb (first + now.own) w.room ≡ true → placed w.room (first + now.own) (enc r) c ≡ shown enc w.room counts after.sources c₀
         inside t =
-            let h = ltb-true (first + own) w.room t in
-            let same : first + own ≡ first_of counts i + length (own_sources i m) = omega (arith, h, b.place, k.mine, small) in
+            let h = ltb-true (first + now.own) w.room t in
+            let same : first + now.own ≡ first_of counts i + length (own_sources i m) = omega (arith, h, b.place, k.mine, small) in
             let there : first_of counts i + length (own_sources i m) < w.room = omega (arith, h, same) in
             rw (t, same, e) (sym (shown_put enc w.room counts m.sources c₀ i (length (own_sources i m)) (own_sources i m ++ (r ∷ [])) r k.long b.row fit snoc there))
 
-        past : ltb (first + own) w.room ≡ false → placed w.room (first + own) (enc r) c ≡ shown enc w.room counts after.sources c₀
+        past : ltb (first + now.own) w.room ≡ false → placed w.room (first + now.own) (enc r) c ≡ shown enc w.room counts after.sources c₀
         past t =
-            let h = ltb-false (first + own) w.room t in
+            let h = ltb-false (first + now.own) w.room t in
             let there : w.room ≤ first_of counts i + length (own_sources i m) = omega (arith, h, b.place, k.mine) in
             rw (t, e) (sym (shown_past enc w.room counts m.sources c₀ i (length (own_sources i m)) (own_sources i m ++ (r ∷ [])) r k.long b.row fit snoc there))
 
@@ -91,7 +92,7 @@ module _ (w : World) (counts : List ℕ) (s₀ : List (List ℕ)) (f₀ : List (
         other t = let e = get_or-set_other m.sources i j (own_sources i m ++ (r ∷ [])) [] (eqb-false j i t) in
             (omega (arith, ap length e, k.fits j), omega (arith, ap length e, k.few j))
 
-    kept : Keeping counts w.room s₀ f₀ i after (placed w.room (first + own) (source_numbers r) s) (placed w.room (first + own) (source_floats r) f) (own + 1) (used + 1)
+    kept : Keeping counts w.room s₀ f₀ i after (placed w.room (first + now.own) (source_numbers r) s) (placed w.room (first + now.own) (source_floats r) f) (now.own + 1) (now.used + 1)
     kept =
         record {
           numbers = held source_numbers s s₀ k.numbers;
@@ -106,6 +107,6 @@ module _ (w : World) (counts : List ℕ) (s₀ : List (List ℕ)) (f₀ : List (
 
     -- one more
     pub noted : w.recording ≡ true
-        → {s' : List (List ℕ)} {f' : List (List Float)} → s' ≡ placed w.room (first + own) (source_numbers r) s → f' ≡ placed w.room (first + own) (source_floats r) f
-        → NotedAs counts w.room s₀ f₀ i (note w i row r m) (At (own + 1) (used + 1)) s' f'
+        → {s' : List (List ℕ)} {f' : List (List Float)} → s' ≡ placed w.room (first + now.own) (source_numbers r) s → f' ≡ placed w.room (first + now.own) (source_floats r) f
+        → NotedAs counts w.room s₀ f₀ i (note w i row r m) (Ok (record { own = now.own + 1; used = now.used + 1 })) s' f'
     noted e p q = rw (note_on w i row r m e (lt-ltb m.used w.room (omega (arith, free, k.all))), p, q) kept

@@ -1,4 +1,5 @@
 -- A row that is calculated and not refused gets the source rows that are planned for it.
+use Rattle.std.specs.Prelude.{None, Some}
 use Prim.Native.Nat.{ℕ, zero, suc, ◌+◌, ◌-◌, ◌<◌, min}
 use native.Mathlib.Omega.{arith}
 use mathlib.Core.Path.{◌≡◌, refl, sym, ap, subst, ◌∙◌}
@@ -29,8 +30,7 @@ use Rattle.rules.specs.declared.EffectOperator.{EffectOperator}
 use Rattle.rules.specs.declared.EffectOperator.TheVariants.{PreAssign, PreMul, PreDiv, ModAdd, ModSub, PostMul, PostDiv, PostPercent, PostAssign}
 use Rattle.rules.specs.declared.Origin.{Origin}
 use Rattle.rules.specs.declared.Origin.TheVariants as origin
-use Rattle.rules.specs.declared.OptionalId.{OptionalId}
-use Rattle.rules.specs.declared.OptionalId.TheVariants.{Absent, Given}
+use Rattle.rules.specs.Ids.{OptionalId}
 use Rattle.rules.specs.declared.Refusal.TheVariants.{Depth}
 use Rattle.rules.specs.declared.Source.{Source}
 use Rattle.sources.specs.Planned.{runs_in, planned_if, planned_of, planned_for, planned_by, counts_of, Started, Grown, Leaves}
@@ -153,8 +153,8 @@ module _ (w : World) (i : ℕ) (row : Row) (j : ℕ) (gain : ℕ → ℕ) (add :
   module _ (read : Reader) (leaves : Leaves j read) where
     resisted_grown : (o : OptionalId) (r s : Read) → resisted w i row read o r ≡ ok s → Started j r.mem → Grown j r.mem s.mem 0
     unfolding resisted
-    resisted_grown Absent r s e u = same u (ap (λ (y : Read). y.mem) (got e))
-    resisted_grown (Given a) r s e u =
+    resisted_grown None r s e u = same u (ap (λ (y : Read). y.mem) (got e))
+    resisted_grown (Some a) r s e u =
         let b = bound (read 0 a r.mem) (λ (q : Read). number_at row.object (times r.value q.value) >>= λ v. ok (record { value = v; mem = q.mem })) s e in
         let c = bound (number_at row.object (times r.value b.val.value)) (λ v. ok (record { value = v; mem = b.val.mem })) s b.next in
         subst (λ (y : Mem). Grown j r.mem y 0) (ap (λ (y : Read). y.mem) (got c.next)) (leaves 0 a r.mem b.val u b.is)

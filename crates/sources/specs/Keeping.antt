@@ -1,15 +1,15 @@
 -- What the columns of list 5 say of the memory while row i is calculated, and what a note's answer says. Definitions only.
-use Rattle.std.specs.Prelude.{ℕ, zero, suc, ◌+◌, ◌-◌, ◌≤◌, ◌<◌, min, ◌≡◌, Bool, true, false, List, Float, length, get_or}
+use Rattle.std.specs.Prelude.{ℕ, zero, suc, ◌+◌, ◌-◌, ◌≤◌, ◌<◌, min, ◌≡◌, Bool, true, false, List, Float, Result, Ok, Err, length, get_or}
 use Rattle.columns.specs.Lending.{LentColumn}
 use Rattle.rules.specs.Answer.{Res, ok, refused, ◌>>=◌}
 use Rattle.rules.specs.Dispatch.{Row}
 use Rattle.rules.specs.Columns.{source_numbers, source_floats}
 use Rattle.rules.specs.Value.{World, Mem, own_sources, to_source, note}
 use Rattle.rules.specs.declared.Effect.{Effect}
+use Rattle.rules.specs.declared.Refusal.{Refusal}
 use Rattle.rules.specs.declared.Source.{Source}
 use Rattle.sources.specs.declared.Recording.{Recording}
-use Rattle.sources.specs.declared.Noted.{Noted}
-use Rattle.sources.specs.declared.Noted.TheVariants.{At, Refused}
+use Rattle.sources.specs.declared.SourceCounts.{SourceCounts}
 use Rattle.sources.specs.Shown.{shown, first32}
 
 -- what the world says of recording
@@ -34,18 +34,18 @@ pub record Keeping (counts : List ℕ) (room : ℕ) (s₀ : List (List ℕ)) (f�
   pub inside : m.used ≤ room
 
 -- an answer after notes of row i
-abbrev pub NotedAs : List ℕ → ℕ → List (List ℕ) → List (List Float) → ℕ → Res Mem → Noted → List (List ℕ) → List (List Float) → Type 0
-NotedAs counts room s₀ f₀ i (ok m) (At own used) s f = Keeping counts room s₀ f₀ i m s f own used
-NotedAs counts room s₀ f₀ i (ok m) (Refused x) s f = ⊥
-NotedAs counts room s₀ f₀ i (refused x) (At own used) s f = ⊥
-NotedAs counts room s₀ f₀ i (refused x) (Refused y) s f = y ≡ x
+abbrev pub NotedAs : List ℕ → ℕ → List (List ℕ) → List (List Float) → ℕ → Res Mem → Result SourceCounts Refusal → List (List ℕ) → List (List Float) → Type 0
+NotedAs counts room s₀ f₀ i (ok m) (Ok c) s f = Keeping counts room s₀ f₀ i m s f c.own c.used
+NotedAs counts room s₀ f₀ i (ok m) (Err x) s f = ⊥
+NotedAs counts room s₀ f₀ i (refused x) (Ok c) s f = ⊥
+NotedAs counts room s₀ f₀ i (refused x) (Err y) s f = y ≡ x
 
 -- of any row and memory that list 5 holds, with n source rows more of the row planned, a call gives what the definition g gives, and list 5 holds it
-abbrev pub NotesGive : Recording → ℕ → ℕ → ℕ → ℕ → LentColumn (List ℕ) → LentColumn (List Float) → Noted → (World → ℕ → Row → Mem → Res Mem) → Type 0
-NotesGive run first own used n sources floats r g =
+abbrev pub NotesGive : Recording → ℕ → SourceCounts → ℕ → LentColumn (List ℕ) → LentColumn (List Float) → Result SourceCounts Refusal → (World → ℕ → Row → Mem → Res Mem) → Type 0
+NotesGive run first now n sources floats r g =
     (w : World) (counts : List ℕ) (s₀ : List (List ℕ)) (f₀ : List (List Float)) (i : ℕ) (row : Row) (m : Mem)
     → RunOf w run → Begins counts i first
-    → Keeping counts w.room s₀ f₀ i m sources.entry.now floats.entry.now own used
+    → Keeping counts w.room s₀ f₀ i m sources.entry.now floats.entry.now now.own now.used
     → (w.recording ≡ true → length (own_sources i m) + n ≤ get_or counts i 0)
     → NotedAs counts w.room s₀ f₀ i (g w i row m) r sources.exit.now floats.exit.now
 
@@ -55,9 +55,9 @@ more_of true n = n
 more_of false n = 0
 
 -- n notes, if none was refused
-abbrev pub Advanced : Bool → ℕ → ℕ → ℕ → Noted → Type 0
-Advanced recording n own used (At a b) = (a ≡ own + more_of recording n) × (b ≡ used + more_of recording n)
-Advanced recording n own used (Refused x) = Unit {0}
+abbrev pub Advanced : Bool → ℕ → SourceCounts → Result SourceCounts Refusal → Type 0
+Advanced recording n before (Ok c) = (c.own ≡ before.own + more_of recording n) × (c.used ≡ before.used + more_of recording n)
+Advanced recording n before (Err x) = Unit {0}
 
 -- the same source row so many times
 unfoldable pub notes : World → ℕ → Row → ℕ → Source → Mem → Res Mem

@@ -1,8 +1,6 @@
 // Source rows: what entries leave in list 5, each at its place (`Source` of pass_3.rs).
 #![tactic(auto)]
 
-use rules::Refusal;
-
 // What a run goes by: the room of list 5, and whether source rows are recorded.
 #[derive(Clone, Copy)]
 pub struct Recording {
@@ -10,11 +8,11 @@ pub struct Recording {
     pub recording: bool,
 }
 
-// How many source rows a row has now, and how many there are of all rows; or a refusal.
+// How many source rows a row has now, and how many there are of all rows.
 #[derive(Clone, Copy)]
-pub enum Noted {
-    At(u32, u32),
-    Refused(Refusal),
+pub struct SourceCounts {
+    pub own: u32,
+    pub used: u32,
 }
 
 pub mod marks;

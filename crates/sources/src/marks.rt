@@ -20,9 +20,7 @@ fn set_penalty(floats: &mut [SourceFloats], run: Recording, first: u32, source: 
         return;
     }
     if place < room {
-        let value = floats[place][SOURCE_VALUE];
-        let pair = [value, penalty];
-        floats[place] = pair;
+        floats[place] = [floats[place][SOURCE_VALUE], penalty];
     }
 }
 
@@ -31,14 +29,8 @@ pub fn set_penalties(floats: &mut [SourceFloats], run: Recording, first: u32, b:
     requires roomy { run.room ≤ length floats.old }
     ensures defined { MarksGive run first b floats (λ xs. marked 0 (sorted xs)) }
 {
-    let count = b.count;
-    let sources = b.sources;
-    let n = kept(count);
-    let mut p: usize = 0;
-    while p < n {
-        let source = sources[p];
-        let penalty = weight(p);
-        set_penalty(floats, run, first, source, penalty);
-        p += 1;
+    let n = kept(b.count);
+    for p in 0..n {
+        set_penalty(floats, run, first, b.sources[p], weight(p));
     }
 }

@@ -4,7 +4,7 @@ ghost use Rattle.rules.specs.Value as values;
 ghost use Rattle.sources.specs.Keeping.{NotesGive, Advanced, notes, penalised_notes, penalised_count};
 
 use super::rows::{put_source, to_source};
-use super::{Noted, Recording};
+use super::{Recording, SourceCounts};
 use columns::{SourceFloats, SourceRow};
 use rules::{Effect, Refusal, Source};
 
@@ -15,22 +15,24 @@ pub fn note(
     run: Recording,
     first: u32,
     s: Source,
-    own: u32,
-    used: u32,
-) -> Noted
-    requires roomy { (run.room ≤ length sources.old) × (run.room ≤ length floats.old) × (own ≤ used) }
-    ensures defined { NotesGive run first own used 1 sources floats result (λ w i row. values.note w i row s) }
-    ensures advanced { Advanced run.recording 1 own used result }
+    counts: SourceCounts,
+) -> Result<SourceCounts, Refusal>
+    requires roomy { (run.room ≤ length sources.old) × (run.room ≤ length floats.old) × (counts.own ≤ counts.used) }
+    ensures defined { NotesGive run first counts 1 sources floats result (λ w i row. values.note w i row s) }
+    ensures advanced { Advanced run.recording 1 counts result }
 {
     if !run.recording {
-        return Noted::At(own, used);
+        return Ok(counts);
     }
-    if run.room <= used {
-        return Noted::Refused(Refusal::Room(5));
+    if run.room <= counts.used {
+        return Err(Refusal::Room(5));
     }
-    let place = first as usize + own as usize;
+    let place = first as usize + counts.own as usize;
     put_source(sources, floats, run, place, s);
-    Noted::At(own + 1, used + 1)
+    Ok(SourceCounts {
+        own: counts.own + 1,
+        used: counts.used + 1,
+    })
 }
 
 // The same source row so many times.
@@ -41,36 +43,24 @@ fn note_copies(
     first: u32,
     s: Source,
     copies: u32,
-    own: u32,
-    used: u32,
-) -> Noted
-    requires roomy { (run.room ≤ length sources.old) × (run.room ≤ length floats.old) × (own ≤ used) }
-    ensures defined { NotesGive run first own used copies sources floats result (λ w i row. notes w i row copies s) }
-    ensures advanced { Advanced run.recording copies own used result }
+    counts: SourceCounts,
+) -> Result<SourceCounts, Refusal>
+    requires roomy { (run.room ≤ length sources.old) × (run.room ≤ length floats.old) × (counts.own ≤ counts.used) }
+    ensures defined { NotesGive run first counts copies sources floats result (λ w i row. notes w i row copies s) }
+    ensures advanced { Advanced run.recording copies counts result }
 {
-    let mut a = own;
-    let mut b = used;
-    let mut n: u32 = 0;
-    while n < copies {
-        let got = note(sources, floats, run, first, s, a, b);
-        n += 1;
-        match got {
-            Noted::At(x, y) => {
-                a = x;
-                b = y;
-            }
-            Noted::Refused(y) => return Noted::Refused(y),
-        }
+    let mut now = counts;
+    for _n in 0..copies {
+        now = note(sources, floats, run, first, s, now)?;
     }
-    Noted::At(a, b)
+    Ok(now)
 }
 
 // How many copies of a quantity are weighed, and have a source row of their own.
 pub fn kept(quantity: u32) -> u32
     ensures defined { result ≡ min quantity 8 }
 {
-    let copies = operate::buckets::kept(quantity as usize);
-    copies as u32
+    quantity.min(8)
 }
 
 // The source rows of a penalised entry that runs.
@@ -81,25 +71,19 @@ pub fn note_penalised(
     first: u32,
     e: Effect,
     strength: f64,
-    own: u32,
-    used: u32,
-) -> Noted
-    requires roomy { (run.room ≤ length sources.old) × (run.room ≤ length floats.old) × (own ≤ used) }
-    ensures defined { NotesGive run first own used (penalised_count e.quantity) sources floats result (λ w i row. penalised_notes w i row e strength) }
-    ensures advanced { Advanced run.recording (penalised_count e.quantity) own used result }
+    counts: SourceCounts,
+) -> Result<SourceCounts, Refusal>
+    requires roomy { (run.room ≤ length sources.old) × (run.room ≤ length floats.old) × (counts.own ≤ counts.used) }
+    ensures defined { NotesGive run first counts (penalised_count e.quantity) sources floats result (λ w i row. penalised_notes w i row e strength) }
+    ensures advanced { Advanced run.recording (penalised_count e.quantity) counts result }
 {
     let quantity = e.quantity;
     let one = to_source(e, strength, true, 1, true);
     let copies = kept(quantity);
-    let got = note_copies(sources, floats, run, first, one, copies, own, used);
-    match got {
-        Noted::At(a, b) => {
-            if quantity <= 8 {
-                return Noted::At(a, b);
-            }
-            let rest = to_source(e, strength, true, quantity - 8, true);
-            note(sources, floats, run, first, rest, a, b)
-        }
-        Noted::Refused(y) => Noted::Refused(y),
+    let copied = note_copies(sources, floats, run, first, one, copies, counts)?;
+    if quantity <= 8 {
+        return Ok(copied);
     }
+    let rest = to_source(e, strength, true, quantity - 8, true);
+    note(sources, floats, run, first, rest, copied)
 }

@@ -17,14 +17,8 @@ fn sources_of(e: Effect, running: bool) -> u32
     ensures defined { result ≡ planned_if running e }
     ensures few { result ≤ 9 }
 {
-    let operator = e.operator;
-    let penalised = has_penalty(operator);
-    if running & (e.penalty & penalised) {
-        let quantity = e.quantity;
-        if quantity < 9 {
-            return quantity;
-        }
-        return 9;
+    if running & (e.penalty & has_penalty(e.operator)) {
+        return e.quantity.min(9);
     }
     1
 }
@@ -43,14 +37,10 @@ fn sources_of_row(
     ensures few { result ≤ count * 9 }
 {
     let mut total: usize = 0;
-    let mut i: usize = 0;
-    while i < count {
+    for i in 0..count {
         let e = entry_at(entries, values, first + i);
-        let origin = e.origin;
-        let running = is_running(states, origin);
-        let more = sources_of(e, running);
+        let more = sources_of(e, is_running(states, e.origin));
         total += more as usize;
-        i += 1;
     }
     total
 }
@@ -59,10 +49,7 @@ fn sources_of_row(
 fn held(count: usize) -> u32
     ensures defined { result ≡ held32 count }
 {
-    if count < 4294967295 {
-        return count as u32;
-    }
-    4294967295
+    u32::try_from(count).unwrap_or(u32::MAX)
 }
 
 // First and count in list 5 of the first n rows, whose entries are in list 3.
@@ -78,17 +65,15 @@ pub fn set_sources(
         → rows.new ≡ planned_numbers 0 0 rs (counts_by states.now rs) ++ drop n rows.old }
 {
     let mut first: u32 = 0;
-    let mut k: usize = 0;
-    while k < n {
+    for k in 0..n {
         let r = rows[k];
-        let sources = sources_of_row(
+        let count = held(sources_of_row(
             entries,
             values,
             states,
             index(r[ROW_FIRST_ENTRY]),
             index(r[ROW_ENTRY_COUNT]),
-        );
-        let count = held(sources);
+        ));
         let end = held(index(first) + index(count));
         rows[k] = [
             r[ROW_OBJECT],
@@ -99,6 +84,5 @@ pub fn set_sources(
             count,
         ];
         first = end;
-        k += 1;
     }
 }

@@ -9,7 +9,7 @@ use columns::{SourceFloats, SourceRow};
 use item::codes::operator_code;
 use item::states::{lowest_state, state_code};
 use numbers::integers::{bits, flag, optional_numbers};
-use rules::{Effect, ItemState, OptionalId, Origin, Source, SourceRef};
+use rules::{Effect, ItemState, Origin, Source, SourceRef};
 
 // What a source row is from, as two numbers.
 fn from_numbers(s: SourceRef) -> [u32; 2]
@@ -25,18 +25,13 @@ fn from_numbers(s: SourceRef) -> [u32; 2]
 fn source_numbers(s: Source) -> SourceRow
     ensures defined { result ≡ source_numbers s }
 {
-    let from = s.from;
-    let effect = s.effect_id;
-    let attribute = s.source_attribute_id;
-    let operator = s.operator;
-    let state = s.state;
-    let a = from_numbers(from);
-    let b = optional_numbers(effect);
-    let c = optional_numbers(attribute);
-    let code = operator_code(operator);
+    let a = from_numbers(s.from);
+    let b = optional_numbers(s.effect_id);
+    let c = optional_numbers(s.source_attribute_id);
+    let code = operator_code(s.operator);
     let penalised = flag(s.penalised);
     let applied = flag(s.applied);
-    let needed = state_code(state);
+    let needed = state_code(s.state);
     [
         a[0], a[1], b[0], b[1], c[0], c[1], code, s.quantity, penalised, applied, needed,
     ]
@@ -47,49 +42,28 @@ fn from_of(o: Origin) -> SourceRef
     ensures defined { result ≡ from_of o }
 {
     match o {
-        Origin::Effect {
-            effect_id: _,
-            source,
-            source_category: _,
-            attribute_id: _,
-        } => SourceRef::Object { number: source },
-        Origin::Buff { buff_id, value: _ } => SourceRef::Buff { id: buff_id },
+        Origin::Effect { source, .. } => SourceRef::Object { number: source },
+        Origin::Buff { buff_id, .. } => SourceRef::Buff { id: buff_id },
     }
 }
 
 // The effect of an entry, which a buff has not.
-fn effect_id_of(o: Origin) -> OptionalId
+fn effect_id_of(o: Origin) -> Option<i32>
     ensures defined { result ≡ effect_id_of o }
 {
     match o {
-        Origin::Effect {
-            effect_id,
-            source: _,
-            source_category: _,
-            attribute_id: _,
-        } => OptionalId::Given(effect_id),
-        Origin::Buff {
-            buff_id: _,
-            value: _,
-        } => OptionalId::Absent,
+        Origin::Effect { effect_id, .. } => Some(effect_id),
+        Origin::Buff { .. } => None,
     }
 }
 
-// The attribute that an entry is read off, which a buff has not.
-fn source_attribute_id_of(o: Origin) -> OptionalId
+// The attribute that an entry is read off, which a buff has not; a function over both would take the field as a closure and be longer.
+fn source_attribute_id_of(o: Origin) -> Option<i32>
     ensures defined { result ≡ source_attribute_id_of o }
 {
     match o {
-        Origin::Effect {
-            effect_id: _,
-            source: _,
-            source_category: _,
-            attribute_id,
-        } => OptionalId::Given(attribute_id),
-        Origin::Buff {
-            buff_id: _,
-            value: _,
-        } => OptionalId::Absent,
+        Origin::Effect { attribute_id, .. } => Some(attribute_id),
+        Origin::Buff { .. } => None,
     }
 }
 
@@ -99,15 +73,10 @@ fn needed_state(o: Origin) -> ItemState
 {
     match o {
         Origin::Effect {
-            effect_id: _,
-            source: _,
             source_category,
-            attribute_id: _,
+            ..
         } => lowest_state(source_category),
-        Origin::Buff {
-            buff_id: _,
-            value: _,
-        } => ItemState::Passive,
+        Origin::Buff { .. } => ItemState::Passive,
     }
 }
 
@@ -115,23 +84,17 @@ fn needed_state(o: Origin) -> ItemState
 pub fn to_source(e: Effect, strength: f64, applied: bool, quantity: u32, penalised: bool) -> Source
     ensures defined { result ≡ to_source e strength applied quantity penalised }
 {
-    let origin = e.origin;
-    let operator = e.operator;
-    let from = from_of(origin);
-    let effect_id = effect_id_of(origin);
-    let source_attribute_id = source_attribute_id_of(origin);
-    let state = needed_state(origin);
     Source {
-        from,
-        effect_id,
-        source_attribute_id,
-        operator,
+        from: from_of(e.origin),
+        effect_id: effect_id_of(e.origin),
+        source_attribute_id: source_attribute_id_of(e.origin),
+        operator: e.operator,
         value: strength,
         quantity,
         penalised,
         penalty: 0.0,
         applied,
-        state,
+        state: needed_state(e.origin),
     }
 }
 
@@ -150,9 +113,7 @@ pub fn put_source(
 {
     let room = run.room as usize;
     if place < room {
-        let row = source_numbers(s);
-        let pair = [s.value, s.penalty];
-        sources[place] = row;
-        floats[place] = pair;
+        sources[place] = source_numbers(s);
+        floats[place] = [s.value, s.penalty];
     }
 }

@@ -1,5 +1,6 @@
 -- What was calculated, told of, and kept or not, is an export.
 use Prim.Native.Nat.{ℕ}
+use Rattle.std.specs.Prelude as code
 use mathlib.Core.Path.{◌≡◌, refl, sym, ap, subst, ◌∙◌}
 use mathlib.Core.Bool.{Bool, true, false, true≢false}
 use mathlib.Core.List.{List}
@@ -11,7 +12,7 @@ use Rattle.laws.specs.Floats.{zero_f}
 use Rattle.rules.specs.Answer.{Res, ok, refused, number, place, answer_of}
 use Rattle.rules.specs.Columns.{zero_entry, zero_source}
 use Rattle.rules.specs.Outcome.{Lent, Done, outcome}
-use Rattle.rules.specs.declared.Answer.TheVariants.{Refused}
+use Rattle.rules.specs.Answer.{Refused}
 use Rattle.listing.proofs.Told.{no_number}
 use Rattle.promises.specs.Result.{Meets}
 use Rattle.promises.specs.Zeros.{Empty}
@@ -20,7 +21,9 @@ use Rattle.calculate.specs.Given as goal
 use Rattle.calculate.specs.declared.Outcome.{Outcome}
 use Rattle.kept.specs.Kept.{Kept}
 use Rattle.csv_text.specs.Labels.{Export, text, engine, label, full, export_of, number_of, place_of, text_of}
-use Rattle.csv_text.specs.declared.Told.{Told}
+use Rattle.csv_text.specs.Puts.{Told, told_of, number_in, IsRefused}
+use Rattle.csv_text.specs.declared.ExportRefusal.{ExportRefusal}
+use Rattle.csv_text.proofs.Given.{not_zero}
 use Rattle.spreadsheet.specs.Exports.{exported_of, result_of, ListsFor, ExportedAs}
 use Rattle.spreadsheet.specs.declared.Exported.{Exported}
 
@@ -121,5 +124,7 @@ module _ (b : List ℕ) (st st' : List (List ℕ)) (c₀ c c' : Columns) (made :
           by_lists = lists x refl e;
         })
 
-pub given_as : (made : Outcome) (told : Told) (k b : Bool) → k ≡ b → exported_of made told b ≡ exported_of made told k
-given_as made told k b e = ap (exported_of made told) (sym e)
+-- there is a text where the number told is 0
+pub kept_by : (r : code.Result ℕ ExportRefusal) → code.IfErr r IsRefused → code.is_ok r ≡ eqb (told_of r).number 0
+kept_by (code.Ok end) h = refl
+kept_by (code.Err why) h = sym (ne_eqb (number_in why) 0 (not_zero why h))

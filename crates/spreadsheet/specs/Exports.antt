@@ -8,7 +8,7 @@ use Rattle.promises.specs.Zeros.{Empty}
 use Rattle.run.specs.Filled.{Columns}
 use Rattle.calculate.specs.declared.Outcome.{Outcome}
 use Rattle.csv_text.specs.Labels.{Export, text, engine, label, full, export_of, number_of, place_of, text_of}
-use Rattle.csv_text.specs.declared.Told.{Told}
+use Rattle.csv_text.specs.Puts.{Told}
 use Rattle.spreadsheet.specs.declared.Exported.{Exported}
 
 -- the counts are given where all is kept

@@ -1,14 +1,15 @@
 // The exported function of a spreadsheet: one run, and its rows as comma-separated text with lent labels.
 #![tactic(auto)]
 
-ghost use Rattle.std.specs.Prelude.{◌≡◌};
+ghost use Rattle.std.specs.Prelude.{◌≡◌, is_ok};
+ghost use Rattle.csv_text.specs.Puts.{told_of};
 ghost use Rattle.run.specs.Filled.{lent_columns, lent_of};
 ghost use Rattle.spreadsheet.specs.Exports.{Exports, exported_of, result_of};
 
 use calculate::{Outcome, dogma_calculate};
 use columns::{AttributeRow, CollectedRow, EntryRow, PlainRow, SourceFloats, SourceRow, States};
 use csv_text::labels::LabelRow;
-use csv_text::{Told, export_text};
+use csv_text::{ExportRefusal, export_text};
 use kept::kept_if;
 
 // What comes back of a call: 01's number and place, how many rows each list has, and how many bytes the text.
@@ -26,30 +27,30 @@ pub struct Exported {
 }
 
 // The answer: no counts after a refusal.
-fn exported_of(made: Outcome, told: Told, keep: bool) -> Exported
-    ensures defined { result ≡ exported_of made told keep }
+fn exported_of(made: Outcome, told: Result<usize, ExportRefusal>) -> Exported
+    ensures defined { result ≡ exported_of made (told_of told) (is_ok told) }
 {
-    if keep {
-        return Exported {
-            number: told.number,
-            place: told.place,
+    match told {
+        Ok(length) => Exported {
+            number: 0,
+            place: 0,
             collected: made.collected,
             rows: made.rows,
             entries: made.entries,
             plain: made.plain,
             sources: made.sources,
-            length: told.length,
-        };
-    }
-    Exported {
-        number: told.number,
-        place: told.place,
-        collected: 0,
-        rows: 0,
-        entries: 0,
-        plain: 0,
-        sources: 0,
-        length: told.length,
+            length: length as u64,
+        },
+        Err(refusal) => Exported {
+            number: refusal.number(),
+            place: refusal.place(),
+            collected: 0,
+            rows: 0,
+            entries: 0,
+            plain: 0,
+            sources: 0,
+            length: 0,
+        },
     }
 }
 
@@ -99,7 +100,7 @@ pub fn dogma_export(
         labels,
         label_bytes,
     );
-    let keep = told.number == 0;
+    let keep = told.is_ok();
     kept_if(
         states,
         collected,
@@ -114,5 +115,5 @@ pub fn dogma_export(
         source_values,
         keep,
     );
-    exported_of(made, told, keep)
+    exported_of(made, told)
 }

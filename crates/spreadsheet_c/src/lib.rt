@@ -1,4 +1,4 @@
-// The exported functions of `spreadsheet`: a run and its rows as comma-separated text, for callers in C. Each calls the library's function, and says what it says.
+// The exported functions of `spreadsheet`: a run and its rows as comma-separated text.
 #![tactic(auto)]
 
 ghost use Rattle.run.specs.Filled.{lent_columns, lent_of};

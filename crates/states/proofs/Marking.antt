@@ -6,7 +6,7 @@ use mathlib.Core.Path.{◌≡◌, refl, sym, ap, subst, ◌∙◌}
 use mathlib.Core.Bool.{Bool, true, false}
 use mathlib.Core.List.{List, [], ◌∷◌, map}
 use mathlib.Core.Logic.{◌⊎◌, inl, inr}
-use mathlib.Core.Option.{Option, none, some}
+use mathlib.Core.Option.{some}
 use lib.IntN.{ℤ}
 use lib.ListN.{length, get_or, set, length-set}
 use lib.Seq.{get_or-set_same, get_or-set_other}
@@ -20,7 +20,7 @@ use Rattle.rules.specs.Codes.{category_at}
 use Rattle.rules.specs.Info.{get_dogma_effect, get_dogma_effects}
 use Rattle.rules.specs.Item.{is_rig, mutated, effects_of}
 use Rattle.rules.specs.Sheet.{Book}
-use Rattle.rules.specs.States.{raised_to, raised_by, highest}
+use Rattle.rules.specs.States.{raised_to, highest}
 use Rattle.rules.specs.declared.DogmaEffect.{DogmaEffect}
 use Rattle.rules.specs.declared.Item.{Item}
 use Rattle.rules.specs.declared.TypeDogmaEffect.{TypeDogmaEffect}

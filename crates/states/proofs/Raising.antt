@@ -1,5 +1,8 @@
 -- Laws of the highest state, and of the loops over a type's effects.
-use Prim.Native.Nat.{ℕ, ◌+◌, ◌-◌, ◌<◌, ◌≤◌, max}
+use Rattle.std.specs.Prelude.{Option, Some, None}
+use Rattle.std.specs.List.{list_any, range_with_len}
+use Rattle.laws.specs.Options.{option_of}
+use Prim.Native.Nat.{ℕ, zero, suc, ◌+◌, ◌-◌, ◌<◌, ◌≤◌, max}
 use native.Mathlib.Omega.{arith}
 use mathlib.Core.Path.{◌≡◌, refl, sym, ap, ap₂, ◌∙◌}
 use mathlib.Core.Bool.{Bool, true, false, not, ◌||◌, cond}
@@ -11,49 +14,36 @@ use Rattle.laws.proofs.Keep.{keep_append}
 use Rattle.laws.proofs.Maps.{same_default, map_append, map_at, map-map}
 use Rattle.laws.proofs.Spans.{span_left, span_end, span_all, span_at, span_length}
 use Rattle.rules.specs.States.{highest, raised_by, raised_to}
-use Rattle.rules.specs.Bytes.{count_of}
-use Rattle.rules.specs.Sheet.{Book, book_of}
+use Rattle.rules.specs.Ids.{OptionalId}
+use Rattle.rules.specs.Sheet.{Book}
 use Rattle.rules.specs.Info.{get_dogma_effect, get_dogma_effects}
 use Rattle.rules.specs.Item.{mutated, effects_of}
 use Rattle.rules.specs.declared.Item.{Item}
 use Rattle.rules.specs.declared.TypeDogmaEffect.{TypeDogmaEffect}
 use Rattle.rules.specs.declared.DogmaEffect.{DogmaEffect}
-use Rattle.info.specs.LookUps.{effect_found, Stretch}
+use Rattle.info.specs.LookUps.{Stretch}
 use lib.IntN.{ℤ}
-use Rattle.info.specs.declared.look_ups.FoundEffect.{FoundEffect}
-use Rattle.info.specs.declared.look_ups.FoundEffect.TheVariants as effect
 use mir.Syntax.{w32}
 use mir.Val.{SFits, to_z, of_z}
 use mir.ValLaws.{to_z-of_z}
 use Rattle.rules.specs.Codes.{category_at}
-use Rattle.info.proofs.Elements.{type_effects_length}
-use Rattle.states.specs.Raised.{among, reach_on, Turn, turn, turns_of, reached_of}
+use Rattle.states.specs.Raised.{among, reach_on, base_effects_of, Turn, turn, turns_of, reached_of}
 
--- count places from first on, as those up to the end
-span_ended : {A : Type 0} (first count : ℕ) (l : List A) → span first count l ≡ span first (first + count - first) l
-span_ended first count l = ap (λ (n : ℕ). span first n l) same
-  where
-    same : count ≡ first + count - first
-    same = omega arith
-
-pub among-start : (t : TypeDogmaEffect) (first count : ℕ) (l : List TypeDogmaEffect) → among (span first count l) t ≡ among (span first (first + count - first) l) t
-among-start t first count l = ap (λ (q : List TypeDogmaEffect). among q t) (span_ended first count l)
-
-pub inside_types : (b : List ℕ) (pairs : List (List ℕ)) (i e : ℕ) → i < e → e ≤ count_of pairs 4 → i < length (book_of b pairs).type_effects
-inside_types b pairs i e l h = omega (arith, type_effects_length b pairs)
+-- a test of the elements at n places from a on
+pub any-span : {A : Type 0} (p : A → Bool) (xs : List A) (d : A) (a n : ℕ) → a + n ≤ length xs → list_any (λ i. p (get_or xs i d)) (range_with_len a n) ≡ some? p (span a n xs)
+any-span p xs d a zero h =
+    let none : a - a ≡ 0 = omega arith in
+    sym (ap (some? p) (rw none at (span_end a a xs (omega arith))))
+any-span p xs d a (suc n) h =
+    let left : a + suc n - a ≡ suc n = omega arith in
+    let rest : a + suc n - (a + 1) ≡ n = omega arith in
+    let here = rw (left, rest) at (span_left a (a + suc n) xs d (omega arith) (omega arith)) in
+    rw here (ap (λ (t : Bool). p (get_or xs a d) || t) (any-span p xs d (a + 1) n (omega arith)))
 
 -- element i is x, where i is one of the places up to e
 module _ {A : Type 0} (ts : List A) (i e : ℕ) (x : A) (n : (d : A) → x ≡ get_or ts i d) (l : i < e) (h : i < length ts) where
   pub span_here : span i (e - i) ts ≡ x ∷ span (i + 1) (e - (i + 1)) ts
   span_here = span_left i e ts x l h ∙ ap (λ (y : A). y ∷ span (i + 1) (e - (i + 1)) ts) (sym (n x))
-
-  -- a search for one that passes
-  module _ (p : A → Bool) {whole : Bool} (w : whole ≡ some? p (span i (e - i) ts)) where
-    pub found_here : p x ≡ true → true ≡ whole
-    found_here q = sym (w ∙ ap (some? p) span_here ∙ ap (λ (t : Bool). t || some? p (span (i + 1) (e - (i + 1)) ts)) q)
-
-    pub found_on : p x ≡ false → whole ≡ some? p (span (i + 1) (e - (i + 1)) ts)
-    found_on q = w ∙ ap (some? p) span_here ∙ ap (λ (t : Bool). t || some? p (span (i + 1) (e - (i + 1)) ts)) q
 
   -- g raises by each that passes
   module _ (g : A → ℕ) (p : A → Bool) {whole : ℕ} (top : ℕ) (w : whole ≡ highest top (map g (keep p (span i (e - i) ts)))) where
@@ -70,9 +60,6 @@ module _ {A : Type 0} (ts : List A) (i e : ℕ) (x : A) (n : (d : A) → x ≡ g
 
 -- and at the end
 module _ {A : Type 0} (ts : List A) (i e : ℕ) (h : e ≤ i) where
-  pub found_end : (p : A → Bool) {whole : Bool} → whole ≡ some? p (span i (e - i) ts) → false ≡ whole
-  found_end p w = sym (w ∙ ap (some? p) (span_end i e ts h))
-
   pub raise_end : (g : A → ℕ) (p : A → Bool) {whole : ℕ} (top : ℕ) → whole ≡ highest top (map g (keep p (span i (e - i) ts))) → top ≡ whole
   raise_end g p top w = sym (w ∙ ap (λ (l : List A). highest top (map g (keep p l))) (span_end i e ts h))
 
@@ -166,8 +153,12 @@ pub turn_is : {t : TypeDogmaEffect} {b : Bool} (xs : List Turn) (i : ℕ) → ((
 turn_is xs i p q d = λ j. record { effect = p d j; over = q d j }
 
 -- a base's effects, as they were looked up
-pub base_of_lem : (k : Book) (m : Bool) (a : ℤ) {first count : ℕ} → SFits w32 a → Stretch (cond m (get_dogma_effects k (to_z w32 (of_z w32 a))) []) k.type_effects first count → cond m (get_dogma_effects k a) [] ≡ span first count k.type_effects
-base_of_lem k m a s r = ap (λ (x : ℤ). cond m (get_dogma_effects k x) []) (sym (to_z-of_z w32 a s)) ∙ r.is
+pub base_of_lem : (k : Book) (o : Item) (b : OptionalId) {first count : ℕ} → b ≡ cond (mutated o) (Some o.mutation_base) None → Stretch (base_effects_of k b) k.type_effects first count → cond (mutated o) (get_dogma_effects k o.mutation_base) [] ≡ span first count k.type_effects
+base_of_lem k o b e r = by (mutated o) ∙ ap (base_effects_of k) (sym e) ∙ r.is
+  where
+    by : (m : Bool) → cond m (get_dogma_effects k o.mutation_base) [] ≡ base_effects_of k (cond m (Some o.mutation_base) None)
+    by true = refl
+    by false = refl
 
 -- a type's effects, as they were looked up
 pub run_of : (k : Book) (a : ℤ) {first count : ℕ} → SFits w32 a → Stretch (get_dogma_effects k (to_z w32 (of_z w32 a))) k.type_effects first count → get_dogma_effects k a ≡ span first count k.type_effects
@@ -175,12 +166,12 @@ run_of k a s r = ap (get_dogma_effects k) (sym (to_z-of_z w32 a s)) ∙ r.is
 
 -- ---- one effect, found or missing
 
-module _ (k : Book) (o : Item) (t : TypeDogmaEffect) (f : FoundEffect) (s : SFits w32 t.effect_id) (e : effect_found f ≡ get_dogma_effect k (to_z w32 (of_z w32 t.effect_id))) where
-  looked_up : effect_found f ≡ get_dogma_effect k t.effect_id
+module _ (k : Book) (o : Item) (t : TypeDogmaEffect) (f : Option DogmaEffect) (s : SFits w32 t.effect_id) (e : option_of f ≡ get_dogma_effect k (to_z w32 (of_z w32 t.effect_id))) where
+  looked_up : option_of f ≡ get_dogma_effect k t.effect_id
   looked_up = e ∙ ap (get_dogma_effect k) (to_z-of_z w32 t.effect_id s)
 
-  pub reach_found : (x : DogmaEffect) {r : ℕ} → f ≡ effect.At x → r ≡ raised_to o (category_at x.category) → r ≡ reach_on k o t
-  reach_found x a h = h ∙ ap (raised_by o) (ap effect_found (sym a) ∙ looked_up)
+  pub reach_found : (x : DogmaEffect) {r : ℕ} → f ≡ Some x → r ≡ raised_to o (category_at x.category) → r ≡ reach_on k o t
+  reach_found x a h = h ∙ ap (raised_by o) (ap option_of (sym a) ∙ looked_up)
 
-  pub reach-missing : f ≡ effect.Nothing → 0 ≡ reach_on k o t
-  reach-missing a = ap (raised_by o) (ap effect_found (sym a) ∙ looked_up)
+  pub reach-missing : f ≡ None → 0 ≡ reach_on k o t
+  reach-missing a = ap (raised_by o) (ap option_of (sym a) ∙ looked_up)

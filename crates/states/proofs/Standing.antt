@@ -1,25 +1,19 @@
 -- Laws of an object's states: the tests in the code's order, the number of an object, the rows of all.
-use Prim.Native.Nat.{ℕ, ◌+◌, ◌-◌, ◌≤◌, ◌<◌, max, min}
+use Prim.Native.Nat.{ℕ, ◌+◌, ◌-◌, ◌<◌, max, min}
 use native.Mathlib.Omega.{arith}
 use mathlib.Core.Path.{◌≡◌, refl, sym, ap, ◌∙◌}
 use mathlib.Core.Bool.{Bool, true, false, ◌&&◌, ◌||◌, cond}
 use mathlib.Core.List.{List, [], ◌∷◌, map}
 use mathlib.Core.Option.{none, some}
-use lib.IntN.{pos}
 use lib.ListN.{length, take, set, get_or, replicate, length-map, length-replicate}
 use lib.Seq.{take-length, length-take-le}
 use lib.Dec.{eqb}
-use mir.Syntax.{w32}
-use mir.Val.{SFits, of_z}
-use borrow.Author.Rules.{rules}
 use borrow.Author.Tests.{eqb-true}
-use Rattle.laws.specs.Lists.{eq_z}
 use Rattle.laws.specs.Columns.{Col}
 use Rattle.laws.proofs.Bools.{or_none_right}
 use Rattle.laws.proofs.First.{some_first, none_first}
 use Rattle.laws.proofs.Laid.{col_more, col_column}
 use Rattle.laws.proofs.Maps.{map_next}
-use Rattle.laws.proofs.Signs.{eq_z-bits}
 use Rattle.rules.specs.Bytes.{count_of}
 use Rattle.rules.specs.Constants.{capacitor_need}
 use Rattle.rules.specs.Sheet.{Book, Fit, bases_of, fit_of, object_from}
@@ -118,9 +112,6 @@ module _ (b : List ℕ) (pairs : List (List ℕ)) where
   pub no_ship : count_of pairs 6 ≡ 0 → false ≡ structure_fit (fit_of b pairs)
   unfolding fit_of
   no_ship h = rw h refl
-
-  pub hull_tested : (o : Item) → SFits w32 o.category_id → Nth (fit_of b pairs).objects 0 o → eqb (of_z w32 o.category_id) 65 ≡ structure_fit (fit_of b pairs)
-  hull_tested o s n = eq_z-bits {w = w32} o.category_id (pos 65) s (search rules) ∙ ap (λ (x : Item). eq_z x.category_id (pos 65)) (n no_item)
 
 -- ---- the rows of all objects, laid over zeros
 

@@ -1,11 +1,12 @@
 -- The parts of an object's states after collection, as the code works them out.
-use Rattle.std.specs.Prelude.{ℕ, ◌<◌, max, Bool, false, cond, List, [], ◌∷◌, ◌++◌, map, length, replicate}
+use Rattle.std.specs.Prelude.{ℕ, ◌<◌, max, Bool, false, cond, List, [], ◌∷◌, ◌++◌, map, length, replicate, Some, None}
 use Rattle.laws.specs.Lists.{eq_z, some?, span}
 use Rattle.laws.specs.Columns.{column}
+use Rattle.rules.specs.Ids.{OptionalId}
 use Rattle.rules.specs.Constants.{capacitor_need}
 use Rattle.rules.specs.Codes.{state_code}
 use Rattle.rules.specs.Sheet.{Book, Fit, bases_of}
-use Rattle.rules.specs.Info.{get_dogma_effect}
+use Rattle.rules.specs.Info.{get_dogma_effect, get_dogma_effects}
 use Rattle.rules.specs.Item.{effects_of}
 use Rattle.rules.specs.States.{States, raised_by, highest, states_of}
 use Rattle.rules.specs.declared.Item.{Item}
@@ -56,6 +57,11 @@ reached_of k o = highest o.max_state (map (reach_on k o) (effects_of k o))
 unfoldable pub able_of : Book → Fit → Item → ℕ
 able_of k f o =
     cond (some? (λ r. eq_z r.attribute_id capacitor_need) (bases_of f o)) (max (reached_of k o) (state_code Active)) (reached_of k o)
+
+-- the effects of the type that an object was mutated from, where it was
+abbrev pub base_effects_of : Book → OptionalId → List TypeDogmaEffect
+base_effects_of k None = []
+base_effects_of k (Some a) = get_dogma_effects k a
 
 -- the rows of all objects, and zeros
 abbrev pub rows_of : Book → Fit → List (List ℕ)

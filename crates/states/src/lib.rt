@@ -14,17 +14,18 @@ ghost use Rattle.info.specs.declared.look_ups.TypeEffects.{TypeEffects};
 ghost use Rattle.info.specs.Sound.{HeldBook, HeldFit, SoundBook, SoundFit};
 ghost use Rattle.item.specs.Categories.{CategoriesOf};
 ghost use Rattle.states.specs.Marked.{EffectsMarked, TypesMarked};
-ghost use Rattle.states.specs.Raised.{among, both, reach_on, Turn, turns_at, reached_of, able_of, ObjectOf, rows_of};
+ghost use Rattle.states.specs.Raised.{among, both, reach_on, base_effects_of, Turn, turns_at, reached_of, able_of, ObjectOf, rows_of};
 
-use columns::{EffectPlaces, OBJECTS, STATE_WIDTH, StateRow, States, TablePairs};
+use columns::{
+    EffectPlaces, OBJECTS, STATE_WIDTH, StateRow, States, TABLE_EFFECTS, TABLE_OBJECTS,
+    TABLE_TYPE_EFFECTS, TablePairs,
+};
 use info::header::count_of;
 use info::little_endian::index;
-use info::look_ups::{
-    FoundBase, FoundEffect, TypeEffects, get_base, get_dogma_effect, get_dogma_effects,
-};
+use info::look_ups::{TypeEffects, get_base, get_dogma_effect, get_dogma_effects};
 use info::records::{effect, object, type_effect};
 use item::categories::categories_of;
-use item::kinds::{is_charge, is_item, is_projected, mutated};
+use item::kinds::{is_charge, is_item, is_projected, mutated, mutation_base};
 use item::locations::{Categories, is_on_char, is_passed, is_rig, is_subsystem};
 use item::states::raises_to;
 use numbers::integers::bits;
@@ -34,26 +35,6 @@ use rules::{ATTRIBUTE_CAPACITOR_NEED_ID, CATEGORY_STRUCTURE, Item, TypeDogmaEffe
 const RAISE_MARKS: usize = 1024;
 
 type RaiseMarks = [u8; RAISE_MARKS];
-
-// The higher of two states.
-pub fn higher(a: u32, b: u32) -> u32
-    ensures defined { result ≡ max a b }
-{
-    if a < b {
-        return b;
-    }
-    a
-}
-
-// The lower of two states.
-pub fn lower(a: u32, b: u32) -> u32
-    ensures defined { result ≡ min a b }
-{
-    if a < b {
-        return a;
-    }
-    b
-}
 
 // Whether one of `count` type effects from `first` on has this one's effect.
 pub fn has_effect(
@@ -68,25 +49,7 @@ pub fn has_effect(
     ensures defined { result ≡ among (span first count (book_at book pairs).type_effects) t }
 {
     let end = first + count;
-    let mut i = first;
-    while i < end {
-        let e = type_effect(book, pairs, i);
-        i += 1;
-        if e.effect_id == t.effect_id {
-            return true;
-        }
-    }
-    false
-}
-
-// The place before a number's; the first has none before it.
-fn previous(n: u32) -> usize
-    ensures defined { result ≡ n - 1 }
-{
-    if n == 0 {
-        return 0;
-    }
-    index(n - 1)
+    (first..end).any(|i| type_effect(book, pairs, i).effect_id == t.effect_id)
 }
 
 // Whether the hull is a structure.
@@ -94,11 +57,7 @@ pub fn is_structure_fit(fit: &[u8], pairs: &TablePairs) -> bool
     requires held_fit { HeldFit fit.now pairs.now }
     ensures defined { result ≡ structure_fit (fit_at fit pairs) }
 {
-    if count_of(pairs, 6) == 0 {
-        return false;
-    }
-    let ship = object(fit, pairs, 0);
-    ship.category_id == CATEGORY_STRUCTURE
+    count_of(pairs, TABLE_OBJECTS) != 0 && object(fit, pairs, 0).category_id == CATEGORY_STRUCTURE
 }
 
 // Whether an item is passed over, or the item of a charge.
@@ -116,13 +75,10 @@ pub fn is_passed_over(
         ((k : Book) → CategoriesOf k categories → result ≡ is_item o && passed k f o || is_charge o && passed k f (item_of f o)) }
 {
     if is_charge(o) {
-        let m = object(fit, pairs, previous(o.number));
+        let m = object(fit, pairs, index(o.number.saturating_sub(1)));
         return is_passed(categories, structure, m);
     }
-    if !is_item(o) {
-        return false;
-    }
-    is_passed(categories, structure, o)
+    is_item(o) && is_passed(categories, structure, o)
 }
 
 // The states of an object that collection does not pass over, with the max state that it was raised to.
@@ -132,8 +88,7 @@ pub fn collected_states(o: Item, top: u32) -> StateRow
     if is_subsystem(o) {
         return [1, 1];
     }
-    let state = lower(o.state, top);
-    [state, top]
+    [o.state.min(top), top]
 }
 
 // The state that one effect lets an object be in.
@@ -147,10 +102,9 @@ fn reach_by(
     requires sound_book { SoundBook book.now pairs.now }
     ensures defined { result ≡ reach_on (book_at book pairs) o t }
 {
-    let found = get_dogma_effect(book, pairs, places, t.effect_id);
-    match found {
-        FoundEffect::At(e) => raises_to(o, e.category),
-        FoundEffect::Nothing => 0,
+    match get_dogma_effect(book, pairs, places, t.effect_id) {
+        Some(e) => raises_to(o, e.category),
+        None => 0,
     }
 }
 
@@ -159,17 +113,16 @@ pub fn base_effects(
     book: &[u8],
     pairs: &TablePairs,
     places: &EffectPlaces,
-    mutated: bool,
-    id: i32,
+    base: Option<i32>,
 ) -> TypeEffects
     requires sound_book { SoundBook book.now pairs.now }
     ensures together { let k = book_at book pairs in
-        Stretch (cond mutated (get_dogma_effects k id) []) k.type_effects result.first result.count }
+        Stretch (base_effects_of k base) k.type_effects result.first result.count }
 {
-    if mutated {
-        return get_dogma_effects(book, pairs, places, id);
-    }
-    TypeEffects { first: 0, count: 0 }
+    let Some(id) = base else {
+        return TypeEffects { first: 0, count: 0 };
+    };
+    get_dogma_effects(book, pairs, places, id)
 }
 
 // Effect k of an object: of its own type's, then of its base's. One loop over both is put into its caller, two are not.
@@ -204,10 +157,7 @@ pub fn is_doubled(
     ensures defined { (base : TypeEffects) (d : Turn) → k < own.count + base.count → base.first + base.count ≤ count_of pairs.now 4
         → t ≡ (get_or (turns_at book pairs own base) k d).effect → result ≡ (get_or (turns_at book pairs own base) k d).over }
 {
-    if k < own.count {
-        return false;
-    }
-    has_effect(book, pairs, own.first, own.count, t)
+    own.count <= k && has_effect(book, pairs, own.first, own.count, t)
 }
 
 // Marks the effects that can raise the max state of an object that is no rig.
@@ -216,17 +166,11 @@ fn mark_effects(marks: &mut RaiseMarks, book: &[u8], pairs: &TablePairs)
     requires held_book { HeldBook book.now pairs.now }
     ensures marked { EffectsMarked (book_at book pairs) marks.new }
 {
-    let n = count_of(pairs, 2);
-    let mut i = 0;
-    while i < n {
+    for i in 0..count_of(pairs, TABLE_EFFECTS) {
         let e = effect(book, pairs, i);
-        let at = index(bits(e.id) % 1024);
-        i += 1;
         // Online, Active, Overload
-        if e.category != 0 {
-            if e.category < 4 {
-                marks[at] = 1;
-            }
+        if matches!(e.category, 1..=3) {
+            marks[index(bits(e.id) % 1024)] = 1;
         }
     }
 }
@@ -238,16 +182,10 @@ fn mark_types(marks: &mut RaiseMarks, raising: &RaiseMarks, book: &[u8], pairs: 
     requires raising { EffectsMarked (book_of book.now pairs.now) raising.now }
     ensures marked { TypesMarked (book_at book pairs) marks.new }
 {
-    let n = count_of(pairs, 4);
-    let mut i = 0;
-    while i < n {
+    for i in 0..count_of(pairs, TABLE_TYPE_EFFECTS) {
         let t = type_effect(book, pairs, i);
-        let by = index(bits(t.effect_id) % 1024);
-        let at = index(bits(t.type_id) % 1024);
-        let raises = raising[by];
-        i += 1;
-        if raises != 0 {
-            marks[at] = 1;
+        if raising[index(bits(t.effect_id) % 1024)] != 0 {
+            marks[index(bits(t.type_id) % 1024)] = 1;
         }
     }
 }
@@ -256,14 +194,7 @@ fn mark_types(marks: &mut RaiseMarks, raising: &RaiseMarks, book: &[u8], pairs: 
 fn is_settled(marks: &RaiseMarks, o: Item) -> bool
     ensures settled { (k : Book) → TypesMarked k marks.now → result ≡ true → reached_of k o ≡ o.max_state }
 {
-    if mutated(o) {
-        return false;
-    }
-    if is_rig(o) {
-        return false;
-    }
-    let mark = marks[index(bits(o.type_id) % 1024)];
-    mark == 0
+    !mutated(o) && !is_rig(o) && marks[index(bits(o.type_id) % 1024)] == 0
 }
 
 // The max state that all its effects raise an object to: its own type's, then its base's that the type lacks.
@@ -278,22 +209,17 @@ fn reached(
     requires marked { TypesMarked (book_of book.now pairs.now) marks.now }
     ensures defined { result ≡ reached_of (book_at book pairs) o }
 {
-    let settled = is_settled(marks, o);
-    if settled {
+    if is_settled(marks, o) {
         return o.max_state;
     }
     let own = get_dogma_effects(book, pairs, places, o.type_id);
-    let base = base_effects(book, pairs, places, mutated(o), o.mutation_base);
+    let base = base_effects(book, pairs, places, mutation_base(o));
     let total = own.count + base.count;
     let mut top = o.max_state;
-    let mut k = 0;
-    while k < total {
+    for k in 0..total {
         let t = effect_at(book, pairs, own, base, k);
-        let over = is_doubled(book, pairs, own, k, t);
-        k += 1;
-        if !over {
-            let reach = reach_by(book, pairs, places, o, t);
-            top = higher(top, reach);
+        if !is_doubled(book, pairs, own, k, t) {
+            top = top.max(reach_by(book, pairs, places, o, t));
         }
     }
     top
@@ -315,10 +241,9 @@ fn able(
     ensures defined { result ≡ able_of (book_at book pairs) (fit_at fit pairs) o }
 {
     let top = reached(book, pairs, places, marks, o);
-    let found = get_base(fit, pairs, o, ATTRIBUTE_CAPACITOR_NEED_ID);
-    match found {
-        FoundBase::At(_) => higher(top, 2),
-        FoundBase::Nothing => top,
+    match get_base(fit, pairs, o, ATTRIBUTE_CAPACITOR_NEED_ID) {
+        Some(_) => top.max(2),
+        None => top,
     }
 }
 
@@ -372,15 +297,9 @@ pub fn correct_states(
     mark_effects(&mut raising, book, pairs);
     let mut marks = [0u8; RAISE_MARKS];
     mark_types(&mut marks, &raising, book, pairs);
-    let n = count_of(pairs, 6);
-    let zeros = [0u32; STATE_WIDTH];
-    let blank = [zeros; OBJECTS];
-    *states = blank;
-    let mut i = 0;
-    while i < n {
+    *states = [[0u32; STATE_WIDTH]; OBJECTS];
+    for i in 0..count_of(pairs, TABLE_OBJECTS) {
         let o = object(fit, pairs, i);
-        let row = states_of(book, fit, pairs, places, &marks, c, structure, o);
-        states[i] = row;
-        i += 1;
+        states[i] = states_of(book, fit, pairs, places, &marks, c, structure, o);
     }
 }

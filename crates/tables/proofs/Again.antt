@@ -1,20 +1,20 @@
 -- A record read from its bytes and written again is its bytes.
-use Prim.Native.Nat.{ℕ, zero, suc, ◌+◌, ◌*◌, ◌/◌, ◌%◌, ◌^◌, ◌≤◌, ◌<◌}
+use Prim.Native.Nat.{ℕ, zero, suc, ◌+◌, ◌*◌, ◌/◌, ◌%◌, ◌^◌, ◌<◌}
 use native.Mathlib.Omega.{arith}
-use mathlib.Core.Path.{◌≡◌, refl, sym, ap, ◌∙◌, subst}
-use mathlib.Core.Bool.{Bool, true, false, not}
-use mathlib.Core.List.{List, [], ◌∷◌, ◌++◌, map}
-use lib.ListN.{length, take, drop}
+use mathlib.Core.Path.{◌≡◌, refl, sym, ◌∙◌, subst}
+use mathlib.Core.Bool.{true, not}
+use mathlib.Core.List.{List, ◌++◌, map}
+use lib.ListN.{length}
 use lib.Seq.{take_all}
 use lib.Dec.{T}
-use lib.Ieee.{Float, nan, inf, fin, binary64, of_bits, to_bits, is_nan}
+use lib.Ieee.{Float, nan, inf, fin, binary64, to_bits, is_nan}
 use lib.Ieee.Bits.{to_bits-of_bits}
 use mir.Syntax.{w32}
 use mir.ValLaws.{of_z-to_z}
 use Rattle.laws.specs.Lists.{from}
 use Rattle.laws.specs.Floats.{finite}
 use Rattle.rules.specs.Bytes.{u32_at, i32_at, f64_at, bits}
-use Rattle.rules.specs.Sheet.{attribute_from, effect_from, modifier_from, type_effect_from, buff_collection_from, object_from, base_from, id_from, buff_from, ask_from}
+use Rattle.rules.specs.Sheet.{attribute_from, effect_from, modifier_from, type_effect_from, buff_collection_from, object_from, ask_from}
 use Rattle.tables.specs.Layout.{word, words, float, Words, Octets}
 use Rattle.tables.specs.Tables.{attribute_row, effect_row, modifier_row, type_effect_row, buff_collection_row, object_row, ask_row, attribute_bytes, value_bytes}
 use Rattle.tables.proofs.Numbers.{octet}

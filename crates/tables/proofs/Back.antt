@@ -1,14 +1,14 @@
 -- The way back: words read from bytes and written again are the bytes. A step of `same_bytes`.
-use Prim.Native.Nat.{ℕ, zero, suc, ◌+◌, ◌*◌, ◌≤◌, ◌<◌}
-use native.Mathlib.Nat.{mul-zero, mul-suc, add_comm, add_assoc}
+use Prim.Native.Nat.{ℕ, zero, suc, ◌+◌, ◌*◌, ◌≤◌}
+use native.Mathlib.Nat.{mul-suc, add_comm}
 use native.Mathlib.Omega.{arith}
 use mathlib.Core.Path.{◌≡◌, refl, sym, ap, ◌∙◌}
-use mathlib.Core.List.{List, [], ◌∷◌, ◌++◌, map}
+use mathlib.Core.List.{List, ◌++◌, map}
 use lib.ListN.{length, take, drop}
 use lib.Seq.{take-add, drop-drop}
 use Rattle.laws.specs.Lists.{from}
 use Rattle.rules.specs.Bytes.{u32_at}
-use Rattle.tables.specs.Layout.{word, words, Octets}
+use Rattle.tables.specs.Layout.{words, Octets}
 use Rattle.tables.proofs.Numbers.{read_word}
 
 -- n words from word a on

@@ -1,12 +1,11 @@
 -- Where a table's record lies in a sheet: behind a front p and the tables before its own.
 use Prim.Native.Nat.{ℕ, zero, suc, ◌+◌, ◌*◌, ◌^◌, ◌≤◌, ◌<◌}
-use native.Mathlib.Nat.{le_of_suc-le-suc, le_refl, zero-add}
+use native.Mathlib.Nat.{zero-add}
 use native.Mathlib.Omega.{arith}
-use mathlib.Core.Path.{◌≡◌, refl, sym, ap, ◌∙◌}
+use mathlib.Core.Path.{◌≡◌, sym, ap, ◌∙◌}
 use mathlib.Core.List.{List, [], ◌∷◌, ◌++◌, append_assoc}
 use lib.ListN.{length, take, drop, get_or, length-append}
 use lib.Seq.{drop-append-add}
-use Rattle.laws.specs.Lists.{flat, from}
 use Rattle.tables.specs.Layout.{rows_of, Words}
 use Rattle.tables.specs.Tables.{Tab, pairs_from, body_of}
 use Rattle.tables.proofs.Tables.{cut_out, table-length}

@@ -1,17 +1,17 @@
 -- A number written is read back, and a number read is written back.
 use Prim.Native.Nat.{ℕ, zero, suc, ◌+◌, ◌*◌, ◌/◌, ◌%◌, ◌^◌, ◌≤◌, ◌<◌}
-use native.Mathlib.Nat.{add-zero, zero-add, add_assoc, suc-add, le_of_suc-le-suc}
+use native.Mathlib.Nat.{add_assoc, le_of_suc-le-suc}
 use native.Mathlib.Omega.{arith}
 use mathlib.Core.Path.{◌≡◌, refl, sym, ap, ◌∙◌, subst}
-use mathlib.Core.Bool.{Bool, true, false, not}
+use mathlib.Core.Bool.{true}
 use mathlib.Core.List.{List, [], ◌∷◌, ◌++◌, append_assoc}
 use lib.ListN.{length, get_or, take, drop, length-append}
-use lib.Seq.{get_or-drop, get_or-append-add, drop-cons}
+use lib.Seq.{get_or-append-add, drop-cons}
 use lib.Dec.{T}
-use lib.Ieee.{Float, nan, binary64, of_bits, to_bits, fits, is_nan}
-use lib.Ieee.Bits.{of_bits-to_bits, to_bits-of_bits, to_bits-lt}
+use lib.Ieee.{Float, nan, binary64, of_bits, to_bits, fits}
+use lib.Ieee.Bits.{of_bits-to_bits, to_bits-lt}
 use Rattle.rules.specs.Bytes.{u32_at, f64_at}
-use Rattle.tables.specs.Layout.{bytes_of, word, words, float, Words, Octets}
+use Rattle.tables.specs.Layout.{word, words, float, Words, Octets}
 
 pub word-length : (x : ℕ) → length (word x) ≡ 4
 unfolding word

@@ -3,9 +3,9 @@ use Prim.Native.Nat.{ℕ, ◌+◌, ◌*◌, ◌^◌, ◌<◌}
 use native.Mathlib.Omega.{arith}
 use mathlib.Core.Path.{◌≡◌, refl, sym, ap, ◌∙◌}
 use mathlib.Core.Bool.{true}
-use mathlib.Core.List.{List, [], ◌∷◌, ◌++◌, append-nil}
+use mathlib.Core.List.{List, [], append-nil}
 use lib.Ieee.{Float, binary64, fits, of_bits}
-use lib.ListN.{length, get_or}
+use lib.ListN.{length}
 use Rattle.rules.specs.Bytes.{u32_at, f64_at, signed}
 use Rattle.rules.specs.Sheet.{effect_from, modifier_from, buff_collection_from, object_from, base_from, id_from, buff_from, ask_from}
 use Rattle.tables.specs.Layout.{word, words, float, Words}

@@ -1,18 +1,18 @@
 -- Two kinds of records, as examples of all: a row of table 4 (words alone) and of table 1 (a float among them), read back.
 use Prim.Native.Nat.{ℕ, ◌+◌, ◌*◌, ◌^◌, ◌<◌}
 use native.Mathlib.Omega.{arith}
-use mathlib.Core.Path.{◌≡◌, refl, sym, ap, ◌∙◌}
+use mathlib.Core.Path.{◌≡◌, sym, ap, ◌∙◌}
 use mathlib.Core.Bool.{true}
-use mathlib.Core.List.{List, [], ◌∷◌, ◌++◌, append-nil, append_assoc}
+use mathlib.Core.List.{List, [], ◌∷◌, ◌++◌, append-nil}
 use lib.Ieee.{Float, binary64, fits, of_bits}
 use lib.ListN.{length, get_or}
 use Rattle.rules.specs.Bytes.{u32_at, f64_at, signed}
 use Rattle.rules.specs.Sheet.{type_effect_from, attribute_from}
 use Rattle.rules.specs.declared.DogmaAttribute.{DogmaAttribute}
 use Rattle.rules.specs.declared.TypeDogmaEffect.{TypeDogmaEffect}
-use Rattle.tables.specs.Layout.{word, words, float, Words}
+use Rattle.tables.specs.Layout.{words, float, Words}
 use Rattle.tables.specs.Tables.{type_effect_of, attribute_of, attribute_bytes}
-use Rattle.tables.proofs.Numbers.{words-read, words-length, float_read, float-length, read_behind, word-length}
+use Rattle.tables.proofs.Numbers.{words-read, words-length, float_read, float-length, read_behind}
 
 -- a row's field, where nothing stands behind the row
 pub field-read : (r : List ℕ) (j : ℕ) → j < length r → Words r → u32_at (words r) (4 * j) ≡ get_or r j 0

@@ -4,8 +4,8 @@ use native.Mathlib.Nat.{zero-add}
 use native.Mathlib.Omega.{arith}
 use mathlib.Core.Path.{◌≡◌, refl, sym, ap, ◌∙◌, subst}
 use mathlib.Core.Bool.{Bool, true, false, ◌&&◌}
-use mathlib.Core.List.{List, [], ◌∷◌, ◌++◌, map}
-use mathlib.Core.Option.{Option, none, some}
+use mathlib.Core.List.{List, [], ◌++◌, map}
+use mathlib.Core.Option.{Option, none}
 use lib.ListN.{length, get_or, take, drop, length-map, take-append-drop}
 use lib.Dec.{leb, eqb, T}
 use lib.Ieee.{Float, binary64, fits}
@@ -16,14 +16,14 @@ use Rattle.laws.specs.Floats.{finite, zero_f}
 use Rattle.laws.proofs.Bools.{and_left, and_right, and_both}
 use Rattle.laws.proofs.Every.{every_at}
 use Rattle.laws.proofs.From.{from_at, table_at, table-length}
-use Rattle.laws.proofs.Maps.{map-map, map_at}
-use Rattle.rules.specs.Bytes.{u32_at, i32_at, f64_at, bits, pairs_of, count_of, offset_of, categories_at, depth_at, width_of, limit_of, record_at}
+use Rattle.laws.proofs.Maps.{map-map}
+use Rattle.rules.specs.Bytes.{u32_at, f64_at, bits, pairs_of, count_of, offset_of, categories_at, depth_at, width_of, limit_of, record_at}
 use Rattle.rules.specs.Sheet.{book_of, fit_of, table, attribute_from, effect_from, modifier_from, type_effect_from, buff_collection_from, object_from, base_from, id_from, buff_from, ask_from}
 use Rattle.rules.specs.Shape.{end_of, placed, header_good, attributes_good, bases_good, buffs_good, book_bad, fit_bad, bad_shape}
 use Rattle.rules.proofs.Verdicts.{attributes_good_lem, bases_good_lem, buffs_good_lem}
 use Rattle.rules.proofs.Places.{at_80, at_92}
 use Rattle.tables.specs.Layout.{word, words, Words, Octets}
-use Rattle.tables.specs.Tables.{Tables, fields, row, value, number, book_alike, fit_alike, attribute_row, effect_row, modifier_row, type_effect_row, buff_collection_row, object_row, ask_row, attribute_bytes, value_bytes, book_tabs, fit_tabs, pairs_from, body_of, tables_bad, sheet_of, Written, sheet, shape, fitted, judged, written, tables_of, tables_in}
+use Rattle.tables.specs.Tables.{Tables, fields, value, book_alike, fit_alike, attribute_row, effect_row, modifier_row, type_effect_row, buff_collection_row, object_row, ask_row, attribute_bytes, value_bytes, book_tabs, fit_tabs, pairs_from, body_of, tables_bad, sheet_of, sheet, fitted, judged, written, tables_of, tables_in}
 use Rattle.tables.proofs.Back.{words_back}
 use Rattle.tables.proofs.Again.{small, unsigned, small_bits, attribute_words, effect_words, modifier_words, type_effect_words, buff_collection_words, object-words, ask_words, attribute_again, effect_again, modifier_again, type_effect_again, buff_collection_again, object-again, value-again, id-again, ask_again}
 use Rattle.tables.proofs.Stretches.{octets_take, octets_drop, Gapless, record_wide, Again, AllAgain, body_again, pairs-again}

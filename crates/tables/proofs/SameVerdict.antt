@@ -1,9 +1,9 @@
 -- "It accepts exactly the tables that 01's sheet section allows": the verdict on tables is the reader's verdict on their sheet, or their file.
-use Prim.Native.Nat.{ℕ, zero, suc, ◌+◌, ◌*◌, ◌≤◌, ◌<◌}
+use Prim.Native.Nat.{ℕ, suc, ◌+◌, ◌≤◌, ◌<◌}
 use native.Mathlib.Omega.{arith}
 use mathlib.Core.Path.{◌≡◌, refl, sym, ap, ◌∙◌}
 use mathlib.Core.Bool.{Bool, true, false, ◌&&◌}
-use mathlib.Core.List.{List, [], ◌∷◌, ◌++◌}
+use mathlib.Core.List.{List, [], ◌++◌}
 use mathlib.Core.Option.{Option, none, some, some-ne-none}
 use lib.ListN.{length, get_or}
 use lib.Dec.{leb, eqb}
@@ -11,7 +11,7 @@ use borrow.Author.Tests.{le-leb, leb-true, eq-eqb}
 use Rattle.laws.specs.Lists.{every?, from}
 use Rattle.laws.proofs.Bools.{and_left, and_right}
 use Rattle.laws.proofs.Every.{every_at}
-use Rattle.rules.specs.Bytes.{u32_at, pairs_of, count_of, offset_of, limit_of}
+use Rattle.rules.specs.Bytes.{u32_at, pairs_of, limit_of}
 use Rattle.rules.specs.Sheet.{book_of, fit_of}
 use Rattle.rules.specs.Shape.{end_of, placed, header_good, book_bad, fit_bad, bad_shape}
 use Rattle.rules.specs.Files.{five_pairs, pairs_in, standing, book_header_good, fit_header_good, bad_book, bad_fit, bad_files, plus20}

@@ -1,9 +1,9 @@
 -- A table of a sheet or of a file, read back: what is asked of each.
-use Prim.Native.Nat.{ℕ, zero, suc, ◌+◌, ◌*◌, ◌≤◌, ◌<◌}
+use Prim.Native.Nat.{ℕ, ◌+◌, ◌*◌, ◌<◌}
 use native.Mathlib.Nat.{zero-add}
-use mathlib.Core.Path.{◌≡◌, refl, sym, ap, ◌∙◌, subst}
-use mathlib.Core.List.{List, [], ◌∷◌, ◌++◌, map, append-nil}
-use lib.ListN.{length, take, drop, get_or}
+use mathlib.Core.Path.{◌≡◌, sym, ap, ◌∙◌, subst}
+use mathlib.Core.List.{List, [], ◌++◌, map, append-nil}
+use lib.ListN.{length, take, drop}
 use Rattle.laws.specs.Lists.{from}
 use Rattle.laws.proofs.From.{table_same}
 use Rattle.rules.specs.Bytes.{count_of, offset_of, width_of, record_at}

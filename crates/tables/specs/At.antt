@@ -2,7 +2,9 @@
 use Rattle.std.specs.Prelude.{ℕ, List, Float}
 use Rattle.std.specs.Borrow.{Bor}
 use denote.Triple.Both.{Both}
-use Rattle.tables.specs.Tables.{Tables, book_tables, fit_tables, together}
+use Rattle.tables.specs.Tables.{Tables, book_tables, fit_tables}
+use Rattle.tables.specs.declared.BookTables.{BookTables}
+use Rattle.tables.specs.declared.FitTables.{FitTables}
 
 -- what a parameter that is lent is at entry and at exit: numbers, rows of numbers, floats
 abbrev pub Numbers : Type 0
@@ -29,3 +31,10 @@ book_at a d e m y b h = book_now a.entry d.entry e.entry m.entry y.entry b.entry
 
 abbrev pub fit_at : Rows → Numbers → Floats → Numbers → Numbers → Floats → Rows → List ℕ → Tables
 fit_at o v w i p q k h = fit_now o.entry v.entry w.entry i.entry p.entry q.entry k.entry h
+
+-- the tables of a book and of a fit that are lent together, under a header
+abbrev pub book_in : BookTables → List ℕ → Tables
+book_in b h = book_now b.attributes b.defaults b.effects b.modifiers b.type_effects b.buff_collections h
+
+abbrev pub fit_in : FitTables → List ℕ → Tables
+fit_in f h = fit_now f.objects f.base_attributes f.base_values f.ids f.buffs f.buff_values f.asks h

@@ -26,7 +26,7 @@ use Rattle.rules.specs.Sheet.{Book, Fit}
 use Rattle.rules.specs.Item.{no_item, object}
 use Rattle.rules.specs.declared.Item.{Item}
 use Rattle.tallies.specs.Tallies.{Line, line_of, rises, counts, counted, total}
-use Rattle.tallies.specs.Blocks.{Ordered, rank, line_key, Laid, Keyed, Spanned, key_below, Bounds, Added, key_of, pieces_by, Counted, Summed, Told}
+use Rattle.tallies.specs.Blocks.{Ordered, rank, line_key, Laid, Keyed, Spanned, key_below, Bounds, Added, key_of, Counted, Summed, Told}
 use Rattle.tallies.proofs.Sums.{total-next}
 
 -- ---- what rises

@@ -1,5 +1,5 @@
 -- How the sums are found: a block of lines at a time, by a table of their keys. Definitions only.
-use Rattle.std.specs.Prelude.{ℕ, ◌+◌, ◌*◌, ◌-◌, ◌≤◌, ◌<◌, ◌≡◌, Bool, true, false, ◌&&◌, cond, List, [], ◌⊎◌, length, get_or, take, ℤ, pos, negsuc, eqb, ltb}
+use Rattle.std.specs.Prelude.{ℕ, ◌+◌, ◌*◌, ◌-◌, ◌≤◌, ◌<◌, ◌≡◌, Bool, true, false, ◌&&◌, cond, List, [], length, get_or, take, ℤ, pos, negsuc, eqb, ltb}
 use Rattle.std.specs.Int.{w32}
 use Rattle.std.proofs.Common.{SFits}
 use Rattle.laws.specs.Lists.{eq_z, keep}

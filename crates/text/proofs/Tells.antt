@@ -16,6 +16,10 @@ pub lent-rooms : (l : Lent) → l.collected ≡ rows_lent → l.collected_values
 unfolding rooms
 lent-rooms l h1 h2 h3 h4 h5 h6 h7 h8 h9 h10 = rw (h1, h2, h3, h4, h5, h6, h7, h8, h9, h10) refl
 
+-- what comes back of a call, whatever rooms were lent
+pub tells_it : (b : List ℕ) (l : Lent) (r : Result) → Meets b l r → length r.rows ≡ l.rows → length r.values ≡ l.values → Tells (outcome b l) r.number r.place r.counts.rows r.rows r.values
+tells_it b l r m rows-even values-even = record { by_number = m.by_number; by_place = m.by_place; by_rows = shown b l r m rows-even values-even }
+
 module _ (b : List ℕ) (l : Lent) (r : Result) (m : Meets b l r) (rows-even : length r.rows ≡ l.rows) (values-even : length r.values ≡ l.values) (as_said : l ≡ rooms) where
   -- no more rows than lent
   pub few : r.counts.rows ≤ rows_lent
@@ -24,5 +28,4 @@ module _ (b : List ℕ) (l : Lent) (r : Result) (m : Meets b l r) (rows-even : l
 
   pub tells : Tells (outcome b rooms) r.number r.place r.counts.rows r.rows r.values
   tells =
-      subst (λ (x : Lent). Tells (outcome b x) r.number r.place r.counts.rows r.rows r.values) as_said
-      (record { by_number = m.by_number; by_place = m.by_place; by_rows = shown b l r m rows-even values-even })
+      subst (λ (x : Lent). Tells (outcome b x) r.number r.place r.counts.rows r.rows r.values) as_said (tells_it b l r m rows-even values-even)

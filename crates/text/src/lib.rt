@@ -4,11 +4,12 @@
 ghost use Rattle.std.specs.Prelude.{◌≡◌, ◌≤◌, length, take};
 ghost use Rattle.rules.specs.Listing.{listing};
 ghost use Rattle.rules.specs.Outcome.{outcome};
+ghost use Rattle.listing.specs.Pieces.{Tells};
 ghost use Rattle.listing.specs.Put.{Begins};
 ghost use Rattle.text.specs.SheetText.{rooms, sheet_text};
 
-use calculate::dogma_calculate;
-use columns::{ENTRY_WIDTH, OBJECTS, SOURCE_WIDTH};
+use calculate::{Outcome, dogma_calculate};
+use columns::{AttributeRow, ENTRY_WIDTH, OBJECTS, ROW_WIDTH, SOURCE_WIDTH};
 use listing::{refusal, result_text};
 
 // The longest sheet that is read.
@@ -20,38 +21,51 @@ pub const ROWS: usize = 4096;
 // Room for the longest text: a head and a line for each row, of 40 bytes at most.
 pub const TEXT_BYTES: usize = 163880;
 
-// SHAPE is refusal 1.
+// SHAPE is refusal 1 of `calculated`, whose numbers are C's.
 const SHAPE: u64 = 1;
 
-// Lends every list room for 4,096, and gives the text of what comes back.
-fn calculated_text(text: &mut [u8; TEXT_BYTES], sheet: &[u8]) -> usize
-    ensures the_listing { Begins text.new result (listing (outcome sheet.now rooms)) }
+// A run with room for 4,096 in every list: its rows and their values, and what comes back.
+pub fn calculated(
+    rows: &mut [AttributeRow; ROWS],
+    values: &mut [f64; ROWS],
+    sheet: &[u8],
+) -> Outcome
+    ensures tells { let n = result.rows in
+        Tells (outcome sheet.now rooms) result.number result.place n rows.new values.new }
+    ensures few { result.rows ≤ 4096 }
 {
     let mut states = [[0u32; 2]; OBJECTS];
     let mut collected = [[0u32; 14]; ROWS];
     let mut collected_values = [0.0; ROWS];
-    let mut rows = [[0u32; 6]; ROWS];
     let mut bases = [0.0; ROWS];
-    let mut values = [0.0; ROWS];
     let mut entries = [[0u32; ENTRY_WIDTH]; ROWS];
     let mut entry_values = [0.0; ROWS];
     let mut plain = [[0u32; 2]; ROWS];
     let mut sources = [[0u32; SOURCE_WIDTH]; ROWS];
     let mut source_values = [[0.0; 2]; ROWS];
-    let answer = dogma_calculate(
+    dogma_calculate(
         &mut states,
         &mut collected,
         &mut collected_values,
-        &mut rows,
+        rows,
         &mut bases,
-        &mut values,
+        values,
         &mut entries,
         &mut entry_values,
         &mut plain,
         &mut sources,
         &mut source_values,
         sheet,
-    );
+    )
+}
+
+// The text of what comes back of a run.
+fn calculated_text(text: &mut [u8; TEXT_BYTES], sheet: &[u8]) -> usize
+    ensures the_listing { Begins text.new result (listing (outcome sheet.now rooms)) }
+{
+    let mut rows = [[0u32; ROW_WIDTH]; ROWS];
+    let mut values = [0.0; ROWS];
+    let answer = calculated(&mut rows, &mut values, sheet);
     result_text(
         text,
         answer.number,

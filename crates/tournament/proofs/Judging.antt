@@ -18,9 +18,9 @@ use Rattle.rules.specs.Sheet.{Book, Fit, book_of, fit_of}
 use Rattle.rules.specs.Shape.{bad_shape}
 use Rattle.rules.specs.Files.{pairs_in, bad_files}
 use Rattle.rules.specs.declared.Item.{Item}
-use Rattle.shape.specs.Shaped.{shaped_of}
-use Rattle.shape.specs.declared.Shaped.{Shaped}
-use Rattle.shape.specs.declared.Shaped.TheVariants.{Sound, Bad}
+use Rattle.std.specs.Prelude.{Ok, Err}
+use Rattle.shape.specs.Shaped.{Shaped, shaped_of}
+use Rattle.shape.specs.declared.BadTable.{BadTable}
 use Rattle.shape.proofs.Shapes.{bad_said, sound_said, sound_long, sound_book, sound_fit}
 use Rattle.files.specs.Read.{pairs_read}
 use Rattle.files.proofs.Judged.{sound_pairs, sound_files}
@@ -239,18 +239,18 @@ module _ (b : List ℕ) (rows : List (List ℕ)) where
   checked-by e = ap (λ (o : Option ℕ). elim o [ some t ↦ shape t | none ↦ judged (book_of b (pairs_of b)) (fit_of b (pairs_of b)) (map line_of rows) ]) e
 
   module _ {r : Shaped} (h : r ≡ shaped_of (bad_shape b)) where
-    pub checked_shape : {t : ℕ} → r ≡ Bad t → shape t ≡ checked b rows
+    pub checked_shape : {x : BadTable} → r ≡ Err x → shape x.table ≡ checked b rows
     checked_shape e = sym (checked-by (bad_said (bad_shape b) (sym e ∙ h)))
 
     -- what a sound sheet holds, by the pairs that were read
-    pub checked-held : {p : List (List ℕ)} → r ≡ Sound → p ≡ pairs_of b → HeldBook b p × HeldFit b p
+    pub checked-held : {p : List (List ℕ)} → r ≡ Ok tt → p ≡ pairs_of b → HeldBook b p × HeldFit b p
     checked-held e q =
         (subst (λ (x : List (List ℕ)). HeldBook b x) (sym q) (sound_book b (sym e ∙ h)).held, subst (λ (x : List (List ℕ)). HeldFit b x) (sym q) (sound_fit b (sym e ∙ h)).held)
 
-    pub checked_long : r ≡ Sound → 100 ≤ length b
+    pub checked_long : r ≡ Ok tt → 100 ≤ length b
     checked_long e = sound_long b (sym e ∙ h)
 
-    pub checked-lines : {v : Verdict} {p : List (List ℕ)} → r ≡ Sound → p ≡ pairs_of b → v ≡ judged (book_of b p) (fit_of b p) (map line_of rows) → v ≡ checked b rows
+    pub checked-lines : {v : Verdict} {p : List (List ℕ)} → r ≡ Ok tt → p ≡ pairs_of b → v ≡ judged (book_of b p) (fit_of b p) (map line_of rows) → v ≡ checked b rows
     checked-lines e q w =
         w ∙ ap (λ (x : List (List ℕ)). judged (book_of b x) (fit_of b x) (map line_of rows)) q ∙ sym (checked-by (sound_said (bad_shape b) (sym e ∙ h)))
 
@@ -260,15 +260,15 @@ module _ (k f : List ℕ) (rows : List (List ℕ)) where
   files_by e = ap (λ (o : Option ℕ). elim o [ some t ↦ shape t | none ↦ judged (book_of k (pairs_in k f)) (fit_of f (pairs_in k f)) (map line_of rows) ]) e
 
   module _ {r : Shaped} (h : r ≡ shaped_of (bad_files k f)) where
-    pub files_shape : {t : ℕ} → r ≡ Bad t → shape t ≡ checked_files k f rows
+    pub files_shape : {x : BadTable} → r ≡ Err x → shape x.table ≡ checked_files k f rows
     files_shape e = sym (files_by (bad_said (bad_files k f) (sym e ∙ h)))
 
-    pub no_bad_file : r ≡ Sound → bad_files k f ≡ none
+    pub no_bad_file : r ≡ Ok tt → bad_files k f ≡ none
     no_bad_file e = sound_said (bad_files k f) (sym e ∙ h)
 
-    pub files_held : {p : List (List ℕ)} → r ≡ Sound → p ≡ pairs_read k ++ pairs_read f → HeldBook k p × HeldFit f p
+    pub files_held : {p : List (List ℕ)} → r ≡ Ok tt → p ≡ pairs_read k ++ pairs_read f → HeldBook k p × HeldFit f p
     files_held e q = let both = sound_files k f (no_bad_file e) q in (both.0.held, both.1.held)
 
-    pub files_lines : {v : Verdict} {p : List (List ℕ)} → r ≡ Sound → p ≡ pairs_read k ++ pairs_read f → v ≡ judged (book_of k p) (fit_of f p) (map line_of rows) → v ≡ checked_files k f rows
+    pub files_lines : {v : Verdict} {p : List (List ℕ)} → r ≡ Ok tt → p ≡ pairs_read k ++ pairs_read f → v ≡ judged (book_of k p) (fit_of f p) (map line_of rows) → v ≡ checked_files k f rows
     files_lines e q w =
         w ∙ ap (λ (x : List (List ℕ)). judged (book_of k x) (fit_of f x) (map line_of rows)) (q ∙ sound_pairs k f (no_bad_file e)) ∙ sym (files_by (no_bad_file e))

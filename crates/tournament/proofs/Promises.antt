@@ -1,5 +1,5 @@
 -- What the definition promises: allowed exactly if no line is broken, else the first broken line and its count; items alone come in.
-use Prim.Native.Nat.{ℕ, suc, ◌+◌, ◌*◌, ◌≤◌, ◌<◌, ◌^◌, suc-le-suc, zero-le}
+use Prim.Native.Nat.{ℕ, suc, ◌*◌, ◌≤◌, ◌<◌, ◌^◌, suc-le-suc, zero-le}
 use native.Mathlib.Nat.{mul-le-mul, mul-suc}
 use native.Mathlib.Omega.{arith}
 use mathlib.Core.Path.{◌≡◌, refl, sym, ap, subst, ◌∙◌}
@@ -21,8 +21,7 @@ use Rattle.rules.specs.Files.{pairs_in, bad_files}
 use Rattle.rules.specs.Item.{is_charge, is_skill, is_calculated}
 use Rattle.rules.specs.declared.Item.{Item}
 use Rattle.tallies.specs.Tallies.{Line, line_of, counts, counted, total, pieces, is_price_of, number_or0, points_of, points}
-use Rattle.tallies.specs.Blocks.{Ordered}
-use Rattle.tournament.specs.Tournament.{bad_from, tally, broken, Verdict, allowed, breaks, shape, rules, verdict_from, judged, checked, checked_files, broken_line, count_of}
+use Rattle.tournament.specs.Tournament.{bad_from, tally, Verdict, allowed, breaks, shape, rules, verdict_from, judged, checked, checked_files, broken_line, count_of}
 use Rattle.tournament.proofs.Verdicts.{holds, First, Told, none_broken, first-broken as broken-first, told, all_hold}
 use Rattle.tournament.proofs.Judging.{judged-by, checked-by, files_by}
 use Rattle.tournament.proofs.Rising.{good_ordered}

@@ -1,8 +1,8 @@
 -- A line as the code reads it, and what it counts: the machine's tests are the definition's.
 use Prim.Native.Nat.{ℕ, ◌*◌, ◌≤◌}
 use native.Mathlib.Nat.{mul-le-mul}
-use mathlib.Core.Path.{◌≡◌, refl, sym, ap, ◌∙◌}
-use mathlib.Core.Bool.{Bool, true, false, ◌&&◌, ◌||◌, not, cond}
+use mathlib.Core.Path.{◌≡◌, sym, ap, ◌∙◌}
+use mathlib.Core.Bool.{Bool, ◌&&◌, ◌||◌, not, cond}
 use mathlib.Core.List.{List}
 use lib.Dec.{eqb, ltb, leb}
 use lib.IntN.{ℤ, pos}
@@ -14,7 +14,7 @@ use mir.Facts.{sfits_lit}
 use borrow.Author.Tests.{eq-eqb, ne_eqb}
 use Rattle.laws.specs.Lists.{eq_z}
 use Rattle.laws.proofs.Signs.{eq_z-bits}
-use Rattle.tallies.specs.Tallies.{Line, line_of, rises}
+use Rattle.tallies.specs.Tallies.{line_of, rises}
 use Rattle.tournament.specs.Tournament.{line_good, most, is_over}
 
 -- ids that were read, one against another

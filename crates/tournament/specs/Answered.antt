@@ -1,27 +1,34 @@
 -- The verdicts as the code gives them. Definitions only.
-use Rattle.std.specs.Prelude.{ℕ, zero, suc, ◌≤◌, ◌<◌, ◌^◌, ◌≡◌, List, [], length, get_or, take, drop}
+use Rattle.std.specs.Prelude.{ℕ, zero, suc, ◌≤◌, ◌<◌, ◌^◌, ◌≡◌, List, [], length, get_or, take, drop, Result, Ok, Err}
 use Rattle.std.proofs.Math.Option.{Option, none, some}
 use Rattle.rules.specs.declared.Item.{Item}
 use Rattle.tallies.specs.Tallies.{Line, line_of, points}
 use Rattle.tournament.specs.Tournament as rule
 use Rattle.tournament.specs.declared.Checked.{Checked}
-use Rattle.tournament.specs.declared.Table.{Table}
-use Rattle.tournament.specs.declared.Table.TheVariants as table
+use Rattle.tournament.specs.declared.BadLine.{BadLine}
+use Rattle.tournament.specs.declared.Broken.{Broken}
 use Rattle.tournament.specs.declared.Walked.{Walked}
-use Rattle.tournament.specs.declared.Walked.TheVariants as walked
-use Rattle.tournament.specs.declared.Verdict.{Verdict}
-use Rattle.tournament.specs.declared.Verdict.TheVariants as verdict
+use Rattle.tournament.specs.declared.NotAllowed.{NotAllowed}
+use Rattle.tournament.specs.declared.NotAllowed.TheVariants.{Shape, Rules, Breaks}
 
 -- the first bad line
-abbrev pub bad_line : Table → Option ℕ
-bad_line table.Good = none
-bad_line (table.Bad i) = some i
+abbrev pub bad_line : Result (Unit {0}) BadLine → Option ℕ
+bad_line (Ok u) = none
+bad_line (Err bad) = some bad.line
 
-abbrev pub verdict_of : Verdict → rule.Verdict
-verdict_of verdict.Allowed = rule.allowed
-verdict_of (verdict.Breaks i c) = rule.breaks i c
-verdict_of (verdict.Shape t) = rule.shape t
-verdict_of (verdict.Rules i) = rule.rules i
+-- the first broken line
+abbrev pub broken_of : Result (Unit {0}) Broken → rule.Verdict
+broken_of (Ok u) = rule.allowed
+broken_of (Err b) = rule.breaks b.line b.count
+
+abbrev pub refused : NotAllowed → rule.Verdict
+refused (Shape bad) = rule.shape bad.table
+refused (Rules bad) = rule.rules bad.line
+refused (Breaks b) = rule.breaks b.line b.count
+
+abbrev pub verdict_of : Result (Unit {0}) NotAllowed → rule.Verdict
+verdict_of (Ok u) = rule.allowed
+verdict_of (Err reason) = refused reason
 
 -- what comes back of a verdict
 abbrev pub answer_of : rule.Verdict → Checked
@@ -47,6 +54,6 @@ pub record Reached (ls : List Line) (os : List Item) (i p : ℕ) : Type 0 where
   pub few : p ≤ 288225978038092800
 
 -- the block that starts at line `first` has the first broken line, or was passed
-abbrev pub Passed : List Line → List Item → ℕ → Walked → Type 0
-Passed ls os first (walked.Breaks i c) = (rule.breaks i c ≡ rule.verdict_from ls os 0 ls) × (c < 2 ^ 58)
-Passed ls os first (walked.Holds p next) = (first < next) × Reached ls os next p
+abbrev pub Passed : List Line → List Item → ℕ → Result Walked Broken → Type 0
+Passed ls os first (Ok w) = (first < w.next) × Reached ls os w.next w.points
+Passed ls os first (Err b) = (rule.breaks b.line b.count ≡ rule.verdict_from ls os 0 ls) × (b.count < 2 ^ 58)

@@ -1,22 +1,24 @@
 // A fit checked against an organiser's lines: allowed, or the first broken line and the count that broke it.
 #![tactic(auto)]
 
-ghost use Rattle.std.specs.Prelude.{◌≡◌, cond, [], map, ◌*◌, ◌≤◌, ◌<◌, ◌^◌, eqb, length, get_or};
+ghost use Rattle.std.specs.Prelude.{◌≡◌, cond, [], map, ◌*◌, ◌≤◌, ◌<◌, ◌^◌, List, eqb, length, get_or};
 ghost use Rattle.std.proofs.Math.Option.{none};
 ghost use Rattle.rules.specs.Sheet.{book_of, fit_of};
+ghost use Rattle.rules.specs.declared.Item.{Item};
 ghost use Rattle.info.specs.At.{book_at, fit_at};
 ghost use Rattle.info.specs.Sound.{HeldBook, HeldFit};
 ghost use Rattle.tallies.specs.Tallies.{line_of, counted};
 ghost use Rattle.tallies.specs.Tallies as tallied;
 ghost use Rattle.tallies.specs.Blocks.{Ordered, Told};
 ghost use Rattle.tournament.specs.Tournament as rule;
-ghost use Rattle.tournament.specs.Answered.{bad_line, verdict_of, answer_of, line_before, Reached, Passed};
+ghost use Rattle.tournament.specs.Answered.{bad_line, broken_of, verdict_of, answer_of, line_before, Reached, Passed};
+ghost use Rattle.tournament.specs.declared.NotAllowed.TheVariants.{Shape, Rules, Breaks};
 
 use columns::TablePairs;
 use files::{files_shape, pairs_in};
 use info::header::pairs_of;
 use numbers::integers::signed;
-use shape::{Shaped, shape};
+use shape::{BadTable, shape};
 use tallies::{
     PLACES, RULE_FORBIDDEN, RULE_ID, RULE_KIND, RULE_NUMBER, RULE_POINTS, RULE_TOTAL, RuleLine,
     Sums, tallied,
@@ -25,27 +27,61 @@ use tallies::{
 // The most points of one piece.
 const MOST_POINTS: u32 = 65535;
 
+// The numbers of the refusals, as C has them.
+const SHAPE: u64 = 1;
+
+const RULES: u64 = 11;
+
 // The first bad line of a table.
 #[derive(Clone, Copy)]
-enum Table {
-    Good,
-    Bad(usize),
+struct BadLine {
+    line: usize,
 }
 
-// The first broken line of a block with its count; or the points up to its end, and where that is.
+// The first broken line, and the count that broke it.
 #[derive(Clone, Copy)]
-enum Walked {
-    Breaks(usize, u64),
-    Holds(u64, usize),
+struct Broken {
+    line: usize,
+    count: u64,
 }
 
-// The first broken line with its count; or the bad table of the records, or the bad line.
+// Why a fit is not allowed: the bad table of the records, the bad line, or the broken one.
 #[derive(Clone, Copy)]
-enum Verdict {
-    Allowed,
-    Breaks(usize, u64),
-    Shape(u32),
-    Rules(usize),
+enum NotAllowed {
+    Shape(BadTable),
+    Rules(BadLine),
+    Breaks(Broken),
+}
+
+impl From<BadTable> for NotAllowed {
+    ghost from_gives = { λ bad reason. reason ≡ Shape bad };
+
+    fn from(bad: BadTable) -> NotAllowed {
+        NotAllowed::Shape(bad)
+    }
+}
+
+impl From<BadLine> for NotAllowed {
+    ghost from_gives = { λ bad reason. reason ≡ Rules bad };
+
+    fn from(bad: BadLine) -> NotAllowed {
+        NotAllowed::Rules(bad)
+    }
+}
+
+impl From<Broken> for NotAllowed {
+    ghost from_gives = { λ broken reason. reason ≡ Breaks broken };
+
+    fn from(broken: Broken) -> NotAllowed {
+        NotAllowed::Breaks(broken)
+    }
+}
+
+// The lines before the next one hold, and give so many points.
+#[derive(Clone, Copy)]
+struct Walked {
+    points: u64,
+    next: usize,
 }
 
 // What comes back of a check.
@@ -90,20 +126,18 @@ fn line_good(line: RuleLine) -> bool
         & ((line[RULE_KIND] != RULE_TOTAL) | (id == 0))
 }
 
-// The first bad line.
-fn bad_line(lines: &[RuleLine]) -> Table
+// The table of lines: each stands after the one before it, and is good.
+fn lines_good(lines: &[RuleLine]) -> Result<(), BadLine>
     ensures defined { bad_line result ≡ rule.bad_from 0 none (map line_of lines.now) }
 {
-    let mut i = 0;
-    while i < lines.len() {
+    for i in 0..lines.len() {
         let after = stands(lines, i);
         let good = after & line_good(lines[i]);
         if !good {
-            return Table::Bad(i);
+            return Err(BadLine { line: i });
         }
-        i += 1;
     }
-    Table::Good
+    Ok(())
 }
 
 // The most that a line allows.
@@ -148,134 +182,132 @@ fn is_broken(line: RuleLine, count: u64) -> bool
     (RULE_POINTS < line[RULE_KIND]) & (allows < count)
 }
 
-// The first broken line of a block, by its sums and the points of the lines before it. Book, fit and pairs say whose they are; none is read.
-fn walk(
-    lines: &[RuleLine],
-    first: usize,
-    n: usize,
-    sums: &Sums,
-    before: u64,
-    book: &[u8],
-    fit: &[u8],
-    pairs: &TablePairs,
-) -> Walked
+// A block of lines by its sums, from the points of the lines before it. All that is counted is os.
+fn walk(lines: &[RuleLine], n: usize, sums: &Sums, from: Walked) -> Result<Walked, Broken>
+    ghost os: { List Item }
     requires ordered { Ordered (map line_of lines.now) }
-    requires told { let os = counted (book_of book.now pairs.now) (fit_of fit.now pairs.now) in
-        Told (map line_of lines.now) os first n sums.now }
-    requires reached { let os = counted (book_of book.now pairs.now) (fit_of fit.now pairs.now) in
-        Reached (map line_of lines.now) os first before }
-    ensures passed { Passed (map line_of lines.now) (counted (book_at book pairs) (fit_at fit pairs)) first result }
+    requires told { Told (map line_of lines.now) os from.next n sums.now }
+    requires reached { Reached (map line_of lines.now) os from.next from.points }
+    ensures passed { Passed (map line_of lines.now) os from.next result }
 {
+    let first = from.next;
     let end = first + n;
-    let mut points = before;
-    let mut i = first;
-    while i < end {
+    let mut points = from.points;
+    for i in first..end {
         let line = lines[i];
         let sum = sums[i - first];
         let count = tally(line, points, sum);
         if is_broken(line, count) {
-            return Walked::Breaks(i, count);
+            return Err(Broken { line: i, count });
         }
-        points = points + worth(line, sum);
-        i += 1;
+        points += worth(line, sum);
     }
-    Walked::Holds(points, i)
+    Ok(Walked { points, next: end })
 }
 
-// The block of lines that starts here.
+// The block of lines that starts where it was walked to.
 fn in_block(
     lines: &[RuleLine],
-    first: usize,
-    before: u64,
+    from: Walked,
     book: &[u8],
     fit: &[u8],
     pairs: &TablePairs,
-) -> Walked
+) -> Result<Walked, Broken>
+    ghost os: { List Item }
     requires ordered { Ordered (map line_of lines.now) }
-    requires inside { first < length lines.now }
+    requires inside { from.next < length lines.now }
     requires held_book { HeldBook book.now pairs.now }
     requires held_fit { HeldFit fit.now pairs.now }
-    requires reached { let os = counted (book_of book.now pairs.now) (fit_of fit.now pairs.now) in
-        Reached (map line_of lines.now) os first before }
-    ensures passed { Passed (map line_of lines.now) (counted (book_at book pairs) (fit_at fit pairs)) first result }
+    requires all { os ≡ counted (book_of book.now pairs.now) (fit_of fit.now pairs.now) }
+    requires reached { Reached (map line_of lines.now) os from.next from.points }
+    ensures passed { Passed (map line_of lines.now) os from.next result }
 {
     let mut sums = [0u64; PLACES];
-    let n = tallied(&mut sums, lines, first, book, fit, pairs);
-    walk(lines, first, n, &sums, before, book, fit, pairs)
+    let n = tallied(&mut sums, lines, from.next, book, fit, pairs);
+    walk(lines, n, &sums, from)
 }
 
-// The first broken line, a block at a time.
-fn first_broken(lines: &[RuleLine], book: &[u8], fit: &[u8], pairs: &TablePairs) -> Verdict
+// The lines, a block at a time.
+fn first_broken(
+    lines: &[RuleLine],
+    book: &[u8],
+    fit: &[u8],
+    pairs: &TablePairs,
+) -> Result<(), Broken>
     requires ordered { Ordered (map line_of lines.now) }
     requires held_book { HeldBook book.now pairs.now }
     requires held_fit { HeldFit fit.now pairs.now }
     ensures defined { let ls = map line_of lines.now in
-        verdict_of result ≡ rule.verdict_from ls (counted (book_at book pairs) (fit_at fit pairs)) 0 ls }
-    ensures no_wrap { rule.count_of (verdict_of result) < 2 ^ 58 }
+        broken_of result ≡ rule.verdict_from ls (counted (book_at book pairs) (fit_at fit pairs)) 0 ls }
+    ensures no_wrap { rule.count_of (broken_of result) < 2 ^ 58 }
 {
-    let mut points = 0;
-    let mut i = 0;
-    while i < lines.len() {
-        let walked = in_block(lines, i, points, book, fit, pairs);
-        match walked {
-            Walked::Breaks(at, count) => {
-                return Verdict::Breaks(at, count);
-            }
-            Walked::Holds(sum, next) => {
-                points = sum;
-                i = next;
-            }
-        }
+    let mut at = Walked { points: 0, next: 0 };
+    // A while: how far a block reaches is known when it was walked.
+    while at.next < lines.len() {
+        at = in_block(lines, at, book, fit, pairs)?;
     }
-    Verdict::Allowed
+    Ok(())
 }
 
-// The verdict on a book and a fit that are sound: the table of lines first.
-fn judged(lines: &[RuleLine], book: &[u8], fit: &[u8], pairs: &TablePairs) -> Verdict
+// A book and a fit that are sound: the table of lines first.
+fn judged(lines: &[RuleLine], book: &[u8], fit: &[u8], pairs: &TablePairs) -> Result<(), NotAllowed>
     requires held_book { HeldBook book.now pairs.now }
     requires held_fit { HeldFit fit.now pairs.now }
     ensures defined { verdict_of result ≡ rule.judged (book_at book pairs) (fit_at fit pairs) (map line_of lines.now) }
     ensures no_wrap { rule.count_of (verdict_of result) < 2 ^ 58 }
 {
-    let table = bad_line(lines);
-    match table {
-        Table::Bad(i) => Verdict::Rules(i),
-        Table::Good => first_broken(lines, book, fit, pairs),
-    }
+    lines_good(lines)?;
+    first_broken(lines, book, fit, pairs)?;
+    Ok(())
+}
+
+// A sheet: its shape, then its lines.
+fn sheet_judged(lines: &[RuleLine], sheet: &[u8]) -> Result<(), NotAllowed>
+    ensures defined { verdict_of result ≡ rule.checked sheet.now lines.now }
+    ensures no_wrap { rule.count_of (verdict_of result) < 2 ^ 58 }
+{
+    shape(sheet)?;
+    let pairs = pairs_of(sheet);
+    judged(lines, sheet, sheet, &pairs)
+}
+
+// A book and a fit: their shape, then their lines.
+fn files_judged(lines: &[RuleLine], book: &[u8], fit: &[u8]) -> Result<(), NotAllowed>
+    ensures defined { verdict_of result ≡ rule.checked_files book.now fit.now lines.now }
+    ensures no_wrap { rule.count_of (verdict_of result) < 2 ^ 58 }
+{
+    let pairs = pairs_in(book, fit);
+    files_shape(book, fit, &pairs)?;
+    judged(lines, book, fit, &pairs)
 }
 
 // 01's number and place, and the rest of the answer.
-fn answer(v: Verdict) -> Checked
-    ensures defined { result ≡ answer_of (verdict_of v) }
+fn answer(verdict: Result<(), NotAllowed>) -> Checked
+    ensures defined { result ≡ answer_of (verdict_of verdict) }
 {
-    match v {
-        Verdict::Allowed => Checked {
-            number: 0,
-            place: 0,
-            allowed: 1,
-            line: 0,
-            count: 0,
+    let told = Checked {
+        number: 0,
+        place: 0,
+        allowed: 0,
+        line: 0,
+        count: 0,
+    };
+    match verdict {
+        Ok(()) => Checked { allowed: 1, ..told },
+        Err(NotAllowed::Breaks(broken)) => Checked {
+            line: broken.line as u64,
+            count: broken.count,
+            ..told
         },
-        Verdict::Breaks(i, c) => Checked {
-            number: 0,
-            place: 0,
-            allowed: 0,
-            line: i as u64,
-            count: c,
+        Err(NotAllowed::Shape(bad)) => Checked {
+            number: SHAPE,
+            place: bad.table as u64,
+            ..told
         },
-        Verdict::Shape(t) => Checked {
-            number: 1,
-            place: t as u64,
-            allowed: 0,
-            line: 0,
-            count: 0,
-        },
-        Verdict::Rules(i) => Checked {
-            number: 11,
-            place: i as u64,
-            allowed: 0,
-            line: 0,
-            count: 0,
+        Err(NotAllowed::Rules(bad)) => Checked {
+            number: RULES,
+            place: bad.line as u64,
+            ..told
         },
     }
 }
@@ -285,15 +317,7 @@ pub fn dogma_check_rules(lines: &[RuleLine], sheet: &[u8]) -> Checked
     ensures defined { result ≡ answer_of (rule.checked sheet.now lines.now) }
     ensures no_sum_wraps { result.count < 2 ^ 58 }
 {
-    let verdict = shape(sheet);
-    match verdict {
-        Shaped::Bad(t) => answer(Verdict::Shape(t)),
-        Shaped::Sound => {
-            let pairs = pairs_of(sheet);
-            let judgement = judged(lines, sheet, sheet, &pairs);
-            answer(judgement)
-        }
-    }
+    answer(sheet_judged(lines, sheet))
 }
 
 // The same of a book and a fit.
@@ -301,13 +325,5 @@ pub fn dogma_check_rules_files(lines: &[RuleLine], book: &[u8], fit: &[u8]) -> C
     ensures defined { result ≡ answer_of (rule.checked_files book.now fit.now lines.now) }
     ensures no_sum_wraps { result.count < 2 ^ 58 }
 {
-    let pairs = pairs_in(book, fit);
-    let verdict = files_shape(book, fit, &pairs);
-    match verdict {
-        Shaped::Bad(t) => answer(Verdict::Shape(t)),
-        Shaped::Sound => {
-            let judgement = judged(lines, book, fit, &pairs);
-            answer(judgement)
-        }
-    }
+    answer(files_judged(lines, book, fit))
 }

@@ -1,4 +1,5 @@
 -- Of a sound sheet the columns after dispatch are ready for the walk, and hold what the definition says after it.
+use Rattle.std.specs.Prelude.{Result, Ok, Err}
 use Prim.Native.Nat.{ℕ, ◌+◌, ◌≤◌}
 use native.Mathlib.Omega.{arith}
 use mathlib.Core.Path.{◌≡◌, refl, sym, ap, subst, ◌∙◌}
@@ -12,6 +13,7 @@ use Rattle.laws.specs.Columns.{Col}
 use Rattle.laws.specs.Floats.{zero_f}
 use Rattle.laws.proofs.Laid.{drop-laid, laid-length}
 use Rattle.laws.proofs.Maps.{map_itself}
+use Rattle.rules.specs.declared.Refusal.{Refusal}
 use Rattle.rules.specs.Answer.{Res, ok, refused}
 use Rattle.rules.specs.Columns.{rows_numbers}
 use Rattle.rules.specs.Dispatch.{Row}
@@ -42,8 +44,6 @@ use Rattle.values.proofs.PreparedBlankLaws.{held-at-first}
 use Rattle.values.proofs.Planning.{dispatched, planned_off, planned_on}
 use Rattle.values.proofs.Sheets.{sound_rows}
 use Rattle.values.proofs.Told.{told}
-use Rattle.values.specs.declared.walk.Valued.{Valued}
-use Rattle.values.specs.declared.walk.Valued.TheVariants as answer
 use Rattle.values.specs.Starting.{Walkable, ValuedAs}
 use Rattle.values.specs.Setting.{planned_rows, RowsListed, Set, SetAs}
 
@@ -189,19 +189,19 @@ module _ (book fit : List ℕ) (pairs : List (List ℕ)) (sb : SoundBook book pa
               floats = E.floats;
             }
 
-        by : (x : Res Mem) → valued world f.depth (starts_of f world.rows) (blank world.rows) ≡ x → (a : Valued) → ValuedAs world s₀ g₀ x a y s g → SetAs rs x a h.rows₀ r' v₀ v'' s₀ s g₀ g
+        by : (x : Res Mem) → valued world f.depth (starts_of f world.rows) (blank world.rows) ≡ x → (a : Result ℕ Refusal) → ValuedAs world s₀ g₀ x a y s g → SetAs rs x a h.rows₀ r' v₀ v'' s₀ s g₀ g
         unfolding world_of
-        by (ok m) x (answer.At used) H = set_ended m used H.long (all-ended world_held f.depth (starts_of f world.rows) x all_asked H few small even)
-        by (ok m) x (answer.Refused z) H = absurd H
-        by (refused q) x (answer.At used) H = absurd H
-        by (refused q) x (answer.Refused z) H = H
+        by (ok m) x (Ok used) H = set_ended m used H.long (all-ended world_held f.depth (starts_of f world.rows) x all_asked H few small even)
+        by (ok m) x (Err z) H = absurd H
+        by (refused q) x (Ok used) H = absurd H
+        by (refused q) x (Err z) H = H
 
-        ended_as : (a : Valued) → ValuedAs world s₀ g₀ (valued world f.depth (starts_of f world.rows) (blank world.rows)) a y s g → SetAs rs (valued world f.depth (starts_of f rs) (blank rs)) a h.rows₀ r' v₀ v'' s₀ s g₀ g
+        ended_as : (a : Result ℕ Refusal) → ValuedAs world s₀ g₀ (valued world f.depth (starts_of f world.rows) (blank world.rows)) a y s g → SetAs rs (valued world f.depth (starts_of f rs) (blank rs)) a h.rows₀ r' v₀ v'' s₀ s g₀ g
         unfolding world_of
         ended_as a H = by (valued world f.depth (starts_of f world.rows) (blank world.rows)) refl a H
 
         -- what the walk ensures, of any world that the columns hold
-        pub set_as : {x : List (List ℕ)} {l : List ℕ} → Stretched (rows_in (book_of book pairs) (fit_of fit pairs)) x → Limits (book_of book pairs) l → (a : Valued)
+        pub set_as : {x : List (List ℕ)} {l : List ℕ} → Stretched (rows_in (book_of book pairs) (fit_of fit pairs)) x → Limits (book_of book pairs) l → (a : Result ℕ Refusal)
             → ((q : Walkable (tables book pairs st x l (take n r') (take n b) e v) run (take n v') s₀ g₀ 0 fit)
             → ValuedAs q.ready.world q.ready.sources₀ q.ready.floats₀ (valued q.ready.world (fit_of fit pairs).depth (starts_of (fit_of fit pairs) q.ready.world.rows) q.ready.mem) a y s g)
             → SetAs (rows_in (book_of book pairs) (fit_of fit pairs)) (valued (world_of (book_of book pairs) (fit_of fit pairs) run.room) (fit_of fit pairs).depth (starts_of (fit_of fit pairs) (rows_in (book_of book pairs) (fit_of fit pairs))) (blank (rows_in (book_of book pairs) (fit_of fit pairs)))) a h.rows₀ r' v₀ v'' s₀ s g₀ g

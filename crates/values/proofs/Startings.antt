@@ -1,4 +1,5 @@
 -- Starts valued one after another.
+use Rattle.std.specs.Prelude.{Result, Ok, Err}
 use Prim.Native.Nat.{ℕ, ◌+◌, ◌≤◌, ◌<◌}
 use native.Mathlib.Omega.{arith}
 use mathlib.Core.Path.{◌≡◌, refl, sym, ap, ◌∙◌}
@@ -28,13 +29,10 @@ use Rattle.reading.proofs.Walks.{turns_long, turn_at}
 use Rattle.sources.specs.declared.Recording.{Recording}
 use Rattle.memory.specs.Holding.{Tables, Holds, Ready}
 use Rattle.memory.specs.Answers.{Returns}
-use Rattle.memory.specs.declared.apply.Got.TheVariants as got
 use Rattle.memory.proofs.Holdings.{ready_on, met, missed}
 use Rattle.values.proofs.Taken.{few_objects}
 use Rattle.values.specs.Complete.{ask_of}
 use Rattle.values.specs.Starting.{ValuedAs}
-use Rattle.values.specs.declared.walk.Valued.{Valued}
-use Rattle.values.specs.declared.walk.Valued.TheVariants as answer
 
 pub valued_append : (w : World) (d : ℕ) (xs ys : List Ask) (m : Mem) → valued w d (xs ++ ys) m ≡ (valued w d xs m >>= λ n. valued w d ys n)
 unfolding valued
@@ -69,7 +67,7 @@ module _ {t : Tables} {run : Recording} {v₀ : List Float} {s₁ : List (List �
     abbrev pub asking_ready : Ready t run v s f used
     asking_ready = ready_on h A.sofar A.holds
 
-    pub asking_ends : length starts ≤ i → ValuedAs w s₀ f₀ (valued w d starts h.mem) (answer.At used) v s f
+    pub asking_ends : length starts ≤ i → ValuedAs w s₀ f₀ (valued w d starts h.mem) (Ok used) v s f
     asking_ends all = rw (ap (λ (l : List Ask). valued w d l h.mem) (sym (take_all i starts all)) ∙ A.is) A.holds
 
     module _ (inside : i < length starts) (a : Ask) (a-is : a ≡ get_or starts i a) (v' : List Float) (s' : List (List ℕ)) (f' : List (List Float)) where
@@ -82,12 +80,12 @@ module _ {t : Tables} {run : Recording} {v₀ : List Float} {s₁ : List (List �
           ap (λ (l : List Ask). valued w d l h.mem) (take_next starts i a inside) ∙ valued_append w d (take i starts) (get_or starts i a ∷ []) h.mem
           ∙ ap (λ (x : Res Mem). x >>= λ n. valued w d (get_or starts i a ∷ []) n) A.is ∙ ap (λ (b : Ask). valued w d (b ∷ []) A.sofar) (sym a-is)
 
-      pub asking_next : (y : Float) (more : ℕ) → Returns w s₀ f₀ reading (got.Value y more) v' s' f' → Asking w s₀ f₀ d starts h.mem (i + 1) v' s' f' more
+      pub asking_next : (y : Float) (more : ℕ) → Returns w s₀ f₀ reading (Ok (record { value = y; used = more })) v' s' f' → Asking w s₀ f₀ d starts h.mem (i + 1) v' s' f' more
       asking_next y more k =
           let q = met w s₀ f₀ v' s' f' reading y more k in
           record { sofar = q.read.mem; is = one_more ∙ ap (λ (x : Res Read). x >>= λ q. ok q.mem) q.is; holds = q.holds }
 
-      pub asking_refused : (z : Refusal) → Returns w s₀ f₀ reading (got.Refused z) v' s' f' → ValuedAs w s₀ f₀ (valued w d starts h.mem) (answer.Refused z) v' s' f'
+      pub asking_refused : (z : Refusal) → Returns w s₀ f₀ reading (Err z) v' s' f' → ValuedAs w s₀ f₀ (valued w d starts h.mem) (Err z) v' s' f'
       asking_refused z k =
           rw (ap (λ (l : List Ask). valued w d l h.mem) (sym (take-append-drop (i + 1) starts)) ∙ valued_append w d (take (i + 1) starts) (drop (i + 1) starts) h.mem
           ∙ ap (λ (x : Res Mem). x >>= λ n. valued w d (drop (i + 1) starts) n) (one_more ∙ ap (λ (x : Res Read). x >>= λ q. ok q.mem) (missed w s₀ f₀ v' s' f' reading z k))) refl
@@ -117,10 +115,10 @@ module _ {f : Fit} {rs : List Row} {t : Turns} (T : TurnsOf f rs t) where
 -- ---- asks, then the walk
 
 module _ (w : World) (s₀ : List (List ℕ)) (f₀ : List (List Float)) (d : ℕ) (xs ys : List Ask) (m : Mem) where
-  pub both-refused : (z : Refusal) (v : List Float) (s : List (List ℕ)) (f : List (List Float)) → ValuedAs w s₀ f₀ (valued w d xs m) (answer.Refused z) v s f → ValuedAs w s₀ f₀ (valued w d (xs ++ ys) m) (answer.Refused z) v s f
+  pub both-refused : (z : Refusal) (v : List Float) (s : List (List ℕ)) (f : List (List Float)) → ValuedAs w s₀ f₀ (valued w d xs m) (Err z) v s f → ValuedAs w s₀ f₀ (valued w d (xs ++ ys) m) (Err z) v s f
   both-refused z v s f k = rw (valued_append w d xs ys m) (by (valued w d xs m) k)
     where
-      by : (x : Res Mem) → ValuedAs w s₀ f₀ x (answer.Refused z) v s f → ValuedAs w s₀ f₀ (x >>= λ n. valued w d ys n) (answer.Refused z) v s f
+      by : (x : Res Mem) → ValuedAs w s₀ f₀ x (Err z) v s f → ValuedAs w s₀ f₀ (x >>= λ n. valued w d ys n) (Err z) v s f
       by (ok n) k = absurd k
       by (refused y) k = k
 
@@ -130,12 +128,12 @@ module _ (w : World) (s₀ : List (List ℕ)) (f₀ : List (List Float)) (d : �
     pub is : valued w d xs m ≡ ok mem
     pub holds : Holds w s₀ f₀ mem v s f used
 
-  pub left_by : (used : ℕ) (v : List Float) (s : List (List ℕ)) (f : List (List Float)) → ValuedAs w s₀ f₀ (valued w d xs m) (answer.At used) v s f → Left v s f used
+  pub left_by : (used : ℕ) (v : List Float) (s : List (List ℕ)) (f : List (List Float)) → ValuedAs w s₀ f₀ (valued w d xs m) (Ok used) v s f → Left v s f used
   left_by used v s f k = by (valued w d xs m) refl k
     where
-      by : (x : Res Mem) → valued w d xs m ≡ x → ValuedAs w s₀ f₀ x (answer.At used) v s f → Left v s f used
+      by : (x : Res Mem) → valued w d xs m ≡ x → ValuedAs w s₀ f₀ x (Ok used) v s f → Left v s f used
       by (ok n) e k = record { mem = n; is = e; holds = k }
       by (refused y) e k = absurd k
 
-  pub both-valued : {v : List Float} {s : List (List ℕ)} {f : List (List Float)} {used : ℕ} (l : Left v s f used) (r : Valued) (v' : List Float) (s' : List (List ℕ)) (f' : List (List Float)) → ValuedAs w s₀ f₀ (valued w d ys l.mem) r v' s' f' → ValuedAs w s₀ f₀ (valued w d (xs ++ ys) m) r v' s' f'
+  pub both-valued : {v : List Float} {s : List (List ℕ)} {f : List (List Float)} {used : ℕ} (l : Left v s f used) (r : Result ℕ Refusal) (v' : List Float) (s' : List (List ℕ)) (f' : List (List Float)) → ValuedAs w s₀ f₀ (valued w d ys l.mem) r v' s' f' → ValuedAs w s₀ f₀ (valued w d (xs ++ ys) m) r v' s' f'
   both-valued l r v' s' f' k = rw (valued_append w d xs ys m ∙ ap (λ (x : Res Mem). x >>= λ n. valued w d ys n) l.is) k

@@ -22,8 +22,8 @@ use Rattle.rules.proofs.Verdicts.{buffs_good_lem}
 use Rattle.info.specs.Sound.{SoundFit}
 use Rattle.info.proofs.Elements.{objects_length}
 use Rattle.info.proofs.Rows.{source_at}
-use Rattle.modifier.specs.declared.causes.Cause.{Cause}
-use Rattle.modifier.specs.declared.causes.Cause.TheVariants as cause
+use Rattle.modifier.specs.Causes.{Cause}
+use Rattle.modifier.specs.Causes as cause
 use Rattle.collect.specs.Bounded as bounded
 use Rattle.collect.specs.Takes.{Member, Caused, Collects, origin_of}
 use Rattle.collect.proofs.Taking.{each_at}
@@ -53,9 +53,9 @@ zero-finite = tt
 
 module _ (k : Book) (f : Fit) (e : buffs_good f ≡ true) where
   cause_finite : (m : DogmaModifier) (c : Cause) → Caused k f c → T (finite (origin_value (origin_of c m)))
-  cause_finite m (cause.Own w x c) h = zero-finite
-  cause_finite m (cause.Projected w x c r) h = zero-finite
-  cause_finite m (cause.Buff b o) h = subst T (sym (finite-at f e b h)) tt
+  cause_finite m (cause.own w x c) h = zero-finite
+  cause_finite m (cause.projected w x c r) h = zero-finite
+  cause_finite m (cause.buff b o) h = subst T (sym (finite-at f e b h)) tt
 
   collects_finite : (t : Pass2Effect) → Collects k f t → T (finite (origin_value t.origin))
   collects_finite t h = subst (λ (g : Origin). T (finite (origin_value g))) (sym h.of.origin) (cause_finite h.modifier h.cause h.caused)

@@ -1,9 +1,10 @@
 -- What the columns hold before and after the values are set. Definitions only.
-use Rattle.std.specs.Prelude.{ℕ, ◌≡◌, Bool, true, false, List, ◌++◌, map, eqb, Float, length, drop}
+use Rattle.std.specs.Prelude.{ℕ, ◌≡◌, Bool, true, false, List, ◌++◌, map, eqb, Float, length, drop, Result, Ok, Err}
 use Rattle.std.proofs.Math.Option.{Option, get_or}
 use Rattle.columns.specs.Lending.{LentColumn}
 use Rattle.laws.specs.Columns.{Col}
 use Rattle.laws.specs.Floats.{zero_f}
+use Rattle.rules.specs.declared.Refusal.{Refusal}
 use Rattle.rules.specs.Answer.{Res, ok, refused}
 use Rattle.rules.specs.Columns.{rows_numbers, source_numbers, source_floats}
 use Rattle.rules.specs.Dispatch.{Row}
@@ -16,8 +17,6 @@ use Rattle.sources.specs.declared.Recording.{Recording}
 use Rattle.sources.specs.Rows.{counts_by, planned_numbers}
 use Rattle.pass_3.specs.Calls.{Rows, Floats, Lent}
 use Rattle.values.specs.Complete.{all_sources}
-use Rattle.values.specs.declared.walk.Valued.{Valued}
-use Rattle.values.specs.declared.walk.Valued.TheVariants as valued
 
 -- the column r after planning, by whether source rows are recorded
 abbrev pub planned_rows : Bool → ℕ → List Row → List (List ℕ) → List (List ℕ) → List (List ℕ)
@@ -44,14 +43,14 @@ pub record Set (rs : List Row) (m : Mem) (used : ℕ) (r₀ r : List (List ℕ))
   pub floats : Col source_floats (all_sources m) g₀ g
 
 -- all are set, or one is refused
-abbrev pub SetAs : List Row → Res Mem → Valued → List (List ℕ) → List (List ℕ) → List Float → List Float → List (List ℕ) → List (List ℕ) → List (List Float) → List (List Float) → Type 0
-SetAs rs (ok m) (valued.At used) r₀ r v₀ v s₀ s g₀ g = Set rs m used r₀ r v₀ v s₀ s g₀ g
-SetAs rs (ok m) (valued.Refused z) r₀ r v₀ v s₀ s g₀ g = ⊥
-SetAs rs (refused y) (valued.At used) r₀ r v₀ v s₀ s g₀ g = ⊥
-SetAs rs (refused y) (valued.Refused z) r₀ r v₀ v s₀ s g₀ g = z ≡ y
+abbrev pub SetAs : List Row → Res Mem → Result ℕ Refusal → List (List ℕ) → List (List ℕ) → List Float → List Float → List (List ℕ) → List (List ℕ) → List (List Float) → List (List Float) → Type 0
+SetAs rs (ok m) (Ok used) r₀ r v₀ v s₀ s g₀ g = Set rs m used r₀ r v₀ v s₀ s g₀ g
+SetAs rs (ok m) (Err z) r₀ r v₀ v s₀ s g₀ g = ⊥
+SetAs rs (refused y) (Ok used) r₀ r v₀ v s₀ s g₀ g = ⊥
+SetAs rs (refused y) (Err z) r₀ r v₀ v s₀ s g₀ g = z ≡ y
 
 -- of the sheet's rows in the columns that are only read, the others hold what the definition's answer a says
-abbrev pub SetGives : Book → Fit → ℕ → Recording → Lent Rows → Lent Floats → Lent Rows → Lent Floats → LentColumn (List ℕ) → LentColumn Float → LentColumn (List ℕ) → LentColumn (List Float) → Valued → Res Mem → Type 0
+abbrev pub SetGives : Book → Fit → ℕ → Recording → Lent Rows → Lent Floats → Lent Rows → Lent Floats → LentColumn (List ℕ) → LentColumn Float → LentColumn (List ℕ) → LentColumn (List Float) → Result ℕ Refusal → Res Mem → Type 0
 SetGives k f n run states bases entries entry_values rows values sources floats r a =
     (h : RowsListed k f n run states.entry.now rows.entry.now bases.entry.now entries.entry.now entry_values.entry.now)
     → SetAs (rows_in k f) a r h.rows₀ rows.exit.now values.entry.now values.exit.now sources.entry.now sources.exit.now floats.entry.now floats.exit.now

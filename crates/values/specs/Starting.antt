@@ -1,18 +1,18 @@
 -- What a run of starts answers, and what the walk needs. Definitions only.
-use Rattle.std.specs.Prelude.{ℕ, ◌≡◌, true, List, [], Float, length, get_or}
+use Rattle.std.specs.Prelude.{ℕ, ◌≡◌, true, List, [], Float, length, get_or, Result, Ok, Err}
 use Rattle.columns.specs.Lending.{Column, LentColumn}
 use Rattle.std.specs.Int.{w32}
 use Rattle.std.proofs.Common.{to_z}
+use Rattle.rules.specs.declared.Refusal.{Refusal}
 use Rattle.rules.specs.Answer.{Res, ok, refused}
 use Rattle.rules.specs.Sheet.{Book, fit_of}
 use Rattle.rules.specs.Value.{World, Mem}
 use Rattle.reading.specs.Stretched.{Limits, Unlimited}
 use Rattle.reading.specs.Order.{owned}
 use Rattle.sources.specs.declared.Recording.{Recording}
-use Rattle.memory.specs.Holding.{Tables, Holds, Ready}
+use Rattle.memory.specs.Holding.{Tables, tables_of, Holds, Ready}
+use Rattle.memory.specs.declared.ReadColumns.{ReadColumns}
 use Rattle.pass_3.specs.Calls.{Numbers, Lent}
-use Rattle.values.specs.declared.walk.Valued.{Valued}
-use Rattle.values.specs.declared.walk.Valued.TheVariants as valued
 
 -- the columns hold a world whose rows are those of the fit's objects
 pub record Walkable (t : Tables) (run : Recording) (v : List Float) (s : List (List ℕ)) (f : List (List Float)) (used : ℕ) (fit : List ℕ) : Type 0 where
@@ -26,23 +26,23 @@ pub record Untouched (rows : List (List ℕ)) (limits : List ℕ) (i left : ℕ)
   pub deep : left ≡ 0 → ⊥
 
 -- all starts are valued, or one is refused
-abbrev pub ValuedAs : World → List (List ℕ) → List (List Float) → Res Mem → Valued → List Float → List (List ℕ) → List (List Float) → Type 0
-ValuedAs w s₀ f₀ (ok m) (valued.At used) v s f = Holds w s₀ f₀ m v s f used
-ValuedAs w s₀ f₀ (ok m) (valued.Refused z) v s f = ⊥
-ValuedAs w s₀ f₀ (refused y) (valued.At used) v s f = ⊥
-ValuedAs w s₀ f₀ (refused y) (valued.Refused z) v s f = z ≡ y
+abbrev pub ValuedAs : World → List (List ℕ) → List (List Float) → Res Mem → Result ℕ Refusal → List Float → List (List ℕ) → List (List Float) → Type 0
+ValuedAs w s₀ f₀ (ok m) (Ok used) v s f = Holds w s₀ f₀ m v s f used
+ValuedAs w s₀ f₀ (ok m) (Err z) v s f = ⊥
+ValuedAs w s₀ f₀ (refused y) (Ok used) v s f = ⊥
+ValuedAs w s₀ f₀ (refused y) (Err z) v s f = z ≡ y
 
 -- of the world and the memory that the columns held, the call gives what the definition g gives, and they hold the memory that g leaves
-abbrev pub StartsGive : Tables → LentColumn Float → LentColumn (List ℕ) → LentColumn (List Float) → Recording → Valued → (World → Mem → Res Mem) → Type 0
-StartsGive t v s f run r g =
-    (h : Ready t run v.entry.now s.entry.now f.entry.now 0)
+abbrev pub StartsGive : ReadColumns → LentColumn Float → LentColumn (List ℕ) → LentColumn (List Float) → Recording → Result ℕ Refusal → (World → Mem → Res Mem) → Type 0
+StartsGive c v s f run r g =
+    (h : Ready (tables_of c) run v.entry.now s.entry.now f.entry.now 0)
     → ValuedAs h.world h.sources₀ h.floats₀ (g h.world h.mem) r v.exit.now s.exit.now f.exit.now
 
 -- the same of a world that may be walked: as a `requires` has it, and as an `ensures` has it
-abbrev pub WalkableNow : Tables → Column Float → Column (List ℕ) → Column (List Float) → Recording → ℕ → Numbers → Type 0
-WalkableNow t v s f run used fit = Walkable t run v.now s.now f.now used fit.now
+abbrev pub WalkableNow : ReadColumns → Column Float → Column (List ℕ) → Column (List Float) → Recording → ℕ → Numbers → Type 0
+WalkableNow c v s f run used fit = Walkable (tables_of c) run v.now s.now f.now used fit.now
 
-abbrev pub WalkGives : Tables → LentColumn Float → LentColumn (List ℕ) → LentColumn (List Float) → Recording → ℕ → Lent Numbers → Valued → (World → Mem → Res Mem) → Type 0
-WalkGives t v s f run used fit r g =
-    (h : Walkable t run v.entry.now s.entry.now f.entry.now used fit.entry.now)
+abbrev pub WalkGives : ReadColumns → LentColumn Float → LentColumn (List ℕ) → LentColumn (List Float) → Recording → ℕ → Lent Numbers → Result ℕ Refusal → (World → Mem → Res Mem) → Type 0
+WalkGives c v s f run used fit r g =
+    (h : Walkable (tables_of c) run v.entry.now s.entry.now f.entry.now used fit.entry.now)
     → ValuedAs h.ready.world h.ready.sources₀ h.ready.floats₀ (g h.ready.world h.ready.mem) r v.exit.now s.exit.now f.exit.now

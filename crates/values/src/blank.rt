@@ -8,9 +8,7 @@ pub fn unstarted(values: &mut [f64], n: usize)
     ensures defined { values.new ≡ replicate n nan ++ drop n values.old }
 {
     let none = 0.0 / 0.0;
-    let mut k: usize = 0;
-    while k < n {
+    for k in 0..n {
         values[k] = none;
-        k += 1;
     }
 }

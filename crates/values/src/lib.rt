@@ -11,10 +11,12 @@ ghost use Rattle.values.specs.Setting.{planned_rows, RowsListed, SetGives};
 
 use blank::unstarted;
 use columns::{AttributeRow, EntryRow, SourceFloats, SourceRow, States, TablePairs};
+use memory::ReadColumns;
 use reading::stretches::{set_limits, set_stretches};
+use rules::Refusal;
 use sources::Recording;
 use sources::plan::set_sources;
-use walk::{Valued, calculate_values};
+use walk::calculate_values;
 
 // Where source rows are recorded, first and count in list 5 of the first n rows.
 fn plan_sources(
@@ -49,7 +51,7 @@ pub fn set_values(
     pairs: &TablePairs,
     n: usize,
     run: Recording,
-) -> Valued
+) -> Result<u32, Refusal>
     requires sound_book { SoundBook book.now pairs.now }
     requires sound_fit { SoundFit fit.now pairs.now }
     requires listed { RowsListed (book_of book.now pairs.now) (fit_of fit.now pairs.now) n run
@@ -65,22 +67,18 @@ pub fn set_values(
     unstarted(values, n);
     let stretches = set_stretches(&rows[..n]);
     let limits = set_limits(book, pairs);
-    calculate_values(
-        &mut values[..n],
-        sources,
-        floats,
+    let columns = ReadColumns {
         book,
         pairs,
         states,
-        &stretches,
-        &limits,
-        &rows[..n],
-        &bases[..n],
+        stretches: &stretches,
+        limits: &limits,
+        rows: &rows[..n],
+        bases: &bases[..n],
         entries,
         entry_values,
-        run,
-        fit,
-    )
+    };
+    calculate_values(&mut values[..n], sources, floats, &columns, run, fit)
 }
 
 pub mod blank;

@@ -5,89 +5,54 @@ ghost use Rattle.rules.specs.Sheet.{fit_of};
 ghost use Rattle.rules.specs.Value.{value_of};
 ghost use Rattle.info.specs.Sound.{SoundFit};
 ghost use Rattle.memory.specs.Steps.{row_at};
-ghost use Rattle.pass_3.specs.Calls.{lent, read, ReadyNow, Gives};
+ghost use Rattle.pass_3.specs.Calls.{ReadyNow, Gives};
 ghost use Rattle.values.specs.Complete.{ask_of};
 ghost use Rattle.values.specs.Starting.{Untouched, StartsGive, WalkableNow, WalkGives};
 
-use columns::{
-    AttributeRow, EntryRow, Limits, ROW_ATTRIBUTE, ROW_ENTRY_COUNT, SourceFloats, SourceRow,
-    States, Stretches, TABLE_ASKS, TablePairs,
-};
+use columns::{AttributeRow, Limits, SourceFloats, SourceRow, TABLE_ASKS};
 use info::header::{count_of, depth_of};
 use info::records::ask;
+use memory::ReadColumns;
 use memory::apply::Got;
-use numbers::integers::signed;
 use pass_3::{calculate_value, calculated_value};
-use reading::stretches::is_limited;
+use reading::stretches::is_bare;
 use reading::turns::{turns_of, walked};
 use rules::Refusal;
 use sources::Recording;
 
-// How many source rows there are, or the refusal.
-#[derive(Clone, Copy)]
-pub enum Valued {
-    At(u32),
-    Refused(Refusal),
-}
-
-// The asks, in their order.
+// The asks, in their order: how many source rows there are then.
 fn asks(
     values: &mut [f64],
     sources: &mut [SourceRow],
     floats: &mut [SourceFloats],
-    book: &[u8],
-    pairs: &TablePairs,
-    states: &States,
-    stretches: &Stretches,
-    limits: &Limits,
-    rows: &[AttributeRow],
-    bases: &[f64],
-    entries: &[EntryRow],
-    entry_values: &[f64],
+    columns: &ReadColumns,
     run: Recording,
     fit: &[u8],
-) -> Valued
-    requires holding { let t = lent book pairs states stretches limits rows bases entries entry_values in
-        ReadyNow t values sources floats run 0 }
-    requires sound { SoundFit fit.now pairs.now }
-    ensures defined { let t = read book pairs states stretches limits rows bases entries entry_values in
-        let f = fit_of fit.now pairs.now in
-        StartsGive t values sources floats run result (λ w. valued w f.depth f.asks) }
+) -> Result<u32, Refusal>
+    requires holding { ReadyNow columns.now values sources floats run 0 }
+    requires sound { SoundFit fit.now columns.now.pairs.now }
+    ensures defined { let f = fit_of fit.now columns.now.pairs.now in
+        StartsGive columns.now values sources floats run result (λ w. valued w f.depth f.asks) }
 {
-    let n = count_of(pairs, TABLE_ASKS);
-    let depth = depth_of(fit, pairs);
+    let n = count_of(columns.pairs, TABLE_ASKS);
+    let depth = depth_of(fit, columns.pairs);
     let mut used: u32 = 0;
-    let mut i: usize = 0;
-    while i < n {
-        let a = ask(fit, pairs, i);
-        let object = a.object;
-        let attribute = a.attribute_id;
+    for i in 0..n {
+        let a = ask(fit, columns.pairs, i);
         let got = calculated_value(
             values,
             sources,
             floats,
-            book,
-            pairs,
-            states,
-            stretches,
-            limits,
-            rows,
-            bases,
-            entries,
-            entry_values,
+            columns,
             run,
-            object,
-            attribute,
+            a.object,
+            a.attribute_id,
             depth,
             used,
-        );
-        i += 1;
-        match got {
-            Got::Value(_, u) => used = u,
-            Got::Refused(y) => return Valued::Refused(y),
-        }
+        )?;
+        used = got.used;
     }
-    Valued::At(used)
+    Ok(used)
 }
 
 // Whether a row's value is its base: it has no entries, its attribute has no limit, and depth is left.
@@ -95,16 +60,7 @@ fn untouched(rows: &[AttributeRow], limits: &Limits, row: usize, left: u32) -> b
     requires within { row < length rows.now }
     ensures untouched { result ≡ true → Untouched rows.now limits.now row left }
 {
-    let count = rows[row][ROW_ENTRY_COUNT];
-    if count != 0 {
-        return false;
-    }
-    if left == 0 {
-        return false;
-    }
-    let id = signed(rows[row][ROW_ATTRIBUTE]);
-    let limited = is_limited(limits, id);
-    !limited
+    left != 0 && is_bare(rows, limits, row)
 }
 
 // The value of a row on the walk: one that is there and one that is the base take no calculation.
@@ -112,54 +68,26 @@ fn walk_row(
     values: &mut [f64],
     sources: &mut [SourceRow],
     floats: &mut [SourceFloats],
-    book: &[u8],
-    pairs: &TablePairs,
-    states: &States,
-    stretches: &Stretches,
-    limits: &Limits,
-    rows: &[AttributeRow],
-    bases: &[f64],
-    entries: &[EntryRow],
-    entry_values: &[f64],
+    columns: &ReadColumns,
     run: Recording,
     row: usize,
     left: u32,
     used: u32,
-) -> Got
-    requires holding { let t = lent book pairs states stretches limits rows bases entries entry_values in
-        ReadyNow t values sources floats run used }
-    requires within { row < length rows.now }
-    ensures defined { let t = read book pairs states stretches limits rows bases entries entry_values in
-        Gives t values sources floats run used result (λ w. value_of w left (row_at w row).object (row_at w row).id) }
+) -> Result<Got, Refusal>
+    requires holding { ReadyNow columns.now values sources floats run used }
+    requires within { row < length columns.now.rows.now }
+    ensures defined { Gives columns.now values sources floats run used result (λ w. value_of w left (row_at w row).object (row_at w row).id) }
 {
     let v = values[row];
     if v == v {
-        return Got::Value(v, used);
+        return Ok(Got { value: v, used });
     }
-    let plain = untouched(rows, limits, row, left);
-    if plain {
-        let base = bases[row];
+    if untouched(columns.rows, columns.limits, row, left) {
+        let base = columns.bases[row];
         values[row] = base;
-        return Got::Value(base, used);
+        return Ok(Got { value: base, used });
     }
-    calculate_value(
-        values,
-        sources,
-        floats,
-        book,
-        pairs,
-        states,
-        stretches,
-        limits,
-        rows,
-        bases,
-        entries,
-        entry_values,
-        run,
-        row,
-        left,
-        used,
-    )
+    calculate_value(values, sources, floats, columns, run, row, left, used)
 }
 
 // The walk: ship, projected, mode, char, items and charges, skills, ids ascending.
@@ -167,58 +95,26 @@ fn walk(
     values: &mut [f64],
     sources: &mut [SourceRow],
     floats: &mut [SourceFloats],
-    book: &[u8],
-    pairs: &TablePairs,
-    states: &States,
-    stretches: &Stretches,
-    limits: &Limits,
-    rows: &[AttributeRow],
-    bases: &[f64],
-    entries: &[EntryRow],
-    entry_values: &[f64],
+    columns: &ReadColumns,
     run: Recording,
     fit: &[u8],
     before: u32,
-) -> Valued
-    requires holding { let t = lent book pairs states stretches limits rows bases entries entry_values in
-        WalkableNow t values sources floats run before fit }
-    requires sound { SoundFit fit.now pairs.now }
-    ensures defined { let t = read book pairs states stretches limits rows bases entries entry_values in
-        let f = fit_of fit.now pairs.now in
-        WalkGives t values sources floats run before fit result (λ w. valued w f.depth (map ask_of (walk_order f.objects w.rows))) }
+) -> Result<u32, Refusal>
+    requires holding { WalkableNow columns.now values sources floats run before fit }
+    requires sound { SoundFit fit.now columns.now.pairs.now }
+    ensures defined { let f = fit_of fit.now columns.now.pairs.now in
+        WalkGives columns.now values sources floats run before fit result (λ w. valued w f.depth (map ask_of (walk_order f.objects w.rows))) }
 {
-    let n = rows.len();
-    let depth = depth_of(fit, pairs);
-    let turns = turns_of(rows, fit, pairs);
+    let n = columns.rows.len();
+    let depth = depth_of(fit, columns.pairs);
+    let turns = turns_of(columns.rows, fit, columns.pairs);
     let mut used = before;
-    let mut k: usize = 0;
-    while k < n {
+    for k in 0..n {
         let row = walked(turns, k);
-        let got = walk_row(
-            values,
-            sources,
-            floats,
-            book,
-            pairs,
-            states,
-            stretches,
-            limits,
-            rows,
-            bases,
-            entries,
-            entry_values,
-            run,
-            row,
-            depth,
-            used,
-        );
-        k += 1;
-        match got {
-            Got::Value(_, u) => used = u,
-            Got::Refused(y) => return Valued::Refused(y),
-        }
+        let got = walk_row(values, sources, floats, columns, run, row, depth, used)?;
+        used = got.used;
     }
-    Valued::At(used)
+    Ok(used)
 }
 
 // The value of every row: the asks, then the walk.
@@ -226,59 +122,15 @@ pub fn calculate_values(
     values: &mut [f64],
     sources: &mut [SourceRow],
     floats: &mut [SourceFloats],
-    book: &[u8],
-    pairs: &TablePairs,
-    states: &States,
-    stretches: &Stretches,
-    limits: &Limits,
-    rows: &[AttributeRow],
-    bases: &[f64],
-    entries: &[EntryRow],
-    entry_values: &[f64],
+    columns: &ReadColumns,
     run: Recording,
     fit: &[u8],
-) -> Valued
-    requires holding { let t = lent book pairs states stretches limits rows bases entries entry_values in
-        WalkableNow t values sources floats run 0 fit }
-    requires sound { SoundFit fit.now pairs.now }
-    ensures defined { let t = read book pairs states stretches limits rows bases entries entry_values in
-        let f = fit_of fit.now pairs.now in
-        WalkGives t values sources floats run 0 fit result (λ w. valued w f.depth (starts_of f w.rows)) }
+) -> Result<u32, Refusal>
+    requires holding { WalkableNow columns.now values sources floats run 0 fit }
+    requires sound { SoundFit fit.now columns.now.pairs.now }
+    ensures defined { let f = fit_of fit.now columns.now.pairs.now in
+        WalkGives columns.now values sources floats run 0 fit result (λ w. valued w f.depth (starts_of f w.rows)) }
 {
-    let asked = asks(
-        values,
-        sources,
-        floats,
-        book,
-        pairs,
-        states,
-        stretches,
-        limits,
-        rows,
-        bases,
-        entries,
-        entry_values,
-        run,
-        fit,
-    );
-    match asked {
-        Valued::At(used) => walk(
-            values,
-            sources,
-            floats,
-            book,
-            pairs,
-            states,
-            stretches,
-            limits,
-            rows,
-            bases,
-            entries,
-            entry_values,
-            run,
-            fit,
-            used,
-        ),
-        Valued::Refused(y) => Valued::Refused(y),
-    }
+    let used = asks(values, sources, floats, columns, run, fit)?;
+    walk(values, sources, floats, columns, run, fit, used)
 }

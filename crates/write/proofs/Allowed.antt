@@ -1,26 +1,26 @@
 -- Tables that 01 allows may be put down: few enough records, floats that have bits.
-use Prim.Native.Nat.{ℕ, ◌+◌, ◌*◌, ◌≤◌, ◌<◌}
+use Prim.Native.Nat.{ℕ, ◌+◌, ◌≤◌, ◌<◌}
 use native.Mathlib.Omega.{arith}
-use mathlib.Core.Path.{◌≡◌, refl, sym, ap, ◌∙◌, subst}
-use mathlib.Core.Bool.{Bool, true, false, ◌&&◌}
+use mathlib.Core.Path.{◌≡◌, refl}
+use mathlib.Core.Bool.{true, ◌&&◌}
 use mathlib.Core.List.{List, [], map}
-use mathlib.Core.Option.{Option, none, some}
+use mathlib.Core.Option.{none}
 use lib.ListN.{length}
 use lib.Dec.{leb, eqb}
-use lib.Ieee.{Float}
 use borrow.Author.Tests.{eqb-true}
 use Rattle.laws.specs.Floats.{finite}
-use Rattle.laws.specs.Lists.{every?, ascends, from}
+use Rattle.laws.specs.Lists.{every?, ascends}
 use Rattle.laws.proofs.Bools.{and_left, and_right}
-use Rattle.rules.specs.Files.{plus20}
 use Rattle.rules.specs.Shape.{attributes_good, effects_good, type_effects_good, buff_collections_good, objects_good, object_good, bases_good, buffs_good, asks_good, book_bad, fit_bad}
 use Rattle.rules.proofs.Verdicts.{attributes_good_lem, bases_good_lem, buffs_good_lem}
-use Rattle.tables.specs.Fits.{FewBook, FewFit}
-use Rattle.tables.specs.Tables.{Tables, row, value, number, attribute_of, base_of, buff_of, book_lent, fit_lent, book_tables, fit_tables, together, book_alike, fit_alike, book_fits, fit_fits, header_fits, tables_bad, book_tables_bad, fit_tables_bad, sheet_of, book_file_of, fit_file_of, book_length, fit_length}
+use Rattle.tables.specs.Fits.{FewFit}
+use Rattle.tables.specs.Tables.{Tables, row, value, number, attribute_of, base_of, buff_of, book_lent, fit_lent, together, fit_alike, book_fits, fit_fits, header_fits, tables_bad, book_tables_bad, fit_tables_bad, sheet_of, book_file_of, fit_file_of, book_length, fit_length}
+use Rattle.tables.specs.At.{book_in, fit_in}
+use Rattle.tables.specs.declared.BookTables.{BookTables}
+use Rattle.tables.specs.declared.FitTables.{FitTables}
 use Rattle.tables.proofs.ReadsBack.{sheet_size, book_size, fit_size}
 use Rattle.tables.proofs.SameVerdict.{decided, decided_none, few_book, like_book, few_fit, like_fit, headed_both, plus20_none}
 use Rattle.tables.proofs.SameBytes.{every_read}
-use Rattle.put_tables.specs.Rows.{Beside}
 use Rattle.put_tables.specs.Ready.{BookReady, FitReady}
 
 module _ (t : Tables) where
@@ -96,15 +96,20 @@ module _ (h : List ℕ) (t u : Tables) (e : tables_bad (together h t u) ≡ none
   pub sheet_lacks : {n k m : ℕ} → k ≡ book_length t → m ≡ fit_length u → n < 100 + k + m → n < length (sheet_of (together h t u))
   sheet_lacks p q g = omega (arith, p, q, g, sheet_size (together h t u))
 
-module _ (h : List ℕ) (a : List (List ℕ)) (d : List Float) (f m y b : List (List ℕ)) (e : book_tables_bad (book_tables h a d f m y b) ≡ none) where
-  abbrev book : Tables
-  book = book_tables h a d f m y b
+-- a book's verdict does not read its header
+pub unheaded : (k : BookTables) (h : List ℕ) → book_tables_bad (book_in k []) ≡ book_tables_bad (book_in k h)
+unfolding book_tables_bad book_fits book_bad attributes_good effects_good type_effects_good buff_collections_good book_lent
+unheaded k h = refl
 
-  pub book_file_ready : BookReady (book_tables [] a d f m y b)
+module _ (k : BookTables) (h : List ℕ) (e : book_tables_bad (book_in k h) ≡ none) where
+  abbrev book : Tables
+  book = book_in k h
+
+  pub book_file_ready : BookReady (book_in k [])
   unfolding book_tables_bad book_fits book_bad attributes_good effects_good type_effects_good buff_collections_good book_lent
   book_file_ready =
       let both = headed_both (book_fits book) (book_bad (book_lent book)) e in
-      book_ready (book_tables [] a d f m y b) both.0 both.1
+      book_ready (book_in k []) both.0 both.1
 
   pub book_fits_lem : {n k : ℕ} → k ≡ book_length book → 52 + k ≤ n → length (book_file_of book) ≤ n
   book_fits_lem p g = omega (arith, p, g, book_size book)
@@ -115,28 +120,28 @@ module _ (h : List ℕ) (a : List (List ℕ)) (d : List Float) (f m y b : List (
   pub book_lacks : {n k : ℕ} → k ≡ book_length book → n < 52 + k → n < length (book_file_of book)
   book_lacks p g = omega (arith, p, g, book_size book)
 
-module _ (h : List ℕ) (o : List (List ℕ)) (v : List ℕ) (w : List Float) (i p : List ℕ) (q : List Float) (k : List (List ℕ)) (e : fit_tables_bad (fit_tables h o v w i p q k) ≡ none) where
+module _ (f : FitTables) (h : List ℕ) (e : fit_tables_bad (fit_in f h) ≡ none) where
   abbrev fit : Tables
-  fit = fit_tables h o v w i p q k
+  fit = fit_in f h
 
   fit_both : (fit_fits fit ≡ true) × (fit_bad (fit_lent fit) ≡ none)
   unfolding fit_tables_bad
   fit_both = headed_both (fit_fits fit) (fit_bad (fit_lent fit)) (plus20_none _ e)
 
-  few_file : FewFit (fit_tables [] o v w i p q k)
+  few_file : FewFit (fit_in f [])
   few_file =
       let few : FewFit fit = few_fit fit fit_both.0 in
       record { objects = few.objects; base_attributes = few.base_attributes; ids = few.ids; buffs = few.buffs; asks = few.asks }
 
-  pub fit_file_ready : FitReady (fit_tables [] o v w i p q k)
+  pub fit_file_ready : FitReady (fit_in f [])
   unfolding fit_bad objects_good object_good bases_good buffs_good asks_good fit_lent
-  fit_file_ready = fit_ready (fit_tables [] o v w i p q k) (like_fit fit fit_both.0) few_file fit_both.1
+  fit_file_ready = fit_ready (fit_in f []) (like_fit fit fit_both.0) few_file fit_both.1
 
   pub fit_fits_lem : {n m : ℕ} → m ≡ fit_length fit → 48 + m ≤ n → length (fit_file_of fit) ≤ n
   fit_fits_lem s g = omega (arith, s, g, fit_size fit)
 
   pub fit_small : {m : ℕ} → m ≡ fit_length fit → 48 + m ≤ 530276
-  fit_small s = let f = few_file in omega (arith, s, f.objects, f.base_attributes, f.ids, f.buffs, f.asks)
+  fit_small s = let few = few_file in omega (arith, s, few.objects, few.base_attributes, few.ids, few.buffs, few.asks)
 
   pub fit_lacks : {n m : ℕ} → m ≡ fit_length fit → n < 48 + m → n < length (fit_file_of fit)
   fit_lacks s g = omega (arith, s, g, fit_size fit)

@@ -1,13 +1,12 @@
 -- What is given back, from what was put and what was cleared.
-use Prim.Native.Nat.{ℕ, ◌+◌, ◌-◌, ◌≤◌, ◌<◌}
+use Prim.Native.Nat.{ℕ, ◌≤◌, ◌<◌}
 use native.Mathlib.Nat.{zero-add}
 use native.Mathlib.Omega.{arith}
-use mathlib.Core.Path.{◌≡◌, refl, sym, ap, ◌∙◌}
-use mathlib.Core.Bool.{Bool, true, false}
-use mathlib.Core.List.{List, [], ◌∷◌, ◌++◌, map}
-use mathlib.Core.Option.{Option, none, some}
-use lib.ListN.{length, replicate, take}
-use lib.Dec.{leb}
+use mathlib.Core.Path.{◌≡◌, sym, ap, ◌∙◌}
+use mathlib.Core.Bool.{Bool}
+use mathlib.Core.List.{List, []}
+use mathlib.Core.Option.{Option, none}
+use lib.ListN.{length, replicate}
 use borrow.Author.Tests.{le-leb, lt-leb}
 use Rattle.laws.specs.Columns.{column}
 use Rattle.laws.proofs.Laid.{column_none}
@@ -16,19 +15,22 @@ use Rattle.listing.proofs.Puts.{ends, as_long}
 use Rattle.listing.proofs.Lined.{begun}
 use Rattle.listing.proofs.Behind.{cleared-behind}
 use Rattle.clear.specs.Ends.{cleared}
-use Rattle.shape.specs.Shaped.{shaped_of}
-use Rattle.shape.specs.declared.Shaped.{Shaped}
-use Rattle.shape.specs.declared.Shaped.TheVariants.{Bad}
+use Rattle.clear.proofs.Columned.{cleared_zeros}
+use Rattle.std.specs.Prelude.{Result, Ok, Err}
+use Rattle.shape.specs.Shaped.{Shaped, shaped_of}
+use Rattle.shape.specs.declared.BadTable.{BadTable}
 use Rattle.shape.proofs.Shapes.{bad_said}
 use Rattle.tables.specs.Tables.{sheet, shape, full, fitted, judged}
 use Rattle.tables.specs.Tables as tables
 use Rattle.write.specs.declared.Written.{Written}
-use Rattle.write.specs.Given.{answer_of, bytes_in}
+use Rattle.write.specs.declared.NotWritten.{NotWritten}
+use Rattle.write.specs.declared.NotWritten.TheVariants.{Shape, Room}
+use Rattle.write.specs.Given.{answer_of, bytes_in, Puts, told, end_of}
 
 -- ---- what is written, by the verdict and the room
 
 module _ (o : Option ℕ) (b : List ℕ) (n : ℕ) where
-  pub judged_shape : {r : Shaped} {i : ℕ} → r ≡ shaped_of o → r ≡ Bad i → judged o b n ≡ shape i
+  pub judged_shape : {r : Shaped} {x : BadTable} → r ≡ shaped_of o → r ≡ Err x → judged o b n ≡ shape x.table
   judged_shape h e = ap (λ (p : Option ℕ). judged p b n) (bad_said o (sym e ∙ h))
 
   pub judged-full : o ≡ none → n < length b → judged o b n ≡ full
@@ -70,3 +72,10 @@ given_sheet w b out {end} e h p q c = (
   where
     far : end ≡ length b
     far = ends b 0 out p ∙ zero-add (length b)
+
+-- what was put, then zeros
+pub gives : (w : tables.Written) (r : Result ℕ NotWritten) (out mid : List ℕ) {last : List ℕ} {a : Written} → Puts out mid r w → length mid ≡ length out
+    → a ≡ told r → last ≡ cleared 0 (end_of r) mid → Given w (length out) a last
+gives w (Ok end) out mid (b, e, h, p) l q c = given_sheet w b out e h p q c
+gives w (Err (Shape bad)) out mid e l q c = given_shape w (length out) (c ∙ cleared_zeros 0 mid ∙ ap (λ (n : ℕ). replicate n 0) l) e q
+gives w (Err Room) out mid e l q c = given-full w (length out) (c ∙ cleared_zeros 0 mid ∙ ap (λ (n : ℕ). replicate n 0) l) e q

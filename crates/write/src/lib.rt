@@ -1,13 +1,14 @@
 // The exported writers: a sheet's bytes from lent tables, or the refusal that reading them would have got; and a book's and a fit's file.
 #![tactic(auto)]
 
-ghost use Rattle.std.specs.Prelude.{◌≡◌, [], ◌≤◌, length, replicate};
-ghost use Rattle.std.proofs.Math.Option.{none};
+ghost use Rattle.std.specs.Prelude.{◌≡◌, [], length};
 ghost use Rattle.clear.specs.Ends.{ClearedFrom};
-ghost use Rattle.tables.specs.Tables.{together, tables_bad, book_tables_bad, fit_tables_bad, written, written_book, written_fit};
-ghost use Rattle.tables.specs.At.{book_now, book_at, fit_now, fit_at};
-ghost use Rattle.write.specs.Given.{Gives};
+ghost use Rattle.tables.specs.Tables.{together, written, written_book, written_fit};
+ghost use Rattle.tables.specs.At.{book_at, fit_at, book_in, fit_in};
+ghost use Rattle.write.specs.Given.{Gives, Puts, told, end_of};
+ghost use Rattle.write.specs.declared.NotWritten.TheVariants.{Shape, Room};
 
+use clear::zero_from;
 use columns::{
     AskFields, AttributeFields, BookNumbers, BuffCollectionFields, EffectFields, FitNumbers,
     ModifierFields, ObjectFields, SheetNumbers, TypeEffectFields,
@@ -15,12 +16,11 @@ use columns::{
 use lent::book::book_shape;
 use lent::fit::fit_shape;
 use lent::sheet_shape;
-use listing::zero_bytes;
-use put_tables::pairs::{book_length, fit_length};
 use put_tables::{put_book_file, put_fit_file, put_sheet};
-use shape::Shaped;
+use shape::BadTable;
+use tables::{BookTables, FitTables};
 
-// The numbers of the refusals, and the place of a full sheet: list 6.
+// The numbers of the refusals, as C has them, and the place of a full sheet: list 6.
 const SHAPE: u64 = 1;
 
 const ROOM: u64 = 7;
@@ -36,158 +36,93 @@ pub struct Written {
     pub length: u64,
 }
 
-// A refusal: all bytes are zero.
-fn refused(bytes: &mut [u8], number: u64, place: u64) -> Written
-    ensures answer { result ≡ record { number = number; place = place; length = 0 } }
-    ensures zeros { bytes.new ≡ replicate (length bytes.old) 0 }
-{
-    zero_bytes(bytes, 0);
-    Written {
-        number,
-        place,
-        length: 0,
+// Why nothing is written: the first bad table, or that there is no room.
+#[derive(Clone, Copy)]
+enum NotWritten {
+    Shape(BadTable),
+    Room,
+}
+
+impl From<BadTable> for NotWritten {
+    ghost from_gives = { λ bad reason. reason ≡ Shape bad };
+
+    fn from(bad: BadTable) -> NotWritten {
+        NotWritten::Shape(bad)
     }
 }
 
-// Done: zeros behind what was written.
-fn done(bytes: &mut [u8], end: usize) -> Written
-    ensures answer { result ≡ record { number = 0; place = 0; length = end } }
-    ensures cleared { ClearedFrom bytes 0 end }
-{
-    zero_bytes(bytes, end);
-    Written {
-        number: 0,
-        place: 0,
-        length: end as u64,
-    }
-}
-
-// A sheet of tables that 01 allows, where there is room.
+// A sheet of tables that 01 allows, where there is room. How long it is.
 fn sheet_written(
     bytes: &mut [u8],
     header: &SheetNumbers,
-    attributes: &[AttributeFields],
-    defaults: &[f64],
-    effects: &[EffectFields],
-    modifiers: &[ModifierFields],
-    type_effects: &[TypeEffectFields],
-    buff_collections: &[BuffCollectionFields],
-    objects: &[ObjectFields],
-    base_attributes: &[u32],
-    base_values: &[f64],
-    ids: &[u32],
-    buffs: &[u32],
-    buff_values: &[f64],
-    asks: &[AskFields],
-) -> Written
-    requires good { let book = book_now attributes defaults effects modifiers type_effects buff_collections [] in
-        let fit = fit_now objects base_attributes base_values ids buffs buff_values asks [] in
-        tables_bad (together header.now book fit) ≡ none }
-    ensures defined { let book = book_at attributes defaults effects modifiers type_effects buff_collections [] in
-        let fit = fit_at objects base_attributes base_values ids buffs buff_values asks [] in
-        Gives bytes result (written (together header.now book fit)) }
+    book: BookTables,
+    fit: FitTables,
+) -> Result<usize, NotWritten>
+    ensures defined { let t = together header.now (book_in book.entry []) (fit_in fit.entry []) in
+        Puts bytes.old bytes.new result (written t (length bytes.old)) }
 {
-    let book = book_length(
-        attributes,
-        effects,
-        modifiers,
-        type_effects,
-        buff_collections,
-    );
-    let fit = fit_length(objects, base_attributes, ids, buffs, asks);
-    if bytes.len() < 100 + book + fit {
-        return refused(bytes, ROOM, SHEET);
+    sheet_shape(header, book, fit)?;
+    let room = 100 + book.length() + fit.length();
+    if bytes.len() < room {
+        return Err(NotWritten::Room);
     }
-    let end = put_sheet(
-        bytes,
-        header,
-        attributes,
-        defaults,
-        effects,
-        modifiers,
-        type_effects,
-        buff_collections,
-        objects,
-        base_attributes,
-        base_values,
-        ids,
-        buffs,
-        buff_values,
-        asks,
-    );
-    done(bytes, end)
+    Ok(put_sheet(bytes, header, book, fit))
 }
 
-// A book's file, where there is room.
+// A book's file, where there is room. How long it is.
 fn book_written(
     bytes: &mut [u8],
     header: &BookNumbers,
-    attributes: &[AttributeFields],
-    defaults: &[f64],
-    effects: &[EffectFields],
-    modifiers: &[ModifierFields],
-    type_effects: &[TypeEffectFields],
-    buff_collections: &[BuffCollectionFields],
-) -> Written
-    requires good { book_tables_bad (book_now attributes defaults effects modifiers type_effects buff_collections header.now) ≡ none }
-    ensures defined { let t = book_at attributes defaults effects modifiers type_effects buff_collections header.now in
-        Gives bytes result (written_book t) }
+    book: BookTables,
+) -> Result<usize, NotWritten>
+    ensures defined { let t = book_in book.entry header.now in
+        Puts bytes.old bytes.new result (written_book t (length bytes.old)) }
 {
-    let book = book_length(
-        attributes,
-        effects,
-        modifiers,
-        type_effects,
-        buff_collections,
-    );
-    if bytes.len() < 52 + book {
-        return refused(bytes, ROOM, SHEET);
+    book_shape(book)?;
+    let room = 52 + book.length();
+    if bytes.len() < room {
+        return Err(NotWritten::Room);
     }
-    let end = put_book_file(
-        bytes,
-        header,
-        attributes,
-        defaults,
-        effects,
-        modifiers,
-        type_effects,
-        buff_collections,
-    );
-    done(bytes, end)
+    Ok(put_book_file(bytes, header, book))
 }
 
-// A fit's file, where there is room.
-fn fit_written(
-    bytes: &mut [u8],
-    header: &FitNumbers,
-    objects: &[ObjectFields],
-    base_attributes: &[u32],
-    base_values: &[f64],
-    ids: &[u32],
-    buffs: &[u32],
-    buff_values: &[f64],
-    asks: &[AskFields],
-) -> Written
-    requires good { fit_tables_bad (fit_now objects base_attributes base_values ids buffs buff_values asks header.now) ≡ none }
-    ensures defined { let t = fit_at objects base_attributes base_values ids buffs buff_values asks header.now in
-        Gives bytes result (written_fit t) }
+// A fit's file, where there is room. How long it is.
+fn fit_written(bytes: &mut [u8], header: &FitNumbers, fit: FitTables) -> Result<usize, NotWritten>
+    ensures defined { let t = fit_in fit.entry header.now in
+        Puts bytes.old bytes.new result (written_fit t (length bytes.old)) }
 {
-    let fit = fit_length(objects, base_attributes, ids, buffs, asks);
-    if bytes.len() < 48 + fit {
-        return refused(bytes, ROOM, SHEET);
+    fit_shape(fit, header)?;
+    let room = 48 + fit.length();
+    if bytes.len() < room {
+        return Err(NotWritten::Room);
     }
-    let end = put_fit_file(
-        bytes,
-        header,
-        objects,
-        base_attributes,
-        base_values,
-        ids,
-        buffs,
-        buff_values,
-        asks,
-    );
-    done(bytes, end)
+    Ok(put_fit_file(bytes, header, fit))
+}
+
+// The answer, and zeros behind what was written: after a refusal all bytes are zero.
+fn answered(bytes: &mut [u8], put: Result<usize, NotWritten>) -> Written
+    ensures answer { result ≡ told put }
+    ensures cleared { ClearedFrom bytes 0 (end_of put) }
+{
+    let end = put.unwrap_or(0);
+    zero_from(bytes, 0, end);
+    match put {
+        Ok(end) => Written {
+            number: 0,
+            place: 0,
+            length: end as u64,
+        },
+        Err(NotWritten::Shape(bad)) => Written {
+            number: SHAPE,
+            place: bad.table as u64,
+            length: 0,
+        },
+        Err(NotWritten::Room) => Written {
+            number: ROOM,
+            place: SHEET,
+            length: 0,
+        },
+    }
 }
 
 // A sheet's bytes and the answer, whatever the tables and the bytes that are lent: nothing is required.
@@ -212,14 +147,15 @@ pub fn dogma_write_sheet(
         let fit = fit_at objects base_attributes base_values ids buffs buff_values asks [] in
         Gives bytes result (written (together header.now book fit)) }
 {
-    let verdict = sheet_shape(
-        header,
+    let book = BookTables {
         attributes,
         defaults,
         effects,
         modifiers,
         type_effects,
         buff_collections,
+    };
+    let fit = FitTables {
         objects,
         base_attributes,
         base_values,
@@ -227,27 +163,9 @@ pub fn dogma_write_sheet(
         buffs,
         buff_values,
         asks,
-    );
-    match verdict {
-        Shaped::Bad(t) => refused(bytes, SHAPE, t as u64),
-        Shaped::Sound => sheet_written(
-            bytes,
-            header,
-            attributes,
-            defaults,
-            effects,
-            modifiers,
-            type_effects,
-            buff_collections,
-            objects,
-            base_attributes,
-            base_values,
-            ids,
-            buffs,
-            buff_values,
-            asks,
-        ),
-    }
+    };
+    let end = sheet_written(bytes, header, book, fit);
+    answered(bytes, end)
 }
 
 // A book's file: tables 1 to 5 and the three category numbers.
@@ -264,27 +182,16 @@ pub fn dogma_write_book(
     ensures the_book { let t = book_at attributes defaults effects modifiers type_effects buff_collections header.now in
         Gives bytes result (written_book t) }
 {
-    let verdict = book_shape(
+    let book = BookTables {
         attributes,
         defaults,
         effects,
         modifiers,
         type_effects,
         buff_collections,
-    );
-    match verdict {
-        Shaped::Bad(t) => refused(bytes, SHAPE, t as u64),
-        Shaped::Sound => book_written(
-            bytes,
-            header,
-            attributes,
-            defaults,
-            effects,
-            modifiers,
-            type_effects,
-            buff_collections,
-        ),
-    }
+    };
+    let end = book_written(bytes, header, book);
+    answered(bytes, end)
 }
 
 // A fit's file: tables 6 to 10, depth and recording. Its places are plus 20.
@@ -302,7 +209,7 @@ pub fn dogma_write_fit(
     ensures the_fit { let t = fit_at objects base_attributes base_values ids buffs buff_values asks header.now in
         Gives bytes result (written_fit t) }
 {
-    let verdict = fit_shape(
+    let fit = FitTables {
         objects,
         base_attributes,
         base_values,
@@ -310,20 +217,7 @@ pub fn dogma_write_fit(
         buffs,
         buff_values,
         asks,
-        header,
-    );
-    match verdict {
-        Shaped::Bad(t) => refused(bytes, SHAPE, t as u64),
-        Shaped::Sound => fit_written(
-            bytes,
-            header,
-            objects,
-            base_attributes,
-            base_values,
-            ids,
-            buffs,
-            buff_values,
-            asks,
-        ),
-    }
+    };
+    let end = fit_written(bytes, header, fit);
+    answered(bytes, end)
 }

@@ -24,7 +24,7 @@ put_fields-requires c = record { room = omega (arith, c.requires.room) }
 
 pub returns-then-number-i : goal.returns-then-number-i
 returns-then-number-i c = record {
-  added = λ o p t. renamed _ (run_there c.args.place _ c.if-number-i.true (ap (to_z w32) c.signed.ensures.and_back) c.bits_of-bits.ensures.defined o t) c.put_fields.ensures.added;
+  added = λ o p t. renamed _ (run_there c.args.place _ c.if-number-i.true (ap (to_z w32) c.signed.ensures.and_back) c.f64_to_bits_with_nan-bits.ensures o t) c.put_fields.ensures.added;
   within = c.put_fields.ensures.within;
 }
 

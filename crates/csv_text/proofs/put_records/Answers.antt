@@ -1,16 +1,8 @@
 -- `csv_text::put_records` meets its contract: what stands in front is the text so far. The measure is how many rows are left.
 use Rattle.csv_text.proofs.put_records.Goals as goal
-use Rattle.csv_text.proofs.put_records.Reads as reads
-use Rattle.csv_text.proofs.put_records.Lts as lts
-use Rattle.csv_text.proofs.labels.tell.Reads as tell-reads
-use Rattle.csv_text.proofs.put_row.Reads as put-row-reads
-use Rattle.listing.proofs.put_text.Reads as put-text-reads
 use native.Mathlib.Omega.{arith}
-use Prim.Native.Nat.{◌-◌, ◌≤◌}
-use mathlib.Core.Path.{◌≡◌, refl, sym, ap, ◌∙◌}
-use lib.ListN.{length}
-use Rattle.csv_text.specs.Labels.{labels_of}
-use Rattle.csv_text.proofs.Filling.{Laid, header-laid, row_more, row-full, all_laid, no_header}
+use mathlib.Core.Path.{refl, sym, ◌∙◌}
+use Rattle.csv_text.proofs.Filling.{header-laid, row_more, row-full, all_laid, no_header}
 
 pub returns-then-text-lt-HEADER_BYTES : goal.returns-then-text-lt-HEADER_BYTES
 returns-then-text-lt-HEADER_BYTES c = record { the_records = λ d s. no_header _ _ c.if-text-lt-HEADER_BYTES.true d }
@@ -21,18 +13,18 @@ loop-next-init c = (header-laid _ _ _ _ c.args.text.now (omega (arith, c.put_tex
 pub slice_bounds-put_row-end : goal.slice_bounds-put_row-end
 slice_bounds-put_row-end c = c.loop-next.invariant.1
 
-pub put_row-put-requires : goal.put_row-put-requires
-put_row-put-requires c = record {
+pub put_row-requires : goal.put_row-requires
+put_row-requires c = record {
   inside = c.loop-next.invariant.0.inside;
   line = omega (arith, c.loop-next.invariant.1);
   good = c.requires.good;
 }
 
-pub returns-in-Full : goal.returns-in-Full
-returns-in-Full c = record { the_records = λ d s. row-full _ _ _ _ c.loop-next.invariant.0 _ c.loop-next-test.true c.put_row-put.result c.put_row-put.new.text c.put_row-put.auto.text c.put_row-put.ensures.added c.in-Full.is d s }
+pub returns-in_err-end : goal.returns-in_err-end
+returns-in_err-end c = rw c.from_residual.ensures (record { the_records = λ d s. row-full _ _ _ _ c.loop-next.invariant.0 _ c.loop-next-test.true c.put_row.result c.put_row.new.text c.put_row.auto.text c.put_row.ensures.added (c.in_err-end.was) d s })
 
 pub loop-next-preserved : goal.loop-next-preserved
-loop-next-preserved c = (row_more _ _ _ _ c.loop-next.invariant.0 _ c.loop-next-test.true c.put_row-put.result c.put_row-put.new.text c.put_row-put.auto.text c.put_row-put.ensures.added c.in-To.is, c.loop-next.invariant.1 ∙ sym c.put_row-put.auto.line)
+loop-next-preserved c = (row_more _ _ _ _ c.loop-next.invariant.0 _ c.loop-next-test.true c.put_row.result c.put_row.new.text c.put_row.auto.text c.put_row.ensures.added c.in_ok-end.was, c.loop-next.invariant.1 ∙ sym c.put_row.auto.line)
 
 pub returns : goal.returns
 returns c = record { the_records = λ d s. all_laid _ _ _ _ c.loop-next.invariant.0 c.loop-next-test.false d s }

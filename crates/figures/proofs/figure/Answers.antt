@@ -19,6 +19,6 @@ put_byte-requires c = record { room = omega (arith, c.requires.room, c.put_field
 
 pub returns : goal.returns
 returns c = record {
-  added = λ row o i. renamed _ (figure-is row c.args.value o (i ∙ sym (to_z-of_z w32 c.args.id c.ranges.id)) c.bits_of-bits.ensures.defined) (after (fields c.args.object (to_z w32 (of_z w32 c.args.id)) c.bits_of-bits.result) (10 ∷ []) (put c.args.at c.args.out.now) c.put_fields-line_end.ensures.added c.put_byte.ensures.added);
+  added = λ row o i. renamed _ (figure-is row c.args.value o (i ∙ sym (to_z-of_z w32 c.args.id c.ranges.id)) c.f64_to_bits_with_nan-bits.ensures) (after (fields c.args.object (to_z w32 (of_z w32 c.args.id)) c.f64_to_bits_with_nan-bits.result) (10 ∷ []) (put c.args.at c.args.out.now) c.put_fields-line_end.ensures.added c.put_byte.ensures.added);
   within = omega (arith, c.put_fields-line_end.ensures.within, c.put_byte.ensures.next);
 }

@@ -1,11 +1,9 @@
 -- `figures::rows_figured` meets its contract: what stands in front are the lines so far. Assumes nothing.
 use Rattle.figures.proofs.rows_figured.Goals as goal
-use Prim.Native.Nat.{◌-◌}
-use mathlib.Core.Path.{ap, ◌∙◌}
-use lib.ListN.{length}
+use mathlib.Core.Path.{ap}
 use mir.Syntax.{w32}
 use mir.Val.{to_z}
-use Rattle.figures.proofs.Figured.{Figured, figured-start, figure_room, one_more, all-figured}
+use Rattle.figures.proofs.Figured.{figured-start, figure_room, one_more, all-figured}
 
 pub loop-next-init : goal.loop-next-init
 loop-next-init c = figured-start c.args.n c.args.rows.now c.args.values.now c.args.out.now

@@ -1,9 +1,5 @@
 -- `files::book_verdict` meets its contract. Assumes nothing.
 use Rattle.files.proofs.book_verdict.Goals as goal
-use Rattle.files.proofs.book_verdict.Reads as reads
-use Rattle.files.proofs.book_verdict.Lts as lts
-use Rattle.files.proofs.book_header_good.Reads as book-header-good-reads
-use Rattle.shape.proofs.book_shape.Reads as book-shape-reads
 use Rattle.shape.proofs.Scans.{passed, failed}
 use Rattle.files.proofs.Judged.{held_book, header_bad, header_good_lem}
 

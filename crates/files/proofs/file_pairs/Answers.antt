@@ -1,8 +1,5 @@
 -- `files::file_pairs` meets its contract. Assumes nothing.
 use Rattle.files.proofs.file_pairs.Goals as goal
-use Rattle.files.proofs.file_pairs.Reads as reads
-use Rattle.files.proofs.file_pairs.Lts as lts
-use Rattle.info.proofs.header.pair_at.Reads as pair-at-reads
 use mathlib.Core.Path.{sym}
 use Rattle.files.proofs.Judged.{read_short, read_long}
 

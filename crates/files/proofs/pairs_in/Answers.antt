@@ -1,8 +1,5 @@
 -- `files::pairs_in` meets its contract. Assumes nothing.
 use Rattle.files.proofs.pairs_in.Goals as goal
-use Rattle.files.proofs.pairs_in.Reads as reads
-use Rattle.files.proofs.pairs_in.Lts as lts
-use Rattle.files.proofs.file_pairs.Reads as file-pairs-reads
 use Rattle.files.proofs.Judged.{ten_read}
 
 pub returns : goal.returns

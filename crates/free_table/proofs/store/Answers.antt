@@ -1,10 +1,9 @@
--- When none is left to lay, all of it is laid.
-use Rattle.std.proofs.Common.{◌≡◌, ◌-◌, sym, ap, ◌∙◌, arith}
-use Rattle.free_table.specs.Table.{laid, stored}
+-- The seventeen stand before what stood behind the first seventeen.
+use Rattle.std.proofs.Common.{sym, ap, ◌∙◌, List, ◌++◌, drop, length}
+use lib.Seq.{length-take-le}
+use Rattle.free_table.specs.declared.Stretch.{Stretch}
+use Rattle.free_table.proofs.Fronts.{stored_is}
 use Rattle.free_table.proofs.store.Goals as goal
 
 pub returns : goal.returns
-unfolding stored
-returns c =
-    let none_left : 17 - c.loop-i.i ≡ 0 = omega (arith, c.loop-i-test.false) in
-    record { defined = sym (ap (laid c.loop-i.table c.args.t c.loop-i.i) none_left) ∙ c.loop-i.invariant.laid_is }
+returns c = record { defined = ap (λ (z : List Stretch). z ++ drop 17 c.args.table.now) c.copy_from_slice.ensures.after ∙ sym (stored_is c.args.table.now c.args.t c.requires.room (sym (ap length c.copy_from_slice.ensures.after) ∙ c.copy_from_slice.ensures.len ∙ length-take-le 17 c.args.table.now c.requires.room)) }

@@ -1,15 +1,7 @@
 -- `hits::aim_of` meets its contract.
 use Rattle.hits.proofs.aim_of.Goals as goal
-use Rattle.hits.proofs.aim_of.Reads as reads
-use Rattle.hits.proofs.aim_of.Lts as lts
-use Rattle.hits.proofs.located.Reads as located-reads
-use Rattle.hits.proofs.one.Reads as one-reads
-use Rattle.hits.proofs.owned.Reads as owned-reads
-use Rattle.hits.proofs.skill_of.Reads as skill-of-reads
-use Rattle.hits.proofs.skilled.Reads as skilled-reads
 use Prim.Native.Nat.{ℕ, ◌<◌}
 use mathlib.Core.Path.{◌≡◌, sym, subst}
-use lib.ListN.{length}
 use Rattle.info.proofs.Elements.{objects_length}
 use Rattle.hits.proofs.Aims.{aims_is}
 use Rattle.hits.proofs.Effects.{row_item, row_group, row-all, row_owner, row_skill}
@@ -25,13 +17,6 @@ returns-then-func-eq-LOCATION_GROUP_MODIFIER c = record { first = λ k t e w. ro
 
 pub returns-then-func-eq-LOCATION_MODIFIER : goal.returns-then-func-eq-LOCATION_MODIFIER
 returns-then-func-eq-LOCATION_MODIFIER c = record { first = λ k t e w. row-all t _ e k _ _ c.requires.standing (inside (objects_length _ _) c.requires.pointing.target) _ w c.if-func-eq-LOCATION_MODIFIER.true (c.located-then-func-eq-LOCATION_MODIFIER.ensures.defined k _ c.requires.standing (inside (objects_length _ _) c.requires.pointing.target)) }
-
-pub skill_of-skill-requires : goal.skill_of-skill-requires
-skill_of-skill-requires c = record {
-  inside = c.requires.inside;
-  held_fit = c.requires.sound_fit.held;
-  pointing = c.requires.pointing;
-}
 
 pub returns-then-func-eq-OWNER_REQUIRED_SKILL_MODIFIER : goal.returns-then-func-eq-OWNER_REQUIRED_SKILL_MODIFIER
 returns-then-func-eq-OWNER_REQUIRED_SKILL_MODIFIER c = record { first = λ k t e w. row_owner t _ e k _ _ c.requires.standing (inside (objects_length _ _) c.requires.pointing.target) _ w _ (inside (objects_length _ _) c.requires.pointing.source) (λ s. c.skill_of-skill.ensures.defined t s e) c.if-func-eq-OWNER_REQUIRED_SKILL_MODIFIER.true (c.owned.ensures.defined k _ c.requires.standing) }

@@ -1,9 +1,5 @@
 -- `hits::aim_then` meets its contract.
 use Rattle.hits.proofs.aim_then.Goals as goal
-use Rattle.hits.proofs.aim_then.Reads as reads
-use Rattle.hits.proofs.aim_then.Lts as lts
-use Rattle.hits.proofs.char_items.Reads as char-items-reads
-use Rattle.hits.proofs.none.Reads as none_reads
 use Rattle.hits.proofs.Aims.{aims_is}
 use Rattle.hits.proofs.Effects.{then_elsewhere, then_other, then_group, then-all}
 

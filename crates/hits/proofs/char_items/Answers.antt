@@ -1,7 +1,5 @@
 -- `hits::char_items` meets its contract.
 use Rattle.hits.proofs.char_items.Goals as goal
-use Rattle.hits.proofs.char_items.Reads as reads
-use Rattle.hits.proofs.char_items.Lts as lts
 use mathlib.Core.Path.{refl}
 use native.Mathlib.Omega.{arith}
 use Rattle.hits.proofs.Aims.{char_items_lem}

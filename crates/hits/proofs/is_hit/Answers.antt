@@ -1,9 +1,9 @@
 -- `hits::is_hit` meets its contract.
 use Rattle.hits.proofs.is_hit.Goals as goal
-use Rattle.hits.proofs.is_hit.Reads as reads
-use Rattle.hits.proofs.is_hit.Lts as lts
-use Rattle.hits.proofs.requires_skill.Reads as requires-skill-reads
-use mathlib.Core.Path.{refl}
+use mathlib.Core.Path.{refl, ap, ◌∙◌}
+use Rattle.std.proofs.Common.{ℕ, [], eqb, get_or}
+use Rattle.laws.specs.Lists.{some?}
+use Rattle.laws.proofs.Any.{contains_some}
 use mathlib.Core.Bool.{true}
 use Rattle.hits.specs.declared.Test.TheVariants.{All}
 use Rattle.hits.proofs.Passing.{unreached, reached}
@@ -18,4 +18,4 @@ pub returns-in-OfGroup : goal.returns-in-OfGroup
 returns-in-OfGroup c = record { defined = reached _ _ _ _ _ _ c.if-reached-eq0.false c.in-OfGroup.is refl }
 
 pub returns-in-Requiring : goal.returns-in-Requiring
-returns-in-Requiring c = record { defined = reached _ _ _ _ _ _ c.if-reached-eq0.false c.in-Requiring.is c.requires_skill.ensures.defined }
+returns-in-Requiring c = record { defined = reached _ _ _ _ _ _ c.if-reached-eq0.false c.in-Requiring.is (c.contains.ensures.value ∙ contains_some c.from.result _ ∙ ap (λ (s : ℕ). some? (eqb s) (get_or c.args.skills.now c.args.i [])) c.from.ensures) }

@@ -1,8 +1,5 @@
 -- `hits::located` meets its contract.
 use Rattle.hits.proofs.located.Goals as goal
-use Rattle.hits.proofs.located.Reads as reads
-use Rattle.hits.proofs.located.Lts as lts
-use Rattle.hits.proofs.one.Reads as one-reads
 use Rattle.hits.proofs.Aims.{aims_is, located_ship, located_char, located_else}
 
 pub returns-then-target-eq0 : goal.returns-then-target-eq0

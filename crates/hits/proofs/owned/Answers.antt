@@ -1,7 +1,5 @@
 -- `hits::owned` meets its contract.
 use Rattle.hits.proofs.owned.Goals as goal
-use Rattle.hits.proofs.owned.Reads as reads
-use Rattle.hits.proofs.owned.Lts as lts
 use Rattle.hits.proofs.Aims as aims
 
 pub returns : goal.returns

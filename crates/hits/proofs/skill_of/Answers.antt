@@ -1,12 +1,6 @@
 -- `hits::skill_of` meets its contract.
 use Rattle.hits.proofs.skill_of.Goals as goal
-use Rattle.hits.proofs.skill_of.Reads as reads
-use Rattle.hits.proofs.skill_of.Lts as lts
-use Rattle.info.proofs.little_endian.index.Reads as index_Reads
-use Rattle.info.proofs.records.object.Reads as object-reads
-use Rattle.numbers.proofs.integers.bits.Reads as bits-reads
 use mathlib.Core.Path.{ap, ◌∙◌}
-use native.Mathlib.Omega.{arith}
 use borrow.Author.Rules.{sfits_of}
 use mir.Syntax.{w32}
 use mir.Val.{of_z}
@@ -20,12 +14,6 @@ returns-then-skill c = record { defined = λ t s e w h. skill_itself t _ e (fit_
 
 pub returns-then-origin-eq1 : goal.returns-then-origin-eq1
 returns-then-origin-eq1 c = record { defined = λ t s e w h. skill_buff t _ e (fit_of c.args.fit.now c.args.pairs.now) s w h c.if-skill.false c.if-origin-eq1.true }
-
-pub object-source-requires : goal.object-source-requires
-object-source-requires c = record {
-  held_fit = c.requires.held_fit;
-  inside = omega (arith, c.index.ensures.defined.0, c.requires.pointing.source);
-}
 
 pub returns : goal.returns
 returns c = record { defined = λ t s e w h. skill_effect t _ e (fit_of c.args.fit.now c.args.pairs.now) s w h c.if-skill.false c.if-origin-eq1.false (c.bits.ensures.defined ∙ ap (of_z w32) (to_z-of_z w32 c.object-source.result.type_id (sfits_of c.struct_told-1.given.1.1.0.1))) (c.object-source.ensures.record_i no_item) c.index.ensures.defined.0 }

@@ -1,7 +1,5 @@
 -- `hits::skilled` meets its contract.
 use Rattle.hits.proofs.skilled.Goals as goal
-use Rattle.hits.proofs.skilled.Reads as reads
-use Rattle.hits.proofs.skilled.Lts as lts
 use Rattle.hits.proofs.Aims.{skilled_char, skilled_ship}
 
 pub returns-then-target-s : goal.returns-then-target-s

@@ -1,36 +1,29 @@
 -- `sheet_shape` meets its contract. Assumes nothing.
+use Rattle.tables.specs.At.{book_in, fit_in}
 use Rattle.lent.proofs.sheet_shape.Goals as goal
-use Rattle.lent.proofs.sheet_shape.Reads as reads
-use Rattle.lent.proofs.sheet_shape.Lts as lts
-use Rattle.lent.proofs.book.book_bad.Reads as book-bad-reads
-use Rattle.lent.proofs.book.book_fits.Reads as book-fits-reads
-use Rattle.lent.proofs.fit.fit_bad.Reads as fit-bad-reads
-use Rattle.lent.proofs.fit.fit_fits.Reads as fit-fits-reads
-use Rattle.shape.proofs.Scans.{passed, failed}
-use mathlib.Core.Path.{◌≡◌, refl, sym, ◌∙◌}
-use mathlib.Core.List.{[], ◌∷◌}
-use lib.ListN.{length, get_or}
-use Rattle.tables.specs.Tables.{book_tables, fit_tables}
-use Rattle.tables.specs.Tables.{together, fit_fits}
+use Rattle.std.proofs.lemmas.Result.{err_from_is_err_and}
+use Rattle.shape.proofs.Scans.{passed}
+use mathlib.Core.Path.{◌∙◌}
+use mathlib.Core.List.{[]}
 use Rattle.lent.proofs.Verdicts.{sheet_book_header, sheet_fit_header, sheet_book_bad, sheet_fit_judged, sheet_alike, sheet_few, fits_whole}
 
 pub returns-then-not-book_fits : goal.returns-then-not-book_fits
-returns-then-not-book_fits c = record { defined = sheet_book_header c.args.header.now (book_tables [] c.args.attributes.now c.args.defaults.now c.args.effects.now c.args.modifiers.now c.args.type_effects.now c.args.buff_collections.now) (fit_tables [] c.args.objects.now c.args.base_attributes.now c.args.base_values.now c.args.ids.now c.args.buffs.now c.args.buff_values.now c.args.asks.now) c.book_fits.ensures.defined c.if-not-book_fits.true }
+returns-then-not-book_fits c = record { defined = sheet_book_header c.args.header.now (book_in c.args.book []) (fit_in c.args.fit []) c.book_fits.ensures.defined c.if-not-book_fits.true }
 
 pub returns-then-not-fit_fits : goal.returns-then-not-fit_fits
-returns-then-not-fit_fits c = record { defined = sheet_fit_header c.args.header.now (book_tables [] c.args.attributes.now c.args.defaults.now c.args.effects.now c.args.modifiers.now c.args.type_effects.now c.args.buff_collections.now) (fit_tables [] c.args.objects.now c.args.base_attributes.now c.args.base_values.now c.args.ids.now c.args.buffs.now c.args.buff_values.now c.args.asks.now) c.book_fits.ensures.defined c.if-not-book_fits.false (c.fit_fits.ensures.defined ∙ fits_whole c.args.header.now (book_tables [] c.args.attributes.now c.args.defaults.now c.args.effects.now c.args.modifiers.now c.args.type_effects.now c.args.buff_collections.now) (fit_tables [] c.args.objects.now c.args.base_attributes.now c.args.base_values.now c.args.ids.now c.args.buffs.now c.args.buff_values.now c.args.asks.now)) c.if-not-fit_fits.true }
+returns-then-not-fit_fits c = record { defined = sheet_fit_header c.args.header.now (book_in c.args.book []) (fit_in c.args.fit []) c.book_fits.ensures.defined c.if-not-book_fits.false (c.fit_fits.ensures.defined ∙ fits_whole c.args.header.now (book_in c.args.book []) (fit_in c.args.fit [])) c.if-not-fit_fits.true }
 
-pub book_bad-book-requires : goal.book_bad-book-requires
-book_bad-book-requires c = record { fits = passed c.book_fits.ensures.defined c.if-not-book_fits.false }
+pub book_bad-requires : goal.book_bad-requires
+book_bad-requires c = record { fits = passed c.book_fits.ensures.defined c.if-not-book_fits.false }
 
 pub fit_bad-requires : goal.fit_bad-requires
 fit_bad-requires c = record {
-  alike = sheet_alike c.args.header.now (book_tables [] c.args.attributes.now c.args.defaults.now c.args.effects.now c.args.modifiers.now c.args.type_effects.now c.args.buff_collections.now) (fit_tables [] c.args.objects.now c.args.base_attributes.now c.args.base_values.now c.args.ids.now c.args.buffs.now c.args.buff_values.now c.args.asks.now) (c.fit_fits.ensures.defined ∙ fits_whole c.args.header.now (book_tables [] c.args.attributes.now c.args.defaults.now c.args.effects.now c.args.modifiers.now c.args.type_effects.now c.args.buff_collections.now) (fit_tables [] c.args.objects.now c.args.base_attributes.now c.args.base_values.now c.args.ids.now c.args.buffs.now c.args.buff_values.now c.args.asks.now)) c.if-not-fit_fits.false;
-  few = sheet_few c.args.header.now (book_tables [] c.args.attributes.now c.args.defaults.now c.args.effects.now c.args.modifiers.now c.args.type_effects.now c.args.buff_collections.now) (fit_tables [] c.args.objects.now c.args.base_attributes.now c.args.base_values.now c.args.ids.now c.args.buffs.now c.args.buff_values.now c.args.asks.now) (c.fit_fits.ensures.defined ∙ fits_whole c.args.header.now (book_tables [] c.args.attributes.now c.args.defaults.now c.args.effects.now c.args.modifiers.now c.args.type_effects.now c.args.buff_collections.now) (fit_tables [] c.args.objects.now c.args.base_attributes.now c.args.base_values.now c.args.ids.now c.args.buffs.now c.args.buff_values.now c.args.asks.now)) c.if-not-fit_fits.false;
+  alike = sheet_alike c.args.header.now (book_in c.args.book []) (fit_in c.args.fit []) (c.fit_fits.ensures.defined ∙ fits_whole c.args.header.now (book_in c.args.book []) (fit_in c.args.fit [])) c.if-not-fit_fits.false;
+  few = sheet_few c.args.header.now (book_in c.args.book []) (fit_in c.args.fit []) (c.fit_fits.ensures.defined ∙ fits_whole c.args.header.now (book_in c.args.book []) (fit_in c.args.fit [])) c.if-not-fit_fits.false;
 }
 
-pub returns-in-Bad : goal.returns-in-Bad
-returns-in-Bad c = record { defined = sheet_book_bad c.args.header.now (book_tables [] c.args.attributes.now c.args.defaults.now c.args.effects.now c.args.modifiers.now c.args.type_effects.now c.args.buff_collections.now) (fit_tables [] c.args.objects.now c.args.base_attributes.now c.args.base_values.now c.args.ids.now c.args.buffs.now c.args.buff_values.now c.args.asks.now) c.book_fits.ensures.defined c.if-not-book_fits.false (c.fit_fits.ensures.defined ∙ fits_whole c.args.header.now (book_tables [] c.args.attributes.now c.args.defaults.now c.args.effects.now c.args.modifiers.now c.args.type_effects.now c.args.buff_collections.now) (fit_tables [] c.args.objects.now c.args.base_attributes.now c.args.base_values.now c.args.ids.now c.args.buffs.now c.args.buff_values.now c.args.asks.now)) c.if-not-fit_fits.false c.book_bad-book.ensures.defined c.in-Bad.is }
+pub returns-in_err-book_bad : goal.returns-in_err-book_bad
+returns-in_err-book_bad c = let p = err_from_is_err_and c.from_residual.result c.from_residual.ensures.1 in record { defined = rw (p.1, p.2) (sheet_book_bad c.args.header.now (book_in c.args.book []) (fit_in c.args.fit []) c.book_fits.ensures.defined c.if-not-book_fits.false (c.fit_fits.ensures.defined ∙ fits_whole c.args.header.now (book_in c.args.book []) (fit_in c.args.fit [])) c.if-not-fit_fits.false c.book_bad.ensures.defined c.in_err-book_bad.was) }
 
-pub returns-in-Sound : goal.returns-in-Sound
-returns-in-Sound c = record { defined = sheet_fit_judged c.args.header.now (book_tables [] c.args.attributes.now c.args.defaults.now c.args.effects.now c.args.modifiers.now c.args.type_effects.now c.args.buff_collections.now) (fit_tables [] c.args.objects.now c.args.base_attributes.now c.args.base_values.now c.args.ids.now c.args.buffs.now c.args.buff_values.now c.args.asks.now) c.book_fits.ensures.defined c.if-not-book_fits.false (c.fit_fits.ensures.defined ∙ fits_whole c.args.header.now (book_tables [] c.args.attributes.now c.args.defaults.now c.args.effects.now c.args.modifiers.now c.args.type_effects.now c.args.buff_collections.now) (fit_tables [] c.args.objects.now c.args.base_attributes.now c.args.base_values.now c.args.ids.now c.args.buffs.now c.args.buff_values.now c.args.asks.now)) c.if-not-fit_fits.false c.book_bad-book.ensures.defined c.in-Sound.is c.fit_bad.ensures.defined }
+pub returns : goal.returns
+returns c = record { defined = sheet_fit_judged c.args.header.now (book_in c.args.book []) (fit_in c.args.fit []) c.book_fits.ensures.defined c.if-not-book_fits.false (c.fit_fits.ensures.defined ∙ fits_whole c.args.header.now (book_in c.args.book []) (fit_in c.args.fit [])) c.if-not-fit_fits.false c.book_bad.ensures.defined c.in_ok-book_bad.was c.fit_bad.ensures.defined }

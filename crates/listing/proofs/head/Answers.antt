@@ -1,10 +1,5 @@
 -- `listing::head` meets its contract: each piece from where the one before it ended. Assumes nothing.
 use Rattle.listing.proofs.head.Goals as goal
-use Rattle.listing.proofs.head.Reads as reads
-use Rattle.listing.proofs.head.Lts as lts
-use Rattle.listing.proofs.put_byte.Reads as put-byte-reads
-use Rattle.listing.proofs.put_text.Reads as put-text-reads
-use Rattle.listing.proofs.put_u64.Reads as put-u64-reads
 use native.Mathlib.Omega.{arith}
 use mathlib.Core.List.{[], ◌∷◌}
 use Rattle.rules.specs.Listing.{natural}

@@ -1,11 +1,5 @@
 -- `listing::line` meets its contract: each piece from where the one before it ended. Assumes nothing.
 use Rattle.listing.proofs.line.Goals as goal
-use Rattle.listing.proofs.line.Reads as reads
-use Rattle.listing.proofs.line.Lts as lts
-use Rattle.listing.proofs.put_byte.Reads as put-byte-reads
-use Rattle.listing.proofs.put_integer.Reads as put-integer-reads
-use Rattle.listing.proofs.put_u32.Reads as put-u32-reads
-use Rattle.listing.proofs.put_value.Reads as put-value-reads
 use native.Mathlib.Omega.{arith}
 use mathlib.Core.Path.{refl, sym, ◌∙◌}
 use mathlib.Core.List.{[], ◌∷◌}
@@ -16,7 +10,7 @@ use Rattle.rules.specs.Number.{hundredths_of}
 use Rattle.rules.specs.Listing.{natural, integer, decimals}
 use Rattle.listing.specs.Put.{put}
 use Rattle.listing.proofs.Puts.{after, renamed}
-use Rattle.listing.proofs.Texts.{value, id, object, line-is}
+use Rattle.listing.proofs.Texts.{value, id, line-is}
 
 pub put_u32-space-requires : goal.put_u32-space-requires
 put_u32-space-requires c = record { room = omega (arith, c.requires.room) }

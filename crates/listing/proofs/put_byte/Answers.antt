@@ -1,7 +1,5 @@
 -- `listing::put_byte` meets its contract. Assumes nothing.
 use Rattle.listing.proofs.put_byte.Goals as goal
-use Rattle.listing.proofs.put_byte.Reads as reads
-use Rattle.listing.proofs.put_byte.Lts as lts
 use mathlib.Core.Path.{refl}
 use Rattle.listing.specs.Put.{puts}
 

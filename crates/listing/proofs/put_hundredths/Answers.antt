@@ -1,29 +1,24 @@
 -- `listing::put_hundredths` meets its contract. Assumes nothing.
+use Rattle.rules.specs.Number.{rounded}
 use Rattle.listing.proofs.put_hundredths.Goals as goal
-use Rattle.listing.proofs.put_hundredths.Reads as reads
-use Rattle.listing.proofs.put_hundredths.Lts as lts
-use Rattle.listing.proofs.put_byte.Reads as put-byte-reads
-use Rattle.listing.proofs.put_rounded.Reads as put-rounded-reads
-use Rattle.listing.proofs.put_minus.Reads as put-minus-reads
 use mathlib.Core.Bool.{false}
 use mathlib.Core.List.{[]}
-use Rattle.rules.specs.declared.Hundredths.TheVariants.{Rounded}
 use Rattle.rules.specs.Listing.{minus_if, decimals}
 use Rattle.listing.specs.Put.{put}
 use Rattle.listing.proofs.Puts.{after, renamed, room_renamed, room, room_after, room_byte}
 use Rattle.listing.proofs.Decimals.{star_text, rounded_text}
 
 pub put_byte-requires : goal.put_byte-requires
-put_byte-requires c = record { room = room_byte 42 [] _ _ (room_renamed _ _ (star_text c.in-Star.is) c.requires.room) }
+put_byte-requires c = record { room = room_byte 42 [] _ _ (room_renamed _ _ (star_text c.in-None.is) c.requires.room) }
 
 pub put_minus-next-requires : goal.put_minus-next-requires
-put_minus-next-requires c = record { room = room (minus_if c.in-Rounded.minus) (decimals (Rounded false c.in-Rounded.count)) c.args.at c.args.out.now (room_renamed _ _ (rounded_text _ _ c.in-Rounded.is) c.requires.room) }
+put_minus-next-requires c = record { room = room (minus_if c.in-Some.h.minus) (decimals (rounded false c.in-Some.h.count)) c.args.at c.args.out.now (room_renamed _ _ (rounded_text _ _ c.in-Some.is) c.requires.room) }
 
 pub put_rounded-requires : goal.put_rounded-requires
-put_rounded-requires c = record { room = room_after (minus_if c.in-Rounded.minus) (decimals (Rounded false c.in-Rounded.count)) c.args.at c.args.out.now (room_renamed _ _ (rounded_text _ _ c.in-Rounded.is) c.requires.room) c.put_minus-next.ensures.added }
+put_rounded-requires c = record { room = room_after (minus_if c.in-Some.h.minus) (decimals (rounded false c.in-Some.h.count)) c.args.at c.args.out.now (room_renamed _ _ (rounded_text _ _ c.in-Some.is) c.requires.room) c.put_minus-next.ensures.added }
 
-pub returns-in-Star : goal.returns-in-Star
-returns-in-Star c = record { added = renamed _ (star_text c.in-Star.is) c.put_byte.ensures.added }
+pub returns-in-None : goal.returns-in-None
+returns-in-None c = record { added = renamed _ (star_text c.in-None.is) c.put_byte.ensures.added }
 
-pub returns-in-Rounded : goal.returns-in-Rounded
-returns-in-Rounded c = record { added = renamed _ (rounded_text _ _ c.in-Rounded.is) (after (minus_if c.in-Rounded.minus) (decimals (Rounded false c.in-Rounded.count)) (put c.args.at c.args.out.now) c.put_minus-next.ensures.added c.put_rounded.ensures.added) }
+pub returns-in-Some : goal.returns-in-Some
+returns-in-Some c = record { added = renamed _ (rounded_text _ _ c.in-Some.is) (after (minus_if c.in-Some.h.minus) (decimals (rounded false c.in-Some.h.count)) (put c.args.at c.args.out.now) c.put_minus-next.ensures.added c.put_rounded.ensures.added) }

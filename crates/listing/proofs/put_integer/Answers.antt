@@ -1,10 +1,5 @@
 -- `listing::put_integer` meets its contract, by the number's 32 bits. Assumes nothing.
 use Rattle.listing.proofs.put_integer.Goals as goal
-use Rattle.listing.proofs.put_integer.Reads as reads
-use Rattle.listing.proofs.put_integer.Lts as lts
-use Rattle.listing.proofs.put_byte.Reads as put-byte-reads
-use Rattle.listing.proofs.put_natural.Reads as put-natural-reads
-use Rattle.numbers.proofs.integers.bits.Reads as bits-reads
 use Prim.Native.Nat.{◌-◌}
 use mathlib.Core.Path.{◌∙◌}
 use mathlib.Core.List.{[], ◌∷◌}

@@ -1,13 +1,7 @@
 -- `listing::put_minus` meets its contract. Assumes nothing.
 use Rattle.listing.proofs.put_minus.Goals as goal
-use Rattle.listing.proofs.put_minus.Reads as reads
-use Rattle.listing.proofs.put_minus.Lts as lts
-use Rattle.listing.proofs.put_byte.Reads as put-byte-reads
-use Prim.Native.Nat.{ℕ, ◌+◌, ◌≤◌, ◌<◌}
-use mathlib.Core.Path.{◌≡◌, refl, sym, ap}
-use mathlib.Core.Bool.{Bool, true, false}
-use mathlib.Core.List.{List, []}
-use lib.ListN.{length}
+use mathlib.Core.Path.{refl, sym, ap}
+use mathlib.Core.List.{[]}
 use Rattle.rules.specs.Listing.{minus_if}
 use Rattle.listing.specs.Put.{put, puts}
 use Rattle.listing.proofs.Puts.{renamed, room_renamed, room_byte}

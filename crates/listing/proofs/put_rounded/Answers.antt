@@ -1,9 +1,5 @@
 -- `listing::put_rounded` meets its contract. Assumes nothing.
 use Rattle.listing.proofs.put_rounded.Goals as goal
-use Rattle.listing.proofs.put_rounded.Reads as reads
-use Rattle.listing.proofs.put_rounded.Lts as lts
-use Rattle.listing.proofs.put_byte.Reads as put-byte-reads
-use Rattle.listing.proofs.put_natural.Reads as put-natural-reads
 use Prim.Native.Nat.{◌+◌, ◌/◌, ◌%◌}
 use mathlib.Core.List.{[], ◌∷◌}
 use Rattle.rules.specs.Listing.{natural, decimals}

@@ -1,8 +1,5 @@
 -- `listing::put_u32` meets its contract: there are ten digits at most. Assumes nothing.
 use Rattle.listing.proofs.put_u32.Goals as goal
-use Rattle.listing.proofs.put_u32.Reads as reads
-use Rattle.listing.proofs.put_u32.Lts as lts
-use Rattle.listing.proofs.put_natural.Reads as put-natural-reads
 use native.Mathlib.Omega.{arith}
 use Rattle.listing.proofs.Puts.{bounded}
 use Rattle.listing.proofs.Lengths.{few}

@@ -1,9 +1,5 @@
 -- `listing::put_value` meets its contract: the value's hundredths, which are below 10 ^ 14, or a star. Assumes nothing.
 use Rattle.listing.proofs.put_value.Goals as goal
-use Rattle.listing.proofs.put_value.Reads as reads
-use Rattle.listing.proofs.put_value.Lts as lts
-use Rattle.listing.proofs.put_hundredths.Reads as put-hundredths-reads
-use Rattle.numbers.proofs.hundredths.in_hundredths.Reads as in-hundredths-reads
 use mathlib.Core.Path.{ap}
 use Rattle.rules.specs.Number.{hundredths_of}
 use Rattle.rules.specs.Listing.{decimals}

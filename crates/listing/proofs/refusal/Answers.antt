@@ -1,10 +1,5 @@
 -- `listing::refusal` meets its contract: each piece from where the one before it ended. Assumes nothing.
 use Rattle.listing.proofs.refusal.Goals as goal
-use Rattle.listing.proofs.refusal.Reads as reads
-use Rattle.listing.proofs.refusal.Lts as lts
-use Rattle.listing.proofs.put_byte.Reads as put-byte-reads
-use Rattle.listing.proofs.put_text.Reads as put-text-reads
-use Rattle.listing.proofs.put_u64.Reads as put-u64-reads
 use native.Mathlib.Omega.{arith}
 use mathlib.Core.List.{[], ◌∷◌}
 use Rattle.rules.specs.Listing.{natural, listing}

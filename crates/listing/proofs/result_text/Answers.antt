@@ -1,9 +1,5 @@
 -- `listing::result_text` meets its contract: number 0 is the rows, another the one line. Assumes nothing.
 use Rattle.listing.proofs.result_text.Goals as goal
-use Rattle.listing.proofs.result_text.Reads as reads
-use Rattle.listing.proofs.result_text.Lts as lts
-use Rattle.listing.proofs.refusal.Reads as refusal-reads
-use Rattle.listing.proofs.rows_listed.Reads as rows-listed-reads
 use Rattle.listing.proofs.Told.{told-done, told-refused}
 
 pub returns-then-number-eq0 : goal.returns-then-number-eq0

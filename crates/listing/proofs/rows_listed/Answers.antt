@@ -1,17 +1,10 @@
 -- `listing::rows_listed` meets its contract: what stands in front is what was printed so far. Assumes nothing.
 use Rattle.listing.proofs.rows_listed.Goals as goal
-use Rattle.listing.proofs.rows_listed.Reads as reads
-use Rattle.listing.proofs.rows_listed.Lts as lts
-use Rattle.listing.proofs.head.Reads as head-reads
-use Rattle.listing.proofs.line.Reads as line_reads_lem
-use Rattle.numbers.proofs.integers.signed.Reads as signed-Reads
 use native.Mathlib.Omega.{arith}
-use Prim.Native.Nat.{◌-◌}
 use mathlib.Core.Path.{ap, ◌∙◌}
-use lib.ListN.{length}
 use mir.Syntax.{w32}
 use mir.Val.{to_z}
-use Rattle.listing.proofs.Lined.{Lined, head_lined, line_room, one_more, all_lined}
+use Rattle.listing.proofs.Lined.{head_lined, line_room, one_more, all_lined}
 
 pub head-end-requires : goal.head-end-requires
 head-end-requires c = record { room = omega (arith, c.requires.room) }

@@ -1,14 +1,7 @@
 -- `loops::loop_of` meets its contract.
 use Rattle.loops.proofs.loop_of.Goals as goal
 use mathlib.Core.Path.{sym}
-use native.Mathlib.Omega.{arith}
 use Rattle.loops.proofs.Firsts.{ranked_none}
 
 pub returns-then-all : goal.returns-then-all
 returns-then-all c = record { defined = λ h. sym (ranked_none h.world (c.ordered-all.ensures.ranked h c.if-all.true)) }
-
-pub lowest-requires : goal.lowest-requires
-lowest-requires c = record {
-  holding = c.requires.holding;
-  room = (omega (arith, c.ordered-all.auto.work, c.requires.room.0), c.requires.room.1);
-}

@@ -1,11 +1,7 @@
 -- `entries_added` meets its contract. The measure is how many words are left.
 use Rattle.maps.proofs.entries_added.Goals as goal
-use Rattle.maps.proofs.entries_added.Reads as reads
-use Rattle.maps.proofs.entries_added.Lts as lts
-use Prim.Native.Nat.{◌-◌, ◌+◌, ◌*◌, ◌≤◌}
+use Prim.Native.Nat.{◌+◌}
 use native.Mathlib.Omega.{arith}
-use mathlib.Core.Path.{◌≡◌, refl}
-use Rattle.maps.specs.Words.{ones_cut}
 use Rattle.maps.proofs.Cuts.{first, next, fits_word, fits_more, more_few, last}
 
 pub loop-w-init : goal.loop-w-init

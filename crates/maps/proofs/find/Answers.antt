@@ -1,20 +1,11 @@
 -- `find` meets its contract. The measure is the number of the map that is looked at.
 use Rattle.maps.proofs.find.Goals as goal
-use Rattle.maps.proofs.find.Reads as reads
-use Rattle.maps.proofs.find.Lts as lts
-use Rattle.maps.proofs.head_of.Reads as head-of-reads
 use Prim.Native.Nat.{ℕ}
 use native.Mathlib.Omega.{arith}
 use mathlib.Core.Path.{refl, ap}
-use mathlib.Core.Bool.{Bool}
-use mathlib.Core.List.{List}
 use lib.ListN.{get_or}
-use Rattle.maps.specs.Maps.{Mapped}
 use Rattle.maps.proofs.Making.{last_few}
-use Rattle.maps.proofs.Index.{Seeking, positive, head_small, seeking_first, seek_inside, seek_few, seek_less, seek_found, seek_next, seek_none}
-
-pub bounds-heads-slot : goal.bounds-heads-slot
-bounds-heads-slot c = omega (arith, c.requires.maps.mapped.heads)
+use Rattle.maps.proofs.Index.{positive, head_small, seeking_first, seek_inside, seek_few, seek_less, seek_found, seek_next, seek_none}
 
 pub overflow_cast-m : goal.overflow_cast-m
 overflow_cast-m c = record { fits = omega (arith, last_few c.requires.maps.mapped c.args.key) }

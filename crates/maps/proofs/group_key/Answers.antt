@@ -1,7 +1,5 @@
 -- `group_key` meets its contract.
 use Rattle.maps.proofs.group_key.Goals as goal
-use Rattle.maps.proofs.group_key.Reads as reads
-use Rattle.maps.proofs.group_key.Lts as lts
 use mathlib.Core.Path.{refl}
 use Rattle.maps.proofs.Rows.{small_key}
 

@@ -1,8 +1,15 @@
--- `numbers::is_finite` meets its contract.
+-- `numbers::is_finite` meets its contract: the library's word is ours.
+use Rattle.std.proofs.Common.{◌≡◌, refl, ◌∙◌}
+use Rattle.std.specs.Float.{nan, inf, fin, float_is_finite}
+use Rattle.std.specs.Prelude.{Float}
+use Rattle.laws.specs.Floats.{finite}
 use Rattle.numbers.proofs.is_finite.Goals as goal
-use lib.Ieee
-use Rattle.laws.proofs.SelfFinite.{self_finite}
+
+same : (x : Float) → float_is_finite x ≡ finite x
+unfolding float_is_finite finite
+same nan = refl
+same (inf s) = refl
+same (fin s m e) = refl
 
 pub returns : goal.returns
-unfolding Ieee.of_bits
-returns c = record { defined = self_finite _ }
+returns c = record { defined = c.is_finite.ensures.value ∙ same c.args.x }

@@ -1,6 +1,6 @@
 -- `numbers::is_smaller` meets its contract.
 use Rattle.numbers.proofs.is_smaller.Goals as goal
-use Rattle.std.proofs.Common.{ap₂, rules}
+use Rattle.std.proofs.Common.{ap₂}
 use lib.Ieee.{lt}
 use Rattle.laws.specs.Floats.{smaller}
 

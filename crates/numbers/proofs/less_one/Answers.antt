@@ -1,13 +1,13 @@
 -- `numbers::less_one` meets its contract.
 use Rattle.numbers.proofs.less_one.Goals as goal
-use Rattle.std.proofs.Common.{sym, ◌∙◌, rules}
+use Rattle.std.proofs.Common.{sym, ◌∙◌}
 use lib.Ieee
 use Rattle.numbers.proofs.Steps.{bound, refused}
 
-pub returns-in-Finite : goal.returns-in-Finite
+pub returns-in_err-s : goal.returns-in_err-s
 unfolding Ieee.of_bits
-returns-in-Finite c = record { defined = c.difference.ensures.defined ∙ sym (bound _ c.in-Finite.is) }
+returns-in_err-s c = record { defined = c.from_residual.ensures ∙ sym (refused _ c.in_err-s.was) }
 
-pub returns-in-NotFinite : goal.returns-in-NotFinite
+pub returns : goal.returns
 unfolding Ieee.of_bits
-returns-in-NotFinite c = record { defined = sym (refused _ c.in-NotFinite.is) }
+returns c = record { defined = c.difference.ensures.defined ∙ sym (bound _ c.in_ok-s.was) }

@@ -1,8 +1,6 @@
 use Rattle.numbers.proofs.power.Given as goal
-use Rattle.std.proofs.Common.{rules}
-use lib.Ieee
 use Rattle.rules.specs.Number.{power}
-use Rattle.numbers.proofs.Powers.{Left, start, done, no_product, no_square, again}
+use Rattle.numbers.proofs.Powers.{Left}
 
 abbrev pub invariant-loop-digits : goal.invariant-loop-digits
 invariant-loop-digits l = Left l.r l.base l.digits (power l.x l.n)

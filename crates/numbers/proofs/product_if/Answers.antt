@@ -1,6 +1,5 @@
 -- `numbers::product_if` meets its contract.
 use Rattle.numbers.proofs.product_if.Goals as goal
-use Rattle.std.proofs.Common.{rules}
 use Rattle.rules.specs.Number.{times_if}
 
 pub returns-then-wanted : goal.returns-then-wanted

@@ -1,6 +1,5 @@
 -- `numbers::simplified` meets its contract, operator by operator.
 use Rattle.numbers.proofs.simplified.Goals as goal
-use Rattle.std.proofs.Common.{rules}
 use lib.Ieee
 use Rattle.rules.specs.Operate.{simplified}
 

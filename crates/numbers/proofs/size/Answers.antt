@@ -1,16 +1,15 @@
--- `numbers::size` meets its contract, at -0.0, the infinities and NaN too.
+-- `numbers::size` meets its contract: the library's word is ours.
+use Rattle.std.proofs.Common.{◌≡◌, refl, ◌∙◌, false}
+use Rattle.std.specs.Float.{nan, inf, fin, float_with_sign}
+use Rattle.std.specs.Prelude.{Float}
+use Rattle.laws.specs.Floats.{size_f}
 use Rattle.numbers.proofs.size.Goals as goal
-use lib.Ieee
-use Rattle.numbers.proofs.Sizes.{below, level-zero, neither}
 
-pub returns-then-x : goal.returns-then-x
-unfolding Ieee.of_bits
-returns-then-x c = record { defined = below _ c.if-x.true }
-
-pub returns-then-x-2 : goal.returns-then-x-2
-unfolding Ieee.of_bits
-returns-then-x-2 c = record { defined = level-zero _ c.well_formed.0.1 c.if-x-2.true }
+same : (x : Float) → float_with_sign false x ≡ size_f x
+unfolding float_with_sign
+same nan = refl
+same (inf s) = refl
+same (fin s m e) = refl
 
 pub returns : goal.returns
-unfolding Ieee.of_bits
-returns c = record { defined = neither _ c.if-x.false c.if-x-2.false }
+returns c = record { defined = c.abs.ensures.value ∙ same c.args.x }

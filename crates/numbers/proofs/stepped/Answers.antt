@@ -1,6 +1,6 @@
 -- `numbers::stepped` meets its contract.
 use Rattle.numbers.proofs.stepped.Goals as goal
-use Rattle.std.proofs.Common.{sym, ◌∙◌, rules}
+use Rattle.std.proofs.Common.{sym, ◌∙◌}
 use Rattle.numbers.proofs.Steps.{stepped}
 
 pub returns-then-is_finite : goal.returns-then-is_finite

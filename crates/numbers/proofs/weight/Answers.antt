@@ -1,6 +1,5 @@
 -- `numbers::weight` meets its contract, by its table.
 use Rattle.numbers.proofs.weight.Goals as goal
-use Rattle.std.proofs.Common.{rules}
 use lib.Ieee
 use Rattle.numbers.proofs.Weights.{weighs, past}
 

@@ -4,11 +4,11 @@ use mathlib.Core.Path.{sym, ap, ◌∙◌}
 use Rattle.rules.specs.Number.{times}
 use Rattle.numbers.proofs.Steps.{bound, refused}
 
-pub returns-in_default : goal.returns-in_default
-returns-in_default c = record { defined = sym (refused _ c.in_default.is) }
+pub returns-in_err-v : goal.returns-in_err-v
+returns-in_err-v c = record { defined = c.from_residual.ensures ∙ sym (refused _ c.in_err-v.was) }
 
-pub returns-in_default-scaled : goal.returns-in_default-scaled
-returns-in_default-scaled c = record { defined = sym (bound _ c.in-Finite.is ∙ refused _ (sym (c.product-scaled.ensures.defined ∙ ap (times _) c.as_float.ensures.defined) ∙ c.in_default-scaled.is)) }
+pub returns-in_err-y : goal.returns-in_err-y
+returns-in_err-y c = record { defined = c.from_residual-in_err-y.ensures ∙ sym (bound _ c.in_ok-v.was ∙ refused _ (sym (c.product.ensures.defined ∙ ap (times _) c.as_float.ensures.defined) ∙ c.in_err-y.was)) }
 
 pub returns : goal.returns
-returns c = record { defined = c.sum.ensures.defined ∙ sym (bound _ c.in-Finite.is ∙ bound _ (sym (c.product-scaled.ensures.defined ∙ ap (times _) c.as_float.ensures.defined) ∙ c.in-Finite-scaled.is)) }
+returns c = record { defined = c.sum.ensures.defined ∙ sym (bound _ c.in_ok-v.was ∙ bound _ (sym (c.product.ensures.defined ∙ ap (times _) c.as_float.ensures.defined) ∙ c.in_ok-y.was)) }

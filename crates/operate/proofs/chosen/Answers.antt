@@ -1,4 +1,5 @@
 -- `operate::chosen` meets its contract.
+use Rattle.std.proofs.Common.{◌∙◌, refl}
 use Rattle.operate.proofs.chosen.Goals as goal
 use Rattle.rules.specs.Number.{◌>>=◌}
 
@@ -6,10 +7,10 @@ pub returns-then-not-any : goal.returns-then-not-any
 unfolding ◌>>=◌
 returns-then-not-any c = record { defined = rw (c.if-not-any.true) }
 
-pub returns-in-Finite : goal.returns-in-Finite
+pub returns-in_err-best : goal.returns-in_err-best
 unfolding ◌>>=◌
-returns-in-Finite c = record { defined = rw (c.if-not-any.false, c.in-Finite.is, c.better_of.ensures.defined) }
+returns-in_err-best c = record { defined = c.from_residual.ensures ∙ rw (c.if-not-any.false, c.in_err-best.was) refl }
 
-pub returns-in-NotFinite : goal.returns-in-NotFinite
+pub returns : goal.returns
 unfolding ◌>>=◌
-returns-in-NotFinite c = record { defined = rw (c.if-not-any.false, c.in-NotFinite.is) }
+returns c = record { defined = rw (c.if-not-any.false, c.in_ok-best.was, c.better_of.ensures.defined) refl }

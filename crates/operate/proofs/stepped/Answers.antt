@@ -1,30 +1,29 @@
 -- `operate::stepped` meets its contract, operator by operator.
 use Rattle.operate.proofs.stepped.Goals as goal
-use mathlib.Core.Path.{sym}
 
 pub returns-in-PreAssign : goal.returns-in-PreAssign
-returns-in-PreAssign c = record { defined = rw (c.in-PreAssign.is, sym c.step_so_far-step.ensures.defined, sym c.is_set-any.ensures.defined) c.chosen.ensures.defined }
+returns-in-PreAssign c = record { defined = rw c.in-PreAssign.is c.chosen.ensures.defined }
 
 pub returns-in-PreMul : goal.returns-in-PreMul
-returns-in-PreMul c = record { defined = rw (c.in-PreMul.is, sym c.step_so_far-step.ensures.defined) c.multiplied.ensures.defined }
+returns-in-PreMul c = record { defined = rw c.in-PreMul.is c.multiplied.ensures.defined }
 
 pub returns-in-PreDiv : goal.returns-in-PreDiv
-returns-in-PreDiv c = record { defined = rw (c.in-PreDiv.is, sym c.step_so_far-step.ensures.defined) c.multiplied-in-PreDiv.ensures.defined }
+returns-in-PreDiv c = record { defined = rw c.in-PreDiv.is c.multiplied-in-PreDiv.ensures.defined }
 
 pub returns-in-ModAdd : goal.returns-in-ModAdd
-returns-in-ModAdd c = record { defined = rw (c.in-ModAdd.is, sym c.step_so_far-step.ensures.defined) c.added.ensures.defined }
+returns-in-ModAdd c = record { defined = rw c.in-ModAdd.is c.added.ensures.defined }
 
 pub returns-in-ModSub : goal.returns-in-ModSub
-returns-in-ModSub c = record { defined = rw (c.in-ModSub.is, sym c.step_so_far-step.ensures.defined) c.added-in-ModSub.ensures.defined }
+returns-in-ModSub c = record { defined = rw c.in-ModSub.is c.added-in-ModSub.ensures.defined }
 
 pub returns-in-PostMul : goal.returns-in-PostMul
-returns-in-PostMul c = record { defined = rw (c.in-PostMul.is, sym c.step_so_far-step.ensures.defined) c.multiplied-in-PostMul.ensures.defined }
+returns-in-PostMul c = record { defined = rw c.in-PostMul.is c.multiplied-in-PostMul.ensures.defined }
 
 pub returns-in-PostDiv : goal.returns-in-PostDiv
-returns-in-PostDiv c = record { defined = rw (c.in-PostDiv.is, sym c.step_so_far-step.ensures.defined) c.multiplied-in-PostDiv.ensures.defined }
+returns-in-PostDiv c = record { defined = rw c.in-PostDiv.is c.multiplied-in-PostDiv.ensures.defined }
 
 pub returns-in-PostPercent : goal.returns-in-PostPercent
-returns-in-PostPercent c = record { defined = rw (c.in-PostPercent.is, sym c.step_so_far-step.ensures.defined) c.multiplied-in-PostPercent.ensures.defined }
+returns-in-PostPercent c = record { defined = rw c.in-PostPercent.is c.multiplied-in-PostPercent.ensures.defined }
 
 pub returns-in-PostAssign : goal.returns-in-PostAssign
-returns-in-PostAssign c = record { defined = rw (c.in-PostAssign.is, sym c.step_so_far-step.ensures.defined, sym c.is_set-any.ensures.defined) c.chosen-in-PostAssign.ensures.defined }
+returns-in-PostAssign c = record { defined = rw c.in-PostAssign.is c.chosen-in-PostAssign.ensures.defined }

@@ -4,8 +4,5 @@ use native.Mathlib.Omega.{arith}
 use mathlib.Core.Path.{◌∙◌}
 use Rattle.order.proofs.Walks.{walking_place}
 
-pub returns-then-n-walk : goal.returns-then-n-walk
-returns-then-n-walk c = record { walking = λ t long walking pushable looked. tt }
-
 pub returns : goal.returns
 returns c = record { walking = λ t long walking pushable looked. walking_place walking pushable looked (omega (arith, long, c.if-n-walk.false)) c.put.ensures.put c.put-2.ensures.put c.put-3.ensures.put (c.put-3.auto.work ∙ c.put-2.auto.work ∙ c.put.auto.work) }

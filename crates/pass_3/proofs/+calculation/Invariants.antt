@@ -1,12 +1,12 @@
 -- The measure of the cycle is on the rows that are not started; the invariants of its loops.
 use Rattle.pass_3.proofs.+calculation.Given as goal
-use Prim.Native.Nat.{◌+◌, ◌*◌, ◌-◌, ◌≤◌, ◌<◌}
-use mathlib.Core.Path.{◌≡◌, refl, sym, ap, subst, ◌∙◌}
+use Prim.Native.Nat.{◌+◌, ◌*◌, ◌≤◌}
+use mathlib.Core.Path.{◌≡◌}
 use mathlib.Core.List.{[], ◌∷◌}
-use lib.ListN.{length, get_or, length-set}
+use lib.ListN.{length}
 use Rattle.laws.specs.Floats.{nans}
 use Rattle.rules.specs.Codes.{operators}
-use Rattle.memory.specs.Holding.{tables, Busy}
+use Rattle.memory.specs.Holding.{tables_of, Busy}
 use Rattle.memory.proofs.Gathering.{Gathering}
 use Rattle.memory.proofs.Operating.{Operating}
 use Rattle.gather.specs.Piles.{whole, Eights}
@@ -39,13 +39,7 @@ abbrev pub decreases-with_entry : goal.decreases-with_entry
 decreases-with_entry l = 8 * nans l.values.now + 4
 
 abbrev pub invariant-gathered-loop-k : goal.invariant-gathered-loop-k
-invariant-gathered-loop-k l = ((l.k ≤ l.count) × (length l.values ≡ length l.initial.values) × (length l.sources ≡ length l.initial.sources) × (length l.floats ≡ length l.initial.floats) × Eights l.positives l.positive_sources l.negatives l.negative_sources) × ((h : Busy (tables l.book l.pairs l.states l.stretches l.limits l.rows l.bases l.entries l.entry_values) l.run l.initial.values l.initial.sources l.initial.floats l.used l.row l.own (l.operator ∷ [])) → Gathering h.ready.world h.ready.sources₀ h.ready.floats₀ l.left l.row l.high l.operator l.found h.ready.mem l.k l.values l.sources l.floats (whole l.positives l.positive_sources l.negatives l.negative_sources l.p))
-
-abbrev pub decreases-gathered-loop-k : goal.decreases-gathered-loop-k
-decreases-gathered-loop-k l = l.count - l.k
+invariant-gathered-loop-k l = ((l.k ≤ l.count) × (length l.values ≡ length l.initial.values) × (length l.sources ≡ length l.initial.sources) × (length l.floats ≡ length l.initial.floats) × Eights l.positives l.positive_sources l.negatives l.negative_sources) × ((h : Busy (tables_of l.columns) l.run l.initial.values l.initial.sources l.initial.floats l.fn.part.counts.used l.row l.fn.part.counts.own (l.operator ∷ [])) → Gathering h.ready.world h.ready.sources₀ h.ready.floats₀ l.left l.row l.high l.operator l.fn.part.value h.ready.mem l.k l.values l.sources l.floats (whole l.positives l.positive_sources l.negatives l.negative_sources l.p))
 
 abbrev pub invariant-operated-loop-code : goal.invariant-operated-loop-code
-invariant-operated-loop-code l = ((l.code ≤ 9) × (length l.values ≡ length l.initial.values) × (length l.sources ≡ length l.initial.sources) × (length l.floats ≡ length l.initial.floats)) × ((h : Busy (tables l.book l.pairs l.states l.stretches l.limits l.rows l.bases l.entries l.entry_values) l.run l.initial.values l.initial.sources l.initial.floats l.used l.row 0 operators) → Operating h.ready.world h.ready.sources₀ h.ready.floats₀ l.left l.row h.ready.mem l.code l.values l.sources l.floats l.value l.own l.u)
-
-abbrev pub decreases-operated-loop-code : goal.decreases-operated-loop-code
-decreases-operated-loop-code l = 9 - l.code
+invariant-operated-loop-code l = ((l.code ≤ 9) × (length l.values ≡ length l.initial.values) × (length l.sources ≡ length l.initial.sources) × (length l.floats ≡ length l.initial.floats)) × ((h : Busy (tables_of l.columns) l.run l.initial.values l.initial.sources l.initial.floats l.fn.used l.row 0 operators) → Operating h.ready.world h.ready.sources₀ h.ready.floats₀ l.left l.row h.ready.mem l.code l.values l.sources l.floats l.part.value l.part.counts.own l.part.counts.used)

@@ -1,23 +1,12 @@
 -- `pool::astray` meets its contract.
-use Rattle.pool.proofs.astray.Goals as goal
-use Rattle.pool.proofs.astray.Reads as reads
-use Rattle.pool.proofs.astray.Lts as lts
-use Rattle.pool.proofs.astray_in.Reads as astray-in-reads
-use Prim.Native.Nat.{◌-◌}
-use Rattle.pool.specs.Pooled.{astray_at}
+use Rattle.std.proofs.Common.{rules, tests, refl, ◌∙◌, arith}
+use Rattle.std.proofs.lemmas.Iterator.{YieldsList-from_range}
+use Rattle.std.proofs.lemmas.Iterator.Search.{any_from_yields_List}
 use Rattle.rules.specs.Pool as rule
-use Rattle.pool.proofs.Below.{Failing, failing_none, failing_next, some_passing, none_passing}
-
-pub loop-list-init : goal.loop-list-init
-loop-list-init c = failing_none _ _
-
-pub returns-then-astray_in : goal.returns-then-astray_in
-unfolding rule.astray
-returns-then-astray_in c = record { defined = some_passing c.loop-list.invariant c.loop-list-test.true c.astray_in.ensures.defined c.if-astray_in.true }
-
-pub loop-list-preserved : goal.loop-list-preserved
-loop-list-preserved c = failing_next c.loop-list.invariant c.loop-list-test.true c.astray_in.ensures.defined c.if-astray_in.false
+use Rattle.pool.specs.Pooled.{astray_at}
+use Rattle.pool.proofs.Below.{any_below}
+use Rattle.pool.proofs.astray.Goals as goal
 
 pub returns : goal.returns
 unfolding rule.astray
-returns c = record { defined = none_passing c.loop-list.invariant c.loop-list-test.false }
+returns c = record { defined = any_from_yields_List (astray_at c.args.rooms.now c.args.stretches.now c.args.p) _ _ _ c.any.ensures.ran (YieldsList-from_range 0 5 5 refl (omega arith)) (λ x b q k. search (rules, tests)) ∙ any_below (astray_at c.args.rooms.now c.args.stretches.now c.args.p) 0 5 }

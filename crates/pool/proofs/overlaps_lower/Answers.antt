@@ -1,21 +1,11 @@
 -- `pool::overlaps_lower` meets its contract.
-use Rattle.pool.proofs.overlaps_lower.Goals as goal
-use Rattle.pool.proofs.overlaps_lower.Reads as reads
-use Rattle.pool.proofs.overlaps_lower.Lts as lts
-use Rattle.pool.proofs.overlaps.Reads as overlaps-reads
-use Prim.Native.Nat.{◌-◌}
+use Rattle.std.proofs.Common.{rules, tests, refl, ◌∙◌, arith}
+use Rattle.std.proofs.lemmas.Iterator.{YieldsList-from_range}
+use Rattle.std.proofs.lemmas.Iterator.Search.{any_from_yields_List}
 use Rattle.rules.specs.Pool.{overlaps}
 use Rattle.pool.specs.Pooled.{stretch_at}
-use Rattle.pool.proofs.Below.{Failing, failing_none, failing_next, some_passing, none_passing}
-
-pub loop-q-init : goal.loop-q-init
-loop-q-init c = failing_none _ _
-
-pub returns-then-overlaps : goal.returns-then-overlaps
-returns-then-overlaps c = record { defined = some_passing c.loop-q.invariant c.loop-q-test.true c.overlaps.ensures.defined c.if-overlaps.true }
-
-pub loop-q-preserved : goal.loop-q-preserved
-loop-q-preserved c = failing_next c.loop-q.invariant c.loop-q-test.true c.overlaps.ensures.defined c.if-overlaps.false
+use Rattle.pool.proofs.Below.{any_below}
+use Rattle.pool.proofs.overlaps_lower.Goals as goal
 
 pub returns : goal.returns
-returns c = record { defined = none_passing c.loop-q.invariant c.loop-q-test.false }
+returns c = record { defined = any_from_yields_List (λ q. overlaps (stretch_at c.args.stretches.now c.args.p c.args.list) (stretch_at c.args.stretches.now q c.args.list)) _ _ _ c.any.ensures.ran (YieldsList-from_range 0 c.args.p c.args.p refl (omega arith)) (λ x b q k. search (rules, tests)) ∙ any_below _ 0 c.args.p }

@@ -1,9 +1,5 @@
 -- `said::bad_line` meets its contract: each piece from where the one before it ended. Assumes nothing.
 use Rattle.said.proofs.bad_line.Goals as goal
-use Rattle.said.proofs.bad_line.Reads as reads
-use Rattle.said.proofs.bad_line.Lts as lts
-use Rattle.listing.proofs.put_text.Reads as put-text-reads
-use Rattle.listing.proofs.put_u32.Reads as put-u32-reads
 use native.Mathlib.Omega.{arith}
 use mathlib.Core.List.{◌++◌}
 use Rattle.rules.specs.Listing.{natural}

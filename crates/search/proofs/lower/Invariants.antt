@@ -7,6 +7,3 @@ use Rattle.search.proofs.Steps.{CountedBelow, lower_own, counts_start, counts-mo
 
 abbrev pub invariant-loop-k : goal.invariant-loop-k
 invariant-loop-k l = (l.k ≤ l.end) × CountedBelow l.rows l.id l.k l.found
-
-abbrev pub decreases-loop-k : goal.decreases-loop-k
-decreases-loop-k l = l.end - l.k

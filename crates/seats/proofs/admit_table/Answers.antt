@@ -1,30 +1,27 @@
 -- `seats::admit_table` meets its contract.
 use Rattle.seats.proofs.admit_table.Goals as goal
-use Rattle.seats.proofs.admit_table.Reads as reads
-use Rattle.seats.proofs.admit_table.Lts as lts
-use Rattle.seats.proofs.first_long.Reads as first-long-reads
-use Rattle.seats.proofs.shut.Reads as shut-reads
 use native.Mathlib.Omega.{arith}
-use mathlib.Core.Path.{◌∙◌}
+use mathlib.Core.Path.{refl, ◌∙◌}
+use Rattle.seats.proofs.First.{place_some, place_none}
 use Rattle.seats.proofs.Fit.{none_at, shut_at, rest_at, long_at}
 
-pub first_long-i-requires : goal.first_long-i-requires
-first_long-i-requires c = record { few = c.requires.ready.few }
+pub first_long-requires : goal.first_long-requires
+first_long-requires c = record { few = c.requires.ready.few }
 
-pub returns-then-n-i : goal.returns-then-n-i
-returns-then-n-i c = record { defined = none_at c.args.t c.args.count c.args.wanted (omega (arith, c.well_formed.0.1.0.1, c.requires.ready.few)) c.first_long-i.ensures.defined c.if-n-i.true }
+pub returns-in_default : goal.returns-in_default
+returns-in_default c = record { defined = none_at c.args.t c.args.count c.args.wanted (omega (arith, c.well_formed.0.1.0.1, c.requires.ready.few)) refl (place_none c.first_long.ensures.defined c.in_default.not-Some) }
 
 pub shut-requires : goal.shut-requires
-shut-requires c = record { one_of = (omega (arith, c.if-n-i.false), c.requires.ready.few) }
+shut-requires c = record { one_of = ((place_some c.first_long.ensures.defined c.in-Some.is).1, c.requires.ready.few) }
 
 pub returns-then-long-wanted : goal.returns-then-long-wanted
-returns-then-long-wanted c = record { defined = c.shut.ensures.defined ∙ shut_at c.args.t c.args.count c.args.wanted (omega (arith, c.well_formed.0.1.0.1, c.requires.ready.few)) c.first_long-i.ensures.defined (omega (arith, c.if-n-i.false)) c.if-long-wanted.true }
+returns-then-long-wanted c = record { defined = let p = place_some c.first_long.ensures.defined c.in-Some.is in c.shut.ensures.defined ∙ shut_at c.args.t c.args.count c.args.wanted (omega (arith, c.well_formed.0.1.0.1, c.requires.ready.few)) p.0 p.1 c.if-long-wanted.true }
 
 pub overflow_add-u : goal.overflow_add-u
-overflow_add-u c = record { fits = (let z = c.requires.ready.safe c.first_long-i.result (omega (arith, c.if-n-i.false)) in let y = long_at c.args.t c.args.count c.args.wanted c.first_long-i.result c.first_long-i.ensures.defined (omega (arith, c.if-n-i.false)) in omega (arith, z, y)) }
+overflow_add-u c = record { fits = (let p = place_some c.first_long.ensures.defined c.in-Some.is in let z = c.requires.ready.safe _ p.1 in let y = long_at c.args.t c.args.count c.args.wanted _ p.0 p.1 in omega (arith, z, y)) }
 
 pub overflow_sub-u : goal.overflow_sub-u
-overflow_sub-u c = long_at c.args.t c.args.count c.args.wanted c.first_long-i.result c.first_long-i.ensures.defined (omega (arith, c.if-n-i.false))
+overflow_sub-u c = let p = place_some c.first_long.ensures.defined c.in-Some.is in long_at c.args.t c.args.count c.args.wanted _ p.0 p.1
 
 pub returns : goal.returns
-returns c = record { defined = rest_at c.args.t c.args.count c.args.wanted (omega (arith, c.well_formed.0.1.0.1, c.requires.ready.few)) c.first_long-i.ensures.defined (omega (arith, c.if-n-i.false)) c.if-long-wanted.false }
+returns c = record { defined = let p = place_some c.first_long.ensures.defined c.in-Some.is in rest_at c.args.t c.args.count c.args.wanted (omega (arith, c.well_formed.0.1.0.1, c.requires.ready.few)) p.0 p.1 c.if-long-wanted.false }

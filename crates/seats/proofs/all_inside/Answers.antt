@@ -1,24 +1,14 @@
 -- `seats::all_inside` meets its contract.
-use Rattle.seats.proofs.all_inside.Goals as goal
-use Rattle.seats.proofs.all_inside.Reads as reads
-use Rattle.seats.proofs.all_inside.Lts as lts
-use Rattle.pool.proofs.leaves.Reads as leaves-reads
-use Prim.Native.Nat.{◌-◌}
-use native.Mathlib.Omega.{arith}
-use lib.ListN.{get_or}
-use Rattle.laws.specs.Lists.{every?}
-use Rattle.free_table.specs.Table.{empty}
+use mathlib.Core.Path.{sym, ◌∙◌}
+use mathlib.Core.Bool.{not}
+use mathlib.Core.List.{[], ◌∷◌}
+use Rattle.std.proofs.Common.{rules, tests}
+use Rattle.std.proofs.lemmas.Iterator.{YieldsList-from_slice}
+use Rattle.std.proofs.lemmas.Iterator.Search.{all_from_yields_List}
+use Rattle.rules.specs.Pool.{leaves}
 use Rattle.seats.specs.Tiling.{inside}
-use Rattle.seats.proofs.Loops.{Left, left_none, every_pass, every_fail, every_end, is-inside, is_outside}
-
-pub loop-i-init : goal.loop-i-init
-loop-i-init c = left_none _ _ _
-
-pub returns-then-leaves : goal.returns-then-leaves
-returns-then-leaves c = record { defined = every_fail (inside c.args.pool) c.loop-i.invariant empty (omega (arith, c.well_formed.0.1.0.1, c.loop-i-test.true)) (is_outside c.args.pool (get_or c.args.all c.loop-i.i empty) c.leaves.ensures.defined c.if-leaves.true) }
-
-pub loop-i-preserved : goal.loop-i-preserved
-loop-i-preserved c = every_pass (inside c.args.pool) c.loop-i.invariant empty (omega (arith, c.well_formed.0.1.0.1, c.loop-i-test.true)) (is-inside c.args.pool (get_or c.args.all c.loop-i.i empty) c.leaves.ensures.defined c.if-leaves.false)
+use Rattle.seats.proofs.Loops.{all_every, inside-leaves}
+use Rattle.seats.proofs.all_inside.Goals as goal
 
 pub returns : goal.returns
-returns c = record { defined = every_end (inside c.args.pool) c.loop-i.invariant (omega (arith, c.well_formed.0.1.0.1, c.loop-i-test.false)) }
+returns c = record { defined = all_from_yields_List (λ s. not (leaves c.args.pool (s.start ∷ s.length ∷ []))) _ _ _ c.all.ensures.ran (YieldsList-from_slice c.args.all cc) (λ x b q k. search (rules, tests)) ∙ all_every _ (inside c.args.pool) (λ s. sym (inside-leaves c.args.pool s)) c.args.all }

@@ -1,26 +1,15 @@
 -- `seats::clear_later` meets its contract.
-use Rattle.seats.proofs.clear_later.Goals as goal
-use Rattle.seats.proofs.clear_later.Reads as reads
-use Rattle.seats.proofs.clear_later.Lts as lts
-use Rattle.pool.proofs.overlaps.Reads as overlaps-reads
-use Prim.Native.Nat.{◌-◌, ◌+◌}
-use native.Mathlib.Omega.{arith}
-use mathlib.Core.Path.{◌≡◌, sym, ap, ◌∙◌}
+use Prim.Native.Nat.{◌+◌}
+use mathlib.Core.Path.{refl, ◌∙◌}
 use mathlib.Core.Bool.{not}
-use lib.ListN.{get_or}
-use Rattle.laws.specs.Lists.{every?}
+use lib.ListN.{drop, get_or}
+use Rattle.std.proofs.Common.{rules, tests}
+use Rattle.std.proofs.lemmas.Iterator.{YieldsList-from_slice}
+use Rattle.std.proofs.lemmas.Iterator.Search.{all_from_yields_List}
 use Rattle.free_table.specs.Table.{empty}
 use Rattle.seats.specs.Tests.{overlaps}
-use Rattle.seats.proofs.Loops.{Left, left_none, every_pass, every_fail, every_end}
-
-pub loop-j-init : goal.loop-j-init
-loop-j-init c = left_none _ _ _
-
-pub returns-then-overlaps : goal.returns-then-overlaps
-returns-then-overlaps c = record { defined = every_fail (λ t. not (overlaps (get_or c.args.all c.args.i empty) t)) c.loop-j.invariant empty (omega (arith, c.well_formed.0.1.0.1, c.loop-j-test.true)) (ap not (sym c.overlaps.ensures.defined ∙ c.if-overlaps.true)) }
-
-pub loop-j-preserved : goal.loop-j-preserved
-loop-j-preserved c = every_pass (λ t. not (overlaps (get_or c.args.all c.args.i empty) t)) c.loop-j.invariant empty (omega (arith, c.well_formed.0.1.0.1, c.loop-j-test.true)) (ap not (sym c.overlaps.ensures.defined ∙ c.if-overlaps.false))
+use Rattle.seats.proofs.Loops.{all_every, whole_rest}
+use Rattle.seats.proofs.clear_later.Goals as goal
 
 pub returns : goal.returns
-returns c = record { defined = every_end (λ t. not (overlaps (get_or c.args.all c.args.i empty) t)) c.loop-j.invariant (omega (arith, c.well_formed.0.1.0.1, c.loop-j-test.false)) }
+returns c = record { defined = all_from_yields_List (λ t. not (overlaps (get_or c.args.all c.args.i empty) t)) _ _ _ c.all.ensures.ran (YieldsList-from_slice (drop (c.args.i + 1) c.args.all) (c.iter.ensures.rest ∙ whole_rest c.args.all (c.args.i + 1) 33 c.well_formed.0.1.0.1)) (λ x b q k. search (rules, tests)) ∙ all_every _ _ (λ t. refl) (drop (c.args.i + 1) c.args.all) }

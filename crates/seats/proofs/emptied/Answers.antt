@@ -1,16 +1,12 @@
 -- `seats::emptied` meets its contract.
-use Rattle.seats.proofs.emptied.Goals as goal
-use Rattle.seats.proofs.emptied.Reads as reads
-use Rattle.seats.proofs.emptied.Lts as lts
-use Prim.Native.Nat.{◌-◌}
+use mathlib.Core.Path.{ap, ◌∙◌}
+use mathlib.Core.List.{List, ◌++◌}
+use lib.ListN.{drop, replicate}
+use lib.Seq.{length-take-le}
 use native.Mathlib.Omega.{arith}
-use Rattle.seats.proofs.Join.{Emptying, emptying_none, emptying_next, emptying_end}
-
-pub loop-i-init : goal.loop-i-init
-loop-i-init c = emptying_none _ _
-
-pub loop-i-preserved : goal.loop-i-preserved
-loop-i-preserved c = emptying_next c.loop-i.invariant (omega (arith, c.well_formed.0.1.0.1, c.requires.few)) c.loop-i-test.true
+use Rattle.free_table.specs.declared.Stretch.{Stretch}
+use Rattle.free_table.specs.Table.{empty}
+use Rattle.seats.proofs.emptied.Goals as goal
 
 pub returns : goal.returns
-returns c = record { defined = emptying_end c.loop-i.invariant c.loop-i-test.false }
+returns c = record { defined = ap (λ (r : List Stretch). r ++ drop c.args.n c.args.t) (c.fill.ensures.after (λ y k. k) ∙ ap (λ k. replicate k empty) (length-take-le c.args.n c.args.t (omega (arith, c.well_formed.0.1.0.1, c.requires.few)))) }

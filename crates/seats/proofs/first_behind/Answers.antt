@@ -1,19 +1,13 @@
 -- `seats::first_behind` meets its contract.
-use Rattle.seats.proofs.first_behind.Goals as goal
-use Rattle.seats.proofs.first_behind.Reads as reads
-use Rattle.seats.proofs.first_behind.Lts as lts
-use Prim.Native.Nat.{◌-◌}
 use native.Mathlib.Omega.{arith}
-use Rattle.seats.proofs.Join.{Placing, placing_none, placing-hit, placing-next, placing_end}
-
-pub loop-i-init : goal.loop-i-init
-loop-i-init c = placing_none _ _ _
-
-pub returns-then-start-t : goal.returns-then-start-t
-returns-then-start-t c = record { defined = placing-hit (omega (arith, c.well_formed.0.1.0.1, c.requires.few)) c.loop-i.invariant c.loop-i-test.true c.if-start-t.true }
-
-pub loop-i-preserved : goal.loop-i-preserved
-loop-i-preserved c = placing-next (omega (arith, c.well_formed.0.1.0.1, c.requires.few)) c.loop-i.invariant c.loop-i-test.true c.if-start-t.false
+use mathlib.Core.Path.{◌∙◌}
+use lib.Dec.{ltb}
+use lib.ListN.{take}
+use Rattle.std.proofs.Common.{rules, tests}
+use Rattle.std.proofs.lemmas.Iterator.{YieldsList-from_slice}
+use Rattle.std.proofs.lemmas.Iterator.Search.{position_from_yields_List}
+use Rattle.seats.proofs.First.{first-behind}
+use Rattle.seats.proofs.first_behind.Goals as goal
 
 pub returns : goal.returns
-returns c = record { defined = placing_end (omega (arith, c.well_formed.0.1.0.1, c.requires.few)) c.loop-i.invariant c.loop-i-test.false }
+returns c = record { defined = c.unwrap_or.ensures ∙ first-behind c.args.t c.args.n (omega (arith, c.well_formed.0.1.0.1, c.requires.few)) c.args.start (position_from_yields_List (λ s. ltb c.args.start s.start) _ _ _ c.position.ensures.ran (YieldsList-from_slice (take c.args.n c.args.t) cc) (λ x b q k. search (rules, tests))) }

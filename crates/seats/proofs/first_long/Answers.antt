@@ -1,19 +1,12 @@
 -- `seats::first_long` meets its contract.
-use Rattle.seats.proofs.first_long.Goals as goal
-use Rattle.seats.proofs.first_long.Reads as reads
-use Rattle.seats.proofs.first_long.Lts as lts
-use Prim.Native.Nat.{◌-◌}
 use native.Mathlib.Omega.{arith}
-use Rattle.seats.proofs.First.{Seeking, seek_none, seek_hit, seek_next, seek_end}
-
-pub loop-i-init : goal.loop-i-init
-loop-i-init c = seek_none _ _ _
-
-pub returns-then-wanted-t : goal.returns-then-wanted-t
-returns-then-wanted-t c = record { defined = seek_hit c.loop-i.invariant (omega (arith, c.loop-i-test.true)) c.if-wanted-t.true }
-
-pub loop-i-preserved : goal.loop-i-preserved
-loop-i-preserved c = seek_next c.loop-i.invariant (omega (arith, c.loop-i-test.true)) c.if-wanted-t.false
+use lib.Dec.{leb}
+use lib.ListN.{take}
+use Rattle.std.proofs.Common.{rules, tests}
+use Rattle.std.proofs.lemmas.Iterator.{YieldsList-from_slice}
+use Rattle.std.proofs.lemmas.Iterator.Search.{position_from_yields_List}
+use Rattle.seats.proofs.First.{first-found}
+use Rattle.seats.proofs.first_long.Goals as goal
 
 pub returns : goal.returns
-returns c = record { defined = seek_end c.loop-i.invariant c.loop-i-test.false }
+returns c = record { defined = first-found c.args.t c.args.n (omega (arith, c.well_formed.0.1.0.1, c.requires.few)) c.args.wanted (position_from_yields_List (λ s. leb c.args.wanted s.length) _ _ _ c.position.ensures.ran (YieldsList-from_slice (take c.args.n c.args.t) cc) (λ x b q k. search (rules, tests))) }

@@ -1,13 +1,7 @@
 -- `seats::ordered` meets its contract.
 use Rattle.seats.proofs.ordered.Goals as goal
-use Rattle.seats.proofs.ordered.Reads as reads
-use Rattle.seats.proofs.ordered.Lts as lts
-use Rattle.seats.proofs.touches.Reads as touches-reads
-use Prim.Native.Nat.{◌-◌}
 use native.Mathlib.Omega.{arith}
-use lib.ListN.{take}
-use Rattle.seats.specs.Seats.{apart}
-use Rattle.seats.proofs.Loops.{Left, left_none, ordered_next, ordered_stop, ordered_end}
+use Rattle.seats.proofs.Loops.{left_none, ordered_next, ordered_stop, ordered_end}
 
 pub loop-i-init : goal.loop-i-init
 loop-i-init c = left_none _ _ _

@@ -1,9 +1,6 @@
 -- `seats::put_at` meets its contract.
 use Rattle.seats.proofs.put_at.Goals as goal
-use Rattle.seats.proofs.put_at.Reads as reads
-use Rattle.seats.proofs.put_at.Lts as lts
-use native.Mathlib.Omega.{arith}
-use mathlib.Core.Path.{◌≡◌, refl, sym}
+use mathlib.Core.Path.{refl}
 use borrow.Author.Tests.{lt-ltb, le-ltb, eq-eqb, ne_eqb}
 
 pub returns-then-i-k : goal.returns-then-i-k

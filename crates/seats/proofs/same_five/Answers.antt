@@ -1,9 +1,6 @@
 -- `seats::same_five` meets its contract.
 use Rattle.seats.proofs.same_five.Goals as goal
-use Rattle.seats.proofs.same_five.Reads as reads
-use Rattle.seats.proofs.same_five.Lts as lts
-use Rattle.seats.proofs.same_pair.Reads as same-pair-reads
-use mathlib.Core.Path.{◌≡◌, refl, ap, ◌∙◌}
+use mathlib.Core.Path.{◌≡◌, refl}
 use mathlib.Core.Bool.{Bool, true, false, ◌&&◌}
 
 four : (a b c d : Bool) → ((a && b) && c) && d ≡ a && (b && (c && (d && true)))

@@ -1,10 +1,7 @@
 -- `seats::shut` meets its contract.
 use Rattle.seats.proofs.shut.Goals as goal
-use Rattle.seats.proofs.shut.Reads as reads
-use Rattle.seats.proofs.shut.Lts as lts
-use Prim.Native.Nat.{◌-◌}
 use native.Mathlib.Omega.{arith}
-use Rattle.seats.proofs.Down.{Moving, moving_none, moving_next, moving_end}
+use Rattle.seats.proofs.Down.{moving_none, moving_next, moving_end}
 
 pub loop-j-init : goal.loop-j-init
 loop-j-init c = moving_none _ _ _ (omega (arith, c.requires.one_of.0))

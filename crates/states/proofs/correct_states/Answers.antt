@@ -1,23 +1,12 @@
 -- `states::correct_states` meets its contract. The rows of the first i objects are laid over zeros. The measure is how many objects are left. Assumes nothing.
 use Rattle.states.proofs.correct_states.Goals as goal
-use Rattle.states.proofs.correct_states.Reads as reads
-use Rattle.states.proofs.correct_states.Lts as lts
-use Rattle.info.proofs.header.count_of.Reads as count-of-reads
-use Rattle.info.proofs.records.object.Reads as object-reads
-use Rattle.item.proofs.categories.categories_of.Reads as categories-of-reads
-use Rattle.states.proofs.is_structure_fit.Reads as is-structure-fit-reads
-use Rattle.states.proofs.mark_effects.Reads as mark-effects-reads
-use Rattle.states.proofs.mark_types.Reads as mark-types-reads
-use Rattle.states.proofs.states_of.Reads as states-of-reads
-use Prim.Native.Nat.{ℕ, ◌≤◌, ◌-◌}
+use Prim.Native.Nat.{ℕ}
 use native.Mathlib.Omega.{arith}
-use mathlib.Core.Path.{refl, sym, ◌∙◌}
-use mathlib.Core.List.{[], ◌∷◌, map}
-use lib.ListN.{take, length-replicate}
-use Rattle.laws.specs.Columns.{Col}
+use mathlib.Core.Path.{refl}
+use mathlib.Core.List.{[], ◌∷◌}
+use lib.ListN.{length-replicate}
 use Rattle.laws.proofs.Laid.{col_none}
-use Rattle.rules.specs.Sheet.{book_of, fit_of}
-use Rattle.rules.specs.States.{states_of}
+use Rattle.rules.specs.Sheet.{book_of}
 use Rattle.states.specs.Raised.{both}
 use Rattle.states.proofs.Standing.{stood, in_room, rows_more, rows_all}
 
@@ -46,27 +35,27 @@ loop-i-init c = (omega arith, col_none both _)
 pub object-o-requires : goal.object-o-requires
 object-o-requires c = record {
   held_fit = c.requires.sound_fit.held;
-  inside = omega (arith, c.loop-i-test.true, c.count_of-n.ensures.defined);
+  inside = omega (arith, c.loop-i-test.true, c.count_of-i-end.ensures.defined);
 }
 
-pub states_of-row-requires : goal.states_of-row-requires
-states_of-row-requires c = record {
+pub states_of-requires : goal.states_of-requires
+states_of-requires c = record {
   sound_book = c.requires.sound_book;
   sound_fit = c.requires.sound_fit;
   marked = c.mark_types.ensures.marked;
   the_categories = c.categories_of-c.ensures.of_the_header;
   structure = c.is_structure_fit-structure.ensures.defined;
-  an_object = stood c.args.fit.now c.args.pairs.now c.loop-i.i c.object-o.result (omega (arith, c.loop-i-test.true, c.count_of-n.ensures.defined)) c.object-o.ensures.record_i;
+  an_object = stood c.args.fit.now c.args.pairs.now c.loop-i.i c.object-o.result (omega (arith, c.loop-i-test.true, c.count_of-i-end.ensures.defined)) c.object-o.ensures.record_i;
 }
 
 pub offset_bounds-states-i : goal.offset_bounds-states-i
-offset_bounds-states-i c = record { fits = omega (arith, c.loop-i-test.true, c.count_of-n.ensures.defined, c.requires.sound_fit.held.objects.few) }
+offset_bounds-states-i c = record { fits = omega (arith, c.loop-i-test.true, c.count_of-i-end.ensures.defined, c.requires.sound_fit.held.objects.few) }
 
 pub bounds-states-i : goal.bounds-states-i
-bounds-states-i c = omega (arith, c.loop-i-test.true, c.count_of-n.ensures.defined, c.requires.sound_fit.held.objects.few)
+bounds-states-i c = omega (arith, c.loop-i-test.true, c.count_of-i-end.ensures.defined, c.requires.sound_fit.held.objects.few)
 
 pub loop-i-preserved : goal.loop-i-preserved
-loop-i-preserved c = (omega (arith, c.loop-i-test.true), rows_more (book_of c.args.book.now c.args.pairs.now) c.args.fit.now c.args.pairs.now c.loop-i.i c.object-o.result (omega (arith, c.loop-i-test.true, c.count_of-n.ensures.defined)) c.object-o.ensures.record_i (in_room (0 ∷ 0 ∷ []) c.loop-i.i (omega (arith, c.loop-i-test.true, c.count_of-n.ensures.defined, c.requires.sound_fit.held.objects.few))) c.states_of-row.ensures.defined c.loop-i.invariant.1 refl)
+loop-i-preserved c = (omega (arith, c.loop-i-test.true), rows_more (book_of c.args.book.now c.args.pairs.now) c.args.fit.now c.args.pairs.now c.loop-i.i c.object-o.result (omega (arith, c.loop-i-test.true, c.count_of-i-end.ensures.defined)) c.object-o.ensures.record_i (in_room (0 ∷ 0 ∷ []) c.loop-i.i (omega (arith, c.loop-i-test.true, c.count_of-i-end.ensures.defined, c.requires.sound_fit.held.objects.few))) c.states_of.ensures.defined c.loop-i.invariant.1 refl)
 
 pub returns : goal.returns
-returns c = record { defined = rows_all (book_of c.args.book.now c.args.pairs.now) c.args.fit.now c.args.pairs.now c.loop-i.i (omega (arith, c.loop-i.invariant.0, c.loop-i-test.false, c.count_of-n.ensures.defined)) c.loop-i.invariant.1 refl }
+returns c = record { defined = rows_all (book_of c.args.book.now c.args.pairs.now) c.args.fit.now c.args.pairs.now c.loop-i.i (omega (arith, c.loop-i.invariant.0, c.loop-i-test.false, c.count_of-i-end.ensures.defined)) c.loop-i.invariant.1 refl }

@@ -1,8 +1,5 @@
 -- `states::effect_at` meets its contract. Assumes nothing.
 use Rattle.states.proofs.effect_at.Goals as goal
-use Rattle.states.proofs.effect_at.Reads as reads
-use Rattle.states.proofs.effect_at.Lts as lts
-use Rattle.info.proofs.records.type_effect.Reads as type-effect-reads
 use native.Mathlib.Omega.{arith}
 use mathlib.Core.Path.{ap}
 use Rattle.rules.specs.Sheet.{book_of}

@@ -1,31 +1,19 @@
 -- `states::reached` meets its contract. What is left of the effects decides. Assumes nothing.
 use Rattle.states.proofs.reached.Goals as goal
-use Rattle.states.proofs.reached.Reads as reads
-use Rattle.states.proofs.reached.Lts as lts
-use Rattle.info.proofs.look_ups.get_dogma_effects.Reads as get-dogma-effects-reads
-use Rattle.item.proofs.kinds.mutated.Reads as mutated-reads
-use Rattle.states.proofs.base_effects.Reads as base-effects-reads
-use Rattle.states.proofs.effect_at.Reads as effect-at-reads
-use Rattle.states.proofs.higher.Reads as higher-reads
-use Rattle.states.proofs.is_doubled.Reads as is-doubled-reads
-use Rattle.states.proofs.is_settled.Reads as is-settled-reads
-use Rattle.states.proofs.reach_by.Reads as reach-by-reads
-use Prim.Native.Nat.{◌-◌, max}
+use Rattle.states.proofs.reached.Goals.{then-not-is_doubled, else-not-is_doubled}
+use Prim.Native.Nat.{max}
 use native.Mathlib.Omega.{arith}
-use mathlib.Core.Path.{◌≡◌, sym, ap, ◌∙◌}
-use mathlib.Core.Bool.{Bool, not, cond}
-use mathlib.Core.List.{[], map}
-use Rattle.rules.specs.Info.{get_dogma_effects}
+use mathlib.Core.Path.{sym, ap, ◌∙◌}
+use mathlib.Core.Bool.{not}
 use borrow.Author.Rules.{sfits_of}
-use Rattle.laws.specs.Lists.{keep, span}
+use Rattle.laws.specs.Lists.{span}
 use Rattle.rules.specs.Sheet.{book_of}
-use Rattle.rules.specs.States.{highest}
 use Rattle.info.proofs.Elements.{type_effects_length}
-use Rattle.states.specs.Raised.{reach_on, turns_of, reached_of}
-use Rattle.states.proofs.Raising.{is_meant, run_of, base_of_lem, reached_start, turns_length, turn_is, raise_by, raise_over, raise_end}
+use Rattle.states.specs.Raised.{turns_of}
+use Rattle.states.proofs.Raising.{run_of, base_of_lem, reached_start, turns_length, turn_is, raise_by, raise_over, raise_end}
 
-pub returns-then-settled : goal.returns-then-settled
-returns-then-settled c = record { defined = sym (c.is_settled-settled.ensures.settled (book_of c.args.book.now c.args.pairs.now) c.requires.marked c.if-settled.true) }
+pub returns-then-is_settled : goal.returns-then-is_settled
+returns-then-is_settled c = record { defined = sym (c.is_settled.ensures.settled (book_of c.args.book.now c.args.pairs.now) c.requires.marked c.if-is_settled.true) }
 
 pub get_dogma_effects-own-requires : goal.get_dogma_effects-own-requires
 get_dogma_effects-own-requires c = record { sound_book = c.requires.sound_book }
@@ -37,7 +25,7 @@ pub overflow_add-total : goal.overflow_add-total
 overflow_add-total c = record { fits = omega (arith, c.get_dogma_effects-own.ensures.together.within, c.base_effects-base.ensures.together.within, type_effects_length c.args.book.now c.args.pairs.now, c.requires.sound_book.held.type_effects.few) }
 
 pub loop-k-init : goal.loop-k-init
-loop-k-init c = reached_start (book_of c.args.book.now c.args.pairs.now) c.args.o (run_of (book_of c.args.book.now c.args.pairs.now) c.args.o.type_id (sfits_of c.struct_told-1.given.1.1.0.1) c.get_dogma_effects-own.ensures.together) (ap (λ (b : Bool). cond b (get_dogma_effects (book_of c.args.book.now c.args.pairs.now) c.args.o.mutation_base) []) (sym c.mutated.ensures.defined) ∙ base_of_lem (book_of c.args.book.now c.args.pairs.now) c.mutated.result c.args.o.mutation_base (sfits_of c.struct_told-1.given.1.1.1.1.1.1.1.1.1.1.0.1) c.base_effects-base.ensures.together) _ (sym (turns_length (book_of c.args.book.now c.args.pairs.now).type_effects c.get_dogma_effects-own.result.first c.get_dogma_effects-own.result.count c.base_effects-base.result.first c.base_effects-base.result.count c.get_dogma_effects-own.ensures.together.within c.base_effects-base.ensures.together.within))
+loop-k-init c = reached_start (book_of c.args.book.now c.args.pairs.now) c.args.o (run_of (book_of c.args.book.now c.args.pairs.now) c.args.o.type_id (sfits_of c.struct_told-1.given.1.1.0.1) c.get_dogma_effects-own.ensures.together) (base_of_lem (book_of c.args.book.now c.args.pairs.now) c.args.o _ c.mutation_base.ensures.defined c.base_effects-base.ensures.together) _ (sym (turns_length (book_of c.args.book.now c.args.pairs.now).type_effects c.get_dogma_effects-own.result.first c.get_dogma_effects-own.result.count c.base_effects-base.result.first c.base_effects-base.result.count c.get_dogma_effects-own.ensures.together.within c.base_effects-base.ensures.together.within))
 
 pub effect_at-t-requires : goal.effect_at-t-requires
 effect_at-t-requires c = record {
@@ -46,23 +34,14 @@ effect_at-t-requires c = record {
   one_of_them = c.loop-k-test.true;
 }
 
-pub is_doubled-over-requires : goal.is_doubled-over-requires
-is_doubled-over-requires c = record {
-  held_book = c.requires.sound_book.held;
-  inside = omega (arith, c.get_dogma_effects-own.ensures.together.within, type_effects_length c.args.book.now c.args.pairs.now);
-}
-
-pub overflow_add-k : goal.overflow_add-k
-overflow_add-k c = record { fits = omega (arith, c.loop-k-test.true, c.get_dogma_effects-own.ensures.together.within, c.base_effects-base.ensures.together.within, type_effects_length c.args.book.now c.args.pairs.now, c.requires.sound_book.held.type_effects.few) }
-
-pub reach_by-reach-requires : goal.reach_by-reach-requires
-reach_by-reach-requires c = record { sound_book = c.requires.sound_book }
-
-pub loop-k-preserved-then-not-over : goal.loop-k-preserved-then-not-over
-loop-k-preserved-then-not-over c = raise_by _ _ _ _ (turn_is (turns_of (span c.get_dogma_effects-own.result.first c.get_dogma_effects-own.result.count (book_of c.args.book.now c.args.pairs.now).type_effects) (span c.base_effects-base.result.first c.base_effects-base.result.count (book_of c.args.book.now c.args.pairs.now).type_effects)) c.loop-k.k c.effect_at-t.ensures.defined (λ d. c.is_doubled-over.ensures.defined c.base_effects-base.result d c.loop-k-test.true (omega (arith, c.base_effects-base.ensures.together.within, type_effects_length c.args.book.now c.args.pairs.now)) (c.effect_at-t.ensures.defined d))) c.loop-k-test.true (omega (arith, c.loop-k-test.true, turns_length (book_of c.args.book.now c.args.pairs.now).type_effects c.get_dogma_effects-own.result.first c.get_dogma_effects-own.result.count c.base_effects-base.result.first c.base_effects-base.result.count c.get_dogma_effects-own.ensures.together.within c.base_effects-base.ensures.together.within)) _ _ _ c.loop-k.invariant _ (ap not c.if-not-over.true) (c.higher-top.ensures.defined ∙ ap (max c.loop-k.top) c.reach_by-reach.ensures.defined)
+pub is_doubled-requires-clause-inside : goal.is_doubled-requires-clause-inside
+is_doubled-requires-clause-inside c = omega (arith, c.get_dogma_effects-own.ensures.together.within, type_effects_length c.args.book.now c.args.pairs.now)
 
 pub loop-k-preserved : goal.loop-k-preserved
-loop-k-preserved c = raise_over _ _ _ _ (turn_is (turns_of (span c.get_dogma_effects-own.result.first c.get_dogma_effects-own.result.count (book_of c.args.book.now c.args.pairs.now).type_effects) (span c.base_effects-base.result.first c.base_effects-base.result.count (book_of c.args.book.now c.args.pairs.now).type_effects)) c.loop-k.k c.effect_at-t.ensures.defined (λ d. c.is_doubled-over.ensures.defined c.base_effects-base.result d c.loop-k-test.true (omega (arith, c.base_effects-base.ensures.together.within, type_effects_length c.args.book.now c.args.pairs.now)) (c.effect_at-t.ensures.defined d))) c.loop-k-test.true (omega (arith, c.loop-k-test.true, turns_length (book_of c.args.book.now c.args.pairs.now).type_effects c.get_dogma_effects-own.result.first c.get_dogma_effects-own.result.count c.base_effects-base.result.first c.base_effects-base.result.count c.get_dogma_effects-own.ensures.together.within c.base_effects-base.ensures.together.within)) _ _ _ c.loop-k.invariant (ap not c.if-not-over.false)
+loop-k-preserved c = elim c.if-not-is_doubled.branch [
+  | then-not-is_doubled w ↦ rw w.top-is (raise_by _ _ _ _ (turn_is (turns_of (span c.get_dogma_effects-own.result.first c.get_dogma_effects-own.result.count (book_of c.args.book.now c.args.pairs.now).type_effects) (span c.base_effects-base.result.first c.base_effects-base.result.count (book_of c.args.book.now c.args.pairs.now).type_effects)) c.loop-k.k c.effect_at-t.ensures.defined (λ d. c.is_doubled.ensures.defined c.base_effects-base.result d c.loop-k-test.true (omega (arith, c.base_effects-base.ensures.together.within, type_effects_length c.args.book.now c.args.pairs.now)) (c.effect_at-t.ensures.defined d))) c.loop-k-test.true (omega (arith, c.loop-k-test.true, turns_length (book_of c.args.book.now c.args.pairs.now).type_effects c.get_dogma_effects-own.result.first c.get_dogma_effects-own.result.count c.base_effects-base.result.first c.base_effects-base.result.count c.get_dogma_effects-own.ensures.together.within c.base_effects-base.ensures.together.within)) _ _ _ c.loop-k.invariant _ (ap not w.if-not-is_doubled.true) (w.max-top.ensures ∙ ap (max c.loop-k.top) w.reach_by.ensures.defined))
+  | else-not-is_doubled w ↦ rw w.top-is (raise_over _ _ _ _ (turn_is (turns_of (span c.get_dogma_effects-own.result.first c.get_dogma_effects-own.result.count (book_of c.args.book.now c.args.pairs.now).type_effects) (span c.base_effects-base.result.first c.base_effects-base.result.count (book_of c.args.book.now c.args.pairs.now).type_effects)) c.loop-k.k c.effect_at-t.ensures.defined (λ d. c.is_doubled.ensures.defined c.base_effects-base.result d c.loop-k-test.true (omega (arith, c.base_effects-base.ensures.together.within, type_effects_length c.args.book.now c.args.pairs.now)) (c.effect_at-t.ensures.defined d))) c.loop-k-test.true (omega (arith, c.loop-k-test.true, turns_length (book_of c.args.book.now c.args.pairs.now).type_effects c.get_dogma_effects-own.result.first c.get_dogma_effects-own.result.count c.base_effects-base.result.first c.base_effects-base.result.count c.get_dogma_effects-own.ensures.together.within c.base_effects-base.ensures.together.within)) _ _ _ c.loop-k.invariant (ap not w.if-not-is_doubled.false))
+]
 
 pub returns : goal.returns
 returns c = record { defined = raise_end _ _ _ c.loop-k-test.false _ _ _ c.loop-k.invariant }

@@ -1,13 +1,5 @@
 -- `states::states_of` meets its contract. Assumes nothing.
 use Rattle.states.proofs.states_of.Goals as goal
-use Rattle.states.proofs.states_of.Reads as reads
-use Rattle.states.proofs.states_of.Lts as lts
-use Rattle.item.proofs.kinds.is_item.Reads as is-item-reads
-use Rattle.item.proofs.kinds.is_projected.Reads as is-projected-reads
-use Rattle.item.proofs.locations.is_on_char.Reads as is-on-char-reads
-use Rattle.states.proofs.able.Reads as able-reads
-use Rattle.states.proofs.collected_states.Reads as collected-states-reads
-use Rattle.states.proofs.is_passed_over.Reads as is-passed-over-reads
 use mathlib.Core.Path.{sym, ◌∙◌}
 use Rattle.rules.specs.Sheet.{book_of, fit_of}
 use Rattle.states.proofs.Standing.{number-inside, three, stands_projected, stands_off, stands_over, stands_collected}

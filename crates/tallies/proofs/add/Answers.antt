@@ -1,9 +1,5 @@
 -- `add` meets its contract. Assumes nothing.
 use Rattle.tallies.proofs.add.Goals as goal
-use Rattle.tallies.proofs.add.Reads as reads
-use Rattle.tallies.proofs.add.Lts as lts
-use Rattle.tallies.proofs.many.Reads as many-reads
-use Rattle.tallies.proofs.place.Reads as place-reads
 use native.Mathlib.Omega.{arith}
 use Rattle.tallies.proofs.Blocks.{added-by, added_none}
 

@@ -1,11 +1,7 @@
 -- `line_key` meets its contract. Assumes nothing.
 use Rattle.tallies.proofs.line_key.Goals as goal
-use Rattle.tallies.proofs.line_key.Reads as reads
-use Rattle.tallies.proofs.line_key.Lts as lts
-use Rattle.numbers.proofs.integers.bits.Reads as bits-reads
 use Prim.Native.Nat.{ℕ, ◌+◌, ◌*◌, ◌%◌}
-use native.Mathlib.Omega.{arith}
-use mathlib.Core.Path.{◌≡◌, ap, ◌∙◌}
+use mathlib.Core.Path.{ap, ◌∙◌}
 use mir.Syntax.{w32}
 use mir.Val.{of_z}
 use mir.Facts.{to_z-of_z}

@@ -1,12 +1,7 @@
 -- `place` meets its contract. The measure is how many places are left. Assumes nothing.
 use Rattle.tallies.proofs.place.Goals as goal
-use Rattle.tallies.proofs.place.Reads as reads
-use Rattle.tallies.proofs.place.Lts as lts
-use Rattle.laws.proofs.step.Reads as step-reads
-use Prim.Native.Nat.{◌+◌, ◌-◌, ◌/◌, ◌<◌}
+use Prim.Native.Nat.{◌/◌}
 use native.Mathlib.Omega.{arith}
-use mathlib.Core.Path.{refl}
-use Rattle.tallies.specs.Blocks.{Bounds}
 use Rattle.tallies.proofs.Blocks.{bounds_start, bounds_halved, bounds_one, bounds_inside}
 
 pub loop-left-init : goal.loop-left-init

@@ -1,13 +1,7 @@
 -- `tallied` meets its contract. Assumes nothing.
 use Rattle.tallies.proofs.tallied.Goals as goal
-use Rattle.tallies.proofs.tallied.Reads as reads
-use Rattle.tallies.proofs.tallied.Lts as lts
-use Rattle.laws.proofs.step.Reads as step-reads
-use Rattle.tallies.proofs.count.Reads as count-reads
-use Rattle.tallies.proofs.lay.Reads as lay-reads
 use native.Mathlib.Omega.{arith}
 use mathlib.Core.List.{map}
-use mathlib.Core.Path.{◌≡◌, refl, sym, ap, subst, ◌∙◌}
 use lib.ListN.{length-map}
 use Rattle.rules.specs.Sheet.{book_of, fit_of}
 use Rattle.info.proofs.Elements.{objects_length}

@@ -1,16 +1,14 @@
-use Rattle.tournament.proofs.first_broken.Given as goal
-use Prim.Native.Nat.{◌-◌}
-use native.Mathlib.Omega.{arith}
-use mathlib.Core.List.{map}
-use lib.ListN.{length}
+use Rattle.std.proofs.Common.{map, length, ◌-◌}
 use Rattle.rules.specs.Sheet.{book_of, fit_of}
 use Rattle.tallies.specs.Tallies.{line_of, counted}
-use Rattle.tournament.specs.Answered.{Reached, Passed}
-use mathlib.Core.Path.{subst}
-use Rattle.tournament.proofs.Judging.{reached_none, reached_all, next_less}
+use Rattle.tournament.specs.Answered.{Reached}
+use Rattle.tournament.proofs.first_broken.Given as goal
 
-abbrev pub invariant-loop-i : goal.invariant-loop-i
-invariant-loop-i l = Reached (map line_of l.lines) (counted (book_of l.book l.pairs) (fit_of l.fit l.pairs)) l.i l.points
+abbrev pub ghost-in_block : goal.ghost-in_block
+ghost-in_block a = counted (book_of a.book.now a.pairs.now) (fit_of a.fit.now a.pairs.now)
 
-abbrev pub decreases-loop-i : goal.decreases-loop-i
-decreases-loop-i l = length l.lines - l.i
+abbrev pub invariant-loop-at : goal.invariant-loop-at
+invariant-loop-at l = Reached (map line_of l.lines) (counted (book_of l.book l.pairs) (fit_of l.fit l.pairs)) l.at.next l.at.points
+
+abbrev pub decreases-loop-at : goal.decreases-loop-at
+decreases-loop-at l = length l.lines - l.at.next

@@ -25,14 +25,14 @@ slice_bounds-calculate_values-end c = omega (arith, c.requires.few.0, c.unstarte
 pub slice_bounds-calculate_values-end-2 : goal.slice_bounds-calculate_values-end-2
 slice_bounds-calculate_values-end-2 c = sym (length-take-le c.args.n c.unstarted.new.values (omega (arith, c.requires.few.0, c.unstarted.auto.values)))
 
-pub slice_bounds-calculate_values-end-3 : goal.slice_bounds-calculate_values-end-3
-slice_bounds-calculate_values-end-3 c = omega (arith, rows_wide c.args.book.now c.args.fit.now c.args.pairs.now c.requires.sound_book c.requires.sound_fit c.args.n c.args.run c.requires.listed, c.plan_sources.auto.rows)
+pub slice_bounds-columns-end : goal.slice_bounds-columns-end
+slice_bounds-columns-end c = omega (arith, rows_wide c.args.book.now c.args.fit.now c.args.pairs.now c.requires.sound_book c.requires.sound_fit c.args.n c.args.run c.requires.listed, c.plan_sources.auto.rows)
 
-pub slice_bounds-calculate_values-end-4 : goal.slice_bounds-calculate_values-end-4
-slice_bounds-calculate_values-end-4 c = sym (length-take-le c.args.n c.plan_sources.new.rows (omega (arith, rows_wide c.args.book.now c.args.fit.now c.args.pairs.now c.requires.sound_book c.requires.sound_fit c.args.n c.args.run c.requires.listed, c.plan_sources.auto.rows)))
+pub slice_bounds-columns-end-2 : goal.slice_bounds-columns-end-2
+slice_bounds-columns-end-2 c = sym (length-take-le c.args.n c.plan_sources.new.rows (omega (arith, rows_wide c.args.book.now c.args.fit.now c.args.pairs.now c.requires.sound_book c.requires.sound_fit c.args.n c.args.run c.requires.listed, c.plan_sources.auto.rows)))
 
-pub slice_bounds-calculate_values-end-5 : goal.slice_bounds-calculate_values-end-5
-slice_bounds-calculate_values-end-5 c = sym (length-take-le c.args.n c.args.bases.now (bases_wide c.args.book.now c.args.fit.now c.args.pairs.now c.requires.sound_book c.requires.sound_fit c.args.n c.args.run c.requires.listed))
+pub slice_bounds-columns-end-3 : goal.slice_bounds-columns-end-3
+slice_bounds-columns-end-3 c = sym (length-take-le c.args.n c.args.bases.now (bases_wide c.args.book.now c.args.fit.now c.args.pairs.now c.requires.sound_book c.requires.sound_fit c.args.n c.args.run c.requires.listed))
 
 pub calculate_values-requires : goal.calculate_values-requires
 calculate_values-requires c = record {

@@ -1,26 +1,11 @@
 -- `dogma_write_sheet` meets its contract. Assumes nothing.
+use Rattle.std.proofs.Common.{◌≡◌, [], length, arith}
+use Rattle.tables.specs.At.{book_now, fit_now}
+use Rattle.tables.specs.Tables.{together, written}
+use Rattle.write.proofs.Answers.{gives}
 use Rattle.write.proofs.dogma_write_sheet.Goals as goal
-use Rattle.write.proofs.dogma_write_sheet.Reads as reads
-use Rattle.write.proofs.dogma_write_sheet.Lts as lts
-use Rattle.lent.proofs.sheet_shape.Reads as sheet-shape-reads
-use Rattle.write.proofs.refused.Reads as refused-reads
-use Rattle.write.proofs.sheet_written.Reads as sheet-written-reads
-use Prim.Native.Nat.{◌+◌, ◌≤◌}
-use native.Mathlib.Omega.{arith}
-use mathlib.Core.Path.{◌≡◌, refl, sym, ◌∙◌}
-use mathlib.Core.List.{[]}
-use lib.ListN.{length}
-use Rattle.tables.specs.Tables.{book_tables, fit_tables, together, tables_bad, book_tables_bad, fit_tables_bad, sheet_of, book_file_of, fit_file_of, written, written_book, written_fit}
-use Rattle.put_tables.proofs.Whole.{book_few, fit_few}
-use Rattle.shape.proofs.Shapes.{sound_said}
-use Rattle.write.proofs.Answers.{judged_shape, judged-full, judged_sheet, given_shape, given-full, given_sheet}
 
-pub sheet_written-requires : goal.sheet_written-requires
-sheet_written-requires c = record { good = sound_said (tables_bad (together c.args.header.now (book_tables [] c.args.attributes.now c.args.defaults.now c.args.effects.now c.args.modifiers.now c.args.type_effects.now c.args.buff_collections.now) (fit_tables [] c.args.objects.now c.args.base_attributes.now c.args.base_values.now c.args.ids.now c.args.buffs.now c.args.buff_values.now c.args.asks.now))) (sym c.in-Sound.is ∙ c.sheet_shape-verdict.ensures.defined) }
-
-pub returns-in-Bad : goal.returns-in-Bad
-unfolding written
-returns-in-Bad c = record { the_sheet = given_shape (written (together c.args.header.now (book_tables [] c.args.attributes.now c.args.defaults.now c.args.effects.now c.args.modifiers.now c.args.type_effects.now c.args.buff_collections.now) (fit_tables [] c.args.objects.now c.args.base_attributes.now c.args.base_values.now c.args.ids.now c.args.buffs.now c.args.buff_values.now c.args.asks.now)) (length c.args.bytes.now)) (length c.args.bytes.now) c.refused.ensures.zeros (judged_shape (tables_bad (together c.args.header.now (book_tables [] c.args.attributes.now c.args.defaults.now c.args.effects.now c.args.modifiers.now c.args.type_effects.now c.args.buff_collections.now) (fit_tables [] c.args.objects.now c.args.base_attributes.now c.args.base_values.now c.args.ids.now c.args.buffs.now c.args.buff_values.now c.args.asks.now))) (sheet_of (together c.args.header.now (book_tables [] c.args.attributes.now c.args.defaults.now c.args.effects.now c.args.modifiers.now c.args.type_effects.now c.args.buff_collections.now) (fit_tables [] c.args.objects.now c.args.base_attributes.now c.args.base_values.now c.args.ids.now c.args.buffs.now c.args.buff_values.now c.args.asks.now))) (length c.args.bytes.now) c.sheet_shape-verdict.ensures.defined c.in-Bad.is) c.refused.ensures.answer }
-
-pub returns-in-Sound : goal.returns-in-Sound
-returns-in-Sound c = record { the_sheet = c.sheet_written.ensures.defined }
+pub returns : goal.returns
+returns c =
+    let long : length c.sheet_written-end.new.bytes ≡ length c.args.bytes.now = omega arith in
+    record { the_sheet = gives (written (together c.args.header.now (book_now c.args.attributes c.args.defaults c.args.effects c.args.modifiers c.args.type_effects c.args.buff_collections []) (fit_now c.args.objects c.args.base_attributes c.args.base_values c.args.ids c.args.buffs c.args.buff_values c.args.asks [])) (length c.args.bytes.now)) c.sheet_written-end.result c.args.bytes.now c.sheet_written-end.new.bytes c.sheet_written-end.ensures.defined long c.answered.ensures.answer c.answered.ensures.cleared }

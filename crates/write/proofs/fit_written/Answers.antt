@@ -1,39 +1,53 @@
 -- `fit_written` meets its contract. Assumes nothing.
-use Rattle.write.proofs.fit_written.Goals as goal
-use Rattle.write.proofs.fit_written.Reads as reads
-use Rattle.write.proofs.fit_written.Lts as lts
-use Rattle.put_tables.proofs.pairs.fit_length.Reads as fit-length-reads
-use Rattle.put_tables.proofs.put_fit_file.Reads as put-fit-file-reads
-use Rattle.write.proofs.done.Reads as done-reads
-use Rattle.write.proofs.refused.Reads as refused-reads
-use Prim.Native.Nat.{◌+◌, ◌≤◌}
-use native.Mathlib.Omega.{arith}
-use mathlib.Core.Path.{◌≡◌, refl, sym, ◌∙◌}
-use mathlib.Core.List.{[]}
-use lib.ListN.{length}
-use Rattle.tables.specs.Tables.{book_tables, fit_tables, together, tables_bad, book_tables_bad, fit_tables_bad, sheet_of, book_file_of, fit_file_of, written, written_book, written_fit}
-use Rattle.put_tables.proofs.Whole.{book_few, fit_few}
+use Rattle.std.proofs.Common.{◌≡◌, ◌≤◌, length, sym, ◌∙◌, arith}
+use Rattle.std.proofs.Math.Option.{none}
+use Rattle.std.proofs.lemmas.Result.{err_from_is_err_and}
 use Rattle.shape.proofs.Shapes.{sound_said}
-use Rattle.write.proofs.Answers.{judged_shape, judged-full, judged_sheet, given_shape, given-full, given_sheet}
+use Rattle.tables.specs.At.{fit_in}
+use Rattle.tables.specs.Tables.{Tables, fit_tables_bad, fit_file_of, written_fit}
 use Rattle.write.proofs.Allowed.{fit_file_ready, fit_fits_lem, fit_small, fit_lacks}
+use Rattle.write.proofs.Answers.{judged_shape, judged-full, judged_sheet}
+use Rattle.write.proofs.fit_written.Goals as goal
 
-pub fit_length-fit-requires : goal.fit_length-fit-requires
-fit_length-fit-requires c = record { few = fit_few (fit_tables [] c.args.objects.now c.args.base_attributes.now c.args.base_values.now c.args.ids.now c.args.buffs.now c.args.buff_values.now c.args.asks.now) (fit_file_ready c.args.header.now c.args.objects.now c.args.base_attributes.now c.args.base_values.now c.args.ids.now c.args.buffs.now c.args.buff_values.now c.args.asks.now c.requires.good) }
-
-pub overflow_add-fit : goal.overflow_add-fit
-overflow_add-fit c = record { fits = omega (arith, fit_small c.args.header.now c.args.objects.now c.args.base_attributes.now c.args.base_values.now c.args.ids.now c.args.buffs.now c.args.buff_values.now c.args.asks.now c.requires.good c.fit_length-fit.ensures.defined) }
-
-pub returns-then-bytes-fit : goal.returns-then-bytes-fit
+pub returns-in_err-fit_shape : goal.returns-in_err-fit_shape
 unfolding written_fit
-returns-then-bytes-fit c = record { defined = given-full (written_fit (fit_tables c.args.header.now c.args.objects.now c.args.base_attributes.now c.args.base_values.now c.args.ids.now c.args.buffs.now c.args.buff_values.now c.args.asks.now) (length c.args.bytes.now)) (length c.args.bytes.now) c.refused.ensures.zeros (judged-full (fit_tables_bad (fit_tables c.args.header.now c.args.objects.now c.args.base_attributes.now c.args.base_values.now c.args.ids.now c.args.buffs.now c.args.buff_values.now c.args.asks.now)) (fit_file_of (fit_tables c.args.header.now c.args.objects.now c.args.base_attributes.now c.args.base_values.now c.args.ids.now c.args.buffs.now c.args.buff_values.now c.args.asks.now)) (length c.args.bytes.now) c.requires.good (fit_lacks c.args.header.now c.args.objects.now c.args.base_attributes.now c.args.base_values.now c.args.ids.now c.args.buffs.now c.args.buff_values.now c.args.asks.now c.requires.good c.fit_length-fit.ensures.defined c.if-bytes-fit.true)) c.refused.ensures.answer }
+returns-in_err-fit_shape c =
+    let t : Tables = fit_in c.args.fit c.args.header.now in
+    let p = err_from_is_err_and c.from_residual.result c.from_residual.ensures.1 in
+    record { defined = rw (p.1, p.2) (judged_shape (fit_tables_bad t) (fit_file_of t) (length c.args.bytes.now) c.fit_shape.ensures.defined c.in_err-fit_shape.was) }
 
-pub put_fit_file-end-requires : goal.put_fit_file-end-requires
-put_fit_file-end-requires c = record {
-  ready = fit_file_ready c.args.header.now c.args.objects.now c.args.base_attributes.now c.args.base_values.now c.args.ids.now c.args.buffs.now c.args.buff_values.now c.args.asks.now c.requires.good;
-  room = fit_fits_lem c.args.header.now c.args.objects.now c.args.base_attributes.now c.args.base_values.now c.args.ids.now c.args.buffs.now c.args.buff_values.now c.args.asks.now c.requires.good c.fit_length-fit.ensures.defined c.if-bytes-fit.false;
-}
+pub length-room-requires : goal.length-room-requires
+length-room-requires c =
+    let t : Tables = fit_in c.args.fit c.args.header.now in
+    let good : fit_tables_bad t ≡ none = sound_said (fit_tables_bad t) (sym c.in_ok-fit_shape.was ∙ c.fit_shape.ensures.defined) in
+    record { few = (fit_file_ready c.args.fit c.args.header.now good).few }
+
+pub overflow_add-room : goal.overflow_add-room
+overflow_add-room c =
+    let t : Tables = fit_in c.args.fit c.args.header.now in
+    let good : fit_tables_bad t ≡ none = sound_said (fit_tables_bad t) (sym c.in_ok-fit_shape.was ∙ c.fit_shape.ensures.defined) in
+    record { fits = omega (arith, fit_small c.args.fit c.args.header.now good c.length-room.ensures.defined) }
+
+pub returns-then-bytes-room : goal.returns-then-bytes-room
+unfolding written_fit
+returns-then-bytes-room c =
+    let t : Tables = fit_in c.args.fit c.args.header.now in
+    let good : fit_tables_bad t ≡ none = sound_said (fit_tables_bad t) (sym c.in_ok-fit_shape.was ∙ c.fit_shape.ensures.defined) in
+    record { defined = judged-full (fit_tables_bad t) (fit_file_of t) (length c.args.bytes.now) good (fit_lacks c.args.fit c.args.header.now good c.length-room.ensures.defined c.if-bytes-room.true) }
+
+pub put_fit_file-requires : goal.put_fit_file-requires
+put_fit_file-requires c =
+    let t : Tables = fit_in c.args.fit c.args.header.now in
+    let good : fit_tables_bad t ≡ none = sound_said (fit_tables_bad t) (sym c.in_ok-fit_shape.was ∙ c.fit_shape.ensures.defined) in
+    record {
+      ready = fit_file_ready c.args.fit c.args.header.now good;
+      room = fit_fits_lem c.args.fit c.args.header.now good c.length-room.ensures.defined c.if-bytes-room.false;
+    }
 
 pub returns : goal.returns
 unfolding written_fit
-returns c = let fits = fit_fits_lem c.args.header.now c.args.objects.now c.args.base_attributes.now c.args.base_values.now c.args.ids.now c.args.buffs.now c.args.buff_values.now c.args.asks.now c.requires.good c.fit_length-fit.ensures.defined c.if-bytes-fit.false in
-    record { defined = given_sheet (written_fit (fit_tables c.args.header.now c.args.objects.now c.args.base_attributes.now c.args.base_values.now c.args.ids.now c.args.buffs.now c.args.buff_values.now c.args.asks.now) (length c.args.bytes.now)) (fit_file_of (fit_tables c.args.header.now c.args.objects.now c.args.base_attributes.now c.args.base_values.now c.args.ids.now c.args.buffs.now c.args.buff_values.now c.args.asks.now)) c.args.bytes.now (judged_sheet (fit_tables_bad (fit_tables c.args.header.now c.args.objects.now c.args.base_attributes.now c.args.base_values.now c.args.ids.now c.args.buffs.now c.args.buff_values.now c.args.asks.now)) (fit_file_of (fit_tables c.args.header.now c.args.objects.now c.args.base_attributes.now c.args.base_values.now c.args.ids.now c.args.buffs.now c.args.buff_values.now c.args.asks.now)) (length c.args.bytes.now) c.requires.good fits) fits c.put_fit_file-end.ensures.written c.done.ensures.answer c.done.ensures.cleared }
+returns c =
+    let t : Tables = fit_in c.args.fit c.args.header.now in
+    let good : fit_tables_bad t ≡ none = sound_said (fit_tables_bad t) (sym c.in_ok-fit_shape.was ∙ c.fit_shape.ensures.defined) in
+    let fits : length (fit_file_of t) ≤ length c.args.bytes.now = fit_fits_lem c.args.fit c.args.header.now good c.length-room.ensures.defined c.if-bytes-room.false in
+    record { defined = (fit_file_of t, judged_sheet (fit_tables_bad t) (fit_file_of t) (length c.args.bytes.now) good fits, fits, c.put_fit_file.ensures.written) }

@@ -1,47 +1,66 @@
 -- `sheet_written` meets its contract. Assumes nothing.
-use Rattle.write.proofs.sheet_written.Goals as goal
-use Rattle.write.proofs.sheet_written.Reads as reads
-use Rattle.write.proofs.sheet_written.Lts as lts
-use Rattle.put_tables.proofs.pairs.book_length.Reads as book-length-reads
-use Rattle.put_tables.proofs.pairs.fit_length.Reads as fit-length-reads
-use Rattle.put_tables.proofs.put_sheet.Reads as put-sheet-reads
-use Rattle.write.proofs.done.Reads as done-reads
-use Rattle.write.proofs.refused.Reads as refused-reads
-use Prim.Native.Nat.{◌+◌, ◌≤◌}
-use native.Mathlib.Omega.{arith}
-use mathlib.Core.Path.{◌≡◌, refl, sym, ◌∙◌}
-use mathlib.Core.List.{[]}
-use lib.ListN.{length}
-use Rattle.tables.specs.Tables.{book_tables, fit_tables, together, tables_bad, book_tables_bad, fit_tables_bad, sheet_of, book_file_of, fit_file_of, written, written_book, written_fit}
-use Rattle.put_tables.proofs.Whole.{book_few, fit_few}
+use Rattle.std.proofs.Common.{◌≡◌, ◌≤◌, [], length, refl, sym, ◌∙◌, arith}
+use Rattle.std.proofs.Math.Option.{none}
+use Rattle.std.proofs.lemmas.Result.{err_from_is_err_and}
 use Rattle.shape.proofs.Shapes.{sound_said}
-use Rattle.write.proofs.Answers.{judged_shape, judged-full, judged_sheet, given_shape, given-full, given_sheet}
+use Rattle.tables.specs.At.{book_in, fit_in}
+use Rattle.tables.specs.Tables.{Tables, together, tables_bad, sheet_of, written}
 use Rattle.write.proofs.Allowed.{sheet_book_ready, sheet_fit_ready, sheet_fits, sheet_small, sheet_lacks}
+use Rattle.write.proofs.Answers.{judged_shape, judged-full, judged_sheet}
+use Rattle.write.proofs.sheet_written.Goals as goal
 
-pub book_length-book-requires : goal.book_length-book-requires
-book_length-book-requires c = record { few = book_few (book_tables [] c.args.attributes.now c.args.defaults.now c.args.effects.now c.args.modifiers.now c.args.type_effects.now c.args.buff_collections.now) (sheet_book_ready c.args.header.now (book_tables [] c.args.attributes.now c.args.defaults.now c.args.effects.now c.args.modifiers.now c.args.type_effects.now c.args.buff_collections.now) (fit_tables [] c.args.objects.now c.args.base_attributes.now c.args.base_values.now c.args.ids.now c.args.buffs.now c.args.buff_values.now c.args.asks.now) c.requires.good) }
-
-pub fit_length-fit-requires : goal.fit_length-fit-requires
-fit_length-fit-requires c = record { few = fit_few (fit_tables [] c.args.objects.now c.args.base_attributes.now c.args.base_values.now c.args.ids.now c.args.buffs.now c.args.buff_values.now c.args.asks.now) (sheet_fit_ready c.args.header.now (book_tables [] c.args.attributes.now c.args.defaults.now c.args.effects.now c.args.modifiers.now c.args.type_effects.now c.args.buff_collections.now) (fit_tables [] c.args.objects.now c.args.base_attributes.now c.args.base_values.now c.args.ids.now c.args.buffs.now c.args.buff_values.now c.args.asks.now) c.requires.good) }
-
-pub overflow_add-book : goal.overflow_add-book
-overflow_add-book c = record { fits = omega (arith, sheet_small c.args.header.now (book_tables [] c.args.attributes.now c.args.defaults.now c.args.effects.now c.args.modifiers.now c.args.type_effects.now c.args.buff_collections.now) (fit_tables [] c.args.objects.now c.args.base_attributes.now c.args.base_values.now c.args.ids.now c.args.buffs.now c.args.buff_values.now c.args.asks.now) c.requires.good c.book_length-book.ensures.defined c.fit_length-fit.ensures.defined) }
-
-pub overflow_add-book-2 : goal.overflow_add-book-2
-overflow_add-book-2 c = record { fits = omega (arith, sheet_small c.args.header.now (book_tables [] c.args.attributes.now c.args.defaults.now c.args.effects.now c.args.modifiers.now c.args.type_effects.now c.args.buff_collections.now) (fit_tables [] c.args.objects.now c.args.base_attributes.now c.args.base_values.now c.args.ids.now c.args.buffs.now c.args.buff_values.now c.args.asks.now) c.requires.good c.book_length-book.ensures.defined c.fit_length-fit.ensures.defined) }
-
-pub returns-then-bytes-book : goal.returns-then-bytes-book
+pub returns-in_err-sheet_shape : goal.returns-in_err-sheet_shape
 unfolding written
-returns-then-bytes-book c = record { defined = given-full (written (together c.args.header.now (book_tables [] c.args.attributes.now c.args.defaults.now c.args.effects.now c.args.modifiers.now c.args.type_effects.now c.args.buff_collections.now) (fit_tables [] c.args.objects.now c.args.base_attributes.now c.args.base_values.now c.args.ids.now c.args.buffs.now c.args.buff_values.now c.args.asks.now)) (length c.args.bytes.now)) (length c.args.bytes.now) c.refused.ensures.zeros (judged-full (tables_bad (together c.args.header.now (book_tables [] c.args.attributes.now c.args.defaults.now c.args.effects.now c.args.modifiers.now c.args.type_effects.now c.args.buff_collections.now) (fit_tables [] c.args.objects.now c.args.base_attributes.now c.args.base_values.now c.args.ids.now c.args.buffs.now c.args.buff_values.now c.args.asks.now))) (sheet_of (together c.args.header.now (book_tables [] c.args.attributes.now c.args.defaults.now c.args.effects.now c.args.modifiers.now c.args.type_effects.now c.args.buff_collections.now) (fit_tables [] c.args.objects.now c.args.base_attributes.now c.args.base_values.now c.args.ids.now c.args.buffs.now c.args.buff_values.now c.args.asks.now))) (length c.args.bytes.now) c.requires.good (sheet_lacks c.args.header.now (book_tables [] c.args.attributes.now c.args.defaults.now c.args.effects.now c.args.modifiers.now c.args.type_effects.now c.args.buff_collections.now) (fit_tables [] c.args.objects.now c.args.base_attributes.now c.args.base_values.now c.args.ids.now c.args.buffs.now c.args.buff_values.now c.args.asks.now) c.requires.good c.book_length-book.ensures.defined c.fit_length-fit.ensures.defined c.if-bytes-book.true)) c.refused.ensures.answer }
+returns-in_err-sheet_shape c =
+    let t : Tables = together c.args.header.now (book_in c.args.book []) (fit_in c.args.fit []) in
+    let p = err_from_is_err_and c.from_residual.result c.from_residual.ensures.1 in
+    record { defined = rw (p.1, p.2) (judged_shape (tables_bad t) (sheet_of t) (length c.args.bytes.now) c.sheet_shape.ensures.defined c.in_err-sheet_shape.was) }
 
-pub put_sheet-end-requires : goal.put_sheet-end-requires
-put_sheet-end-requires c = record {
-  book_ready = sheet_book_ready c.args.header.now (book_tables [] c.args.attributes.now c.args.defaults.now c.args.effects.now c.args.modifiers.now c.args.type_effects.now c.args.buff_collections.now) (fit_tables [] c.args.objects.now c.args.base_attributes.now c.args.base_values.now c.args.ids.now c.args.buffs.now c.args.buff_values.now c.args.asks.now) c.requires.good;
-  fit_ready = sheet_fit_ready c.args.header.now (book_tables [] c.args.attributes.now c.args.defaults.now c.args.effects.now c.args.modifiers.now c.args.type_effects.now c.args.buff_collections.now) (fit_tables [] c.args.objects.now c.args.base_attributes.now c.args.base_values.now c.args.ids.now c.args.buffs.now c.args.buff_values.now c.args.asks.now) c.requires.good;
-  room = sheet_fits c.args.header.now (book_tables [] c.args.attributes.now c.args.defaults.now c.args.effects.now c.args.modifiers.now c.args.type_effects.now c.args.buff_collections.now) (fit_tables [] c.args.objects.now c.args.base_attributes.now c.args.base_values.now c.args.ids.now c.args.buffs.now c.args.buff_values.now c.args.asks.now) c.requires.good c.book_length-book.ensures.defined c.fit_length-fit.ensures.defined c.if-bytes-book.false;
-}
+pub length-requires : goal.length-requires
+length-requires c =
+    let t : Tables = together c.args.header.now (book_in c.args.book []) (fit_in c.args.fit []) in
+    let good : tables_bad t ≡ none = sound_said (tables_bad t) (sym c.in_ok-sheet_shape.was ∙ c.sheet_shape.ensures.defined) in
+    record { few = (sheet_book_ready c.args.header.now (book_in c.args.book []) (fit_in c.args.fit []) good).few }
+
+pub length-requires-2 : goal.length-requires-2
+length-requires-2 c =
+    let t : Tables = together c.args.header.now (book_in c.args.book []) (fit_in c.args.fit []) in
+    let good : tables_bad t ≡ none = sound_said (tables_bad t) (sym c.in_ok-sheet_shape.was ∙ c.sheet_shape.ensures.defined) in
+    record { few = (sheet_fit_ready c.args.header.now (book_in c.args.book []) (fit_in c.args.fit []) good).few }
+
+pub overflow_add-room : goal.overflow_add-room
+overflow_add-room c =
+    let t : Tables = together c.args.header.now (book_in c.args.book []) (fit_in c.args.fit []) in
+    let good : tables_bad t ≡ none = sound_said (tables_bad t) (sym c.in_ok-sheet_shape.was ∙ c.sheet_shape.ensures.defined) in
+    record { fits = omega (arith, sheet_small c.args.header.now (book_in c.args.book []) (fit_in c.args.fit []) good c.length.ensures.defined refl) }
+
+pub overflow_add-room-2 : goal.overflow_add-room-2
+overflow_add-room-2 c =
+    let t : Tables = together c.args.header.now (book_in c.args.book []) (fit_in c.args.fit []) in
+    let good : tables_bad t ≡ none = sound_said (tables_bad t) (sym c.in_ok-sheet_shape.was ∙ c.sheet_shape.ensures.defined) in
+    record { fits = omega (arith, sheet_small c.args.header.now (book_in c.args.book []) (fit_in c.args.fit []) good c.length.ensures.defined c.length-2.ensures.defined) }
+
+pub returns-then-bytes-room : goal.returns-then-bytes-room
+unfolding written
+returns-then-bytes-room c =
+    let t : Tables = together c.args.header.now (book_in c.args.book []) (fit_in c.args.fit []) in
+    let good : tables_bad t ≡ none = sound_said (tables_bad t) (sym c.in_ok-sheet_shape.was ∙ c.sheet_shape.ensures.defined) in
+    record { defined = judged-full (tables_bad t) (sheet_of t) (length c.args.bytes.now) good (sheet_lacks c.args.header.now (book_in c.args.book []) (fit_in c.args.fit []) good c.length.ensures.defined c.length-2.ensures.defined c.if-bytes-room.true) }
+
+pub put_sheet-requires : goal.put_sheet-requires
+put_sheet-requires c =
+    let t : Tables = together c.args.header.now (book_in c.args.book []) (fit_in c.args.fit []) in
+    let good : tables_bad t ≡ none = sound_said (tables_bad t) (sym c.in_ok-sheet_shape.was ∙ c.sheet_shape.ensures.defined) in
+    record {
+      book_ready = sheet_book_ready c.args.header.now (book_in c.args.book []) (fit_in c.args.fit []) good;
+      fit_ready = sheet_fit_ready c.args.header.now (book_in c.args.book []) (fit_in c.args.fit []) good;
+      room = sheet_fits c.args.header.now (book_in c.args.book []) (fit_in c.args.fit []) good c.length.ensures.defined c.length-2.ensures.defined c.if-bytes-room.false;
+    }
 
 pub returns : goal.returns
 unfolding written
-returns c = let fits = sheet_fits c.args.header.now (book_tables [] c.args.attributes.now c.args.defaults.now c.args.effects.now c.args.modifiers.now c.args.type_effects.now c.args.buff_collections.now) (fit_tables [] c.args.objects.now c.args.base_attributes.now c.args.base_values.now c.args.ids.now c.args.buffs.now c.args.buff_values.now c.args.asks.now) c.requires.good c.book_length-book.ensures.defined c.fit_length-fit.ensures.defined c.if-bytes-book.false in
-    record { defined = given_sheet (written (together c.args.header.now (book_tables [] c.args.attributes.now c.args.defaults.now c.args.effects.now c.args.modifiers.now c.args.type_effects.now c.args.buff_collections.now) (fit_tables [] c.args.objects.now c.args.base_attributes.now c.args.base_values.now c.args.ids.now c.args.buffs.now c.args.buff_values.now c.args.asks.now)) (length c.args.bytes.now)) (sheet_of (together c.args.header.now (book_tables [] c.args.attributes.now c.args.defaults.now c.args.effects.now c.args.modifiers.now c.args.type_effects.now c.args.buff_collections.now) (fit_tables [] c.args.objects.now c.args.base_attributes.now c.args.base_values.now c.args.ids.now c.args.buffs.now c.args.buff_values.now c.args.asks.now))) c.args.bytes.now (judged_sheet (tables_bad (together c.args.header.now (book_tables [] c.args.attributes.now c.args.defaults.now c.args.effects.now c.args.modifiers.now c.args.type_effects.now c.args.buff_collections.now) (fit_tables [] c.args.objects.now c.args.base_attributes.now c.args.base_values.now c.args.ids.now c.args.buffs.now c.args.buff_values.now c.args.asks.now))) (sheet_of (together c.args.header.now (book_tables [] c.args.attributes.now c.args.defaults.now c.args.effects.now c.args.modifiers.now c.args.type_effects.now c.args.buff_collections.now) (fit_tables [] c.args.objects.now c.args.base_attributes.now c.args.base_values.now c.args.ids.now c.args.buffs.now c.args.buff_values.now c.args.asks.now))) (length c.args.bytes.now) c.requires.good fits) fits c.put_sheet-end.ensures.written c.done.ensures.answer c.done.ensures.cleared }
+returns c =
+    let t : Tables = together c.args.header.now (book_in c.args.book []) (fit_in c.args.fit []) in
+    let good : tables_bad t ≡ none = sound_said (tables_bad t) (sym c.in_ok-sheet_shape.was ∙ c.sheet_shape.ensures.defined) in
+    let fits : length (sheet_of t) ≤ length c.args.bytes.now = sheet_fits c.args.header.now (book_in c.args.book []) (fit_in c.args.fit []) good c.length.ensures.defined c.length-2.ensures.defined c.if-bytes-room.false in
+    record { defined = (sheet_of t, judged_sheet (tables_bad t) (sheet_of t) (length c.args.bytes.now) good fits, fits, c.put_sheet.ensures.written) }

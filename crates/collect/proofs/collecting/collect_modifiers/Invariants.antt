@@ -1,18 +1,13 @@
 use Rattle.collect.proofs.collecting.collect_modifiers.Given as goal
-use Prim.Native.Nat.{◌-◌}
-use native.Mathlib.Omega.{arith}
-use mathlib.Core.Path.{◌≡◌, refl, sym, ◌∙◌}
+use mathlib.Core.Path.{◌≡◌}
 use lib.ListN.{length}
 use Rattle.rules.specs.Sheet.{book_of}
-use Rattle.modifier.specs.Causes.{cause_moves}
 use Rattle.modifier.specs.Ran.{at}
-use Rattle.modifier.proofs.Runs.{answered, was_refused}
+use Rattle.modifier.proofs.Loops.{Left}
 use Rattle.collect.proofs.Case.{Case}
-use Rattle.modifier.proofs.Loops.{Left, begin, next, refused_on, at_end_lem, counted-from, lent_kept}
-use Rattle.info.proofs.Elements.{modifiers_length}
 
 abbrev pub invariant-loop-i : goal.invariant-loop-i
-invariant-loop-i l = Left l.rooms (λ (x : Case l.cause). cause_moves (book_of l.book l.pairs) x.fit l.cause) (book_of l.book l.pairs).modifiers l.initial.i l.end (λ x. at l.initial.a l.initial.b l.initial.collected l.initial.collected_values x.column) (λ x. at l.a l.b l.collected l.collected_values x.column) l.i × ((length l.collected ≡ length l.initial.collected) × (length l.collected_values ≡ length l.initial.collected_values))
-
-abbrev pub decreases-loop-i : goal.decreases-loop-i
-decreases-loop-i l = l.end - l.i
+invariant-loop-i g l =
+    Left l.rooms (λ (x : Case (goal.F-post g l.gives)). x.moves) (book_of l.book l.pairs).modifiers l.initial.i l.end
+    (λ x. at l.initial.used.collected l.initial.used.plain l.initial.collected l.initial.collected_values x.column) (λ x. at l.used.collected l.used.plain l.collected l.collected_values x.column) l.i
+    × ((length l.collected ≡ length l.initial.collected) × (length l.collected_values ≡ length l.initial.collected_values))

@@ -1,13 +1,5 @@
 -- `objects::collect_object` meets its contract. Assumes nothing.
 use Rattle.collect.proofs.objects.collect_object.Goals as goal
-use Rattle.collect.proofs.objects.collect_object.Reads as reads
-use Rattle.collect.proofs.objects.collect_object.Lts as lts
-use Rattle.collect.proofs.effects.collect_effects.Reads as collect-effects-reads
-use Rattle.collect.proofs.objects.in_phase.Reads as in-phase-reads
-use Rattle.collect.proofs.owners.owner_of.Reads as owner-of-reads
-use Rattle.collect.proofs.projected.collect_projected.Reads as collect-projected-reads
-use Rattle.item.proofs.kinds.is_projected.Reads as is-projected-reads
-use Rattle.states.proofs.is_passed_over.Reads as is-passed-over-reads
 use native.Mathlib.Omega.{arith}
 use mathlib.Core.Path.{sym, ap, ◌∙◌}
 use Rattle.rules.specs.Sheet.{book_of, fit_of}
@@ -16,24 +8,14 @@ use Rattle.info.proofs.Elements.{objects_length}
 use Rattle.modifier.proofs.Runs.{ran_none, ran_same}
 use Rattle.collect.proofs.Phases.{out_of, over, projected, owned}
 
-pub returns-then-not-inside : goal.returns-then-not-inside
-returns-then-not-inside c = record { defined = sym (ran_none _ _) ∙ ran_same _ _ (out_of (book_of c.args.book.now c.args.pairs.now) (fit_of c.args.fit.now c.args.pairs.now) c.args.o c.args.phase (sym c.in_phase-inside.ensures.defined ∙ c.if-not-inside.true)) }
+pub returns-then-not-in_phase : goal.returns-then-not-in_phase
+returns-then-not-in_phase c = record { defined = sym (ran_none _ _) ∙ ran_same _ _ (out_of (book_of c.args.book.now c.args.pairs.now) (fit_of c.args.fit.now c.args.pairs.now) c.args.o c.args.phase (sym c.in_phase.ensures.defined ∙ c.if-not-in_phase.true)) }
 
-pub is_passed_over-over-requires : goal.is_passed_over-over-requires
-is_passed_over-over-requires c = record {
-  held_fit = c.requires.sound_fit.held;
-  inside = omega (arith, c.requires.of_fit.few, objects_length c.args.fit.now c.args.pairs.now);
-  of_the_fit = c.requires.hull_of_fit.structure;
-}
+pub is_passed_over-requires-clause-inside : goal.is_passed_over-requires-clause-inside
+is_passed_over-requires-clause-inside c = omega (arith, c.requires.of_fit.few, objects_length c.args.fit.now c.args.pairs.now)
 
-pub returns-then-over : goal.returns-then-over
-returns-then-over c = record { defined = sym (ran_none _ _) ∙ ran_same _ _ (over (book_of c.args.book.now c.args.pairs.now) (fit_of c.args.fit.now c.args.pairs.now) c.args.o c.args.phase (sym c.in_phase-inside.ensures.defined ∙ c.if-not-inside.false) (sym (c.is_passed_over-over.ensures.defined (book_of c.args.book.now c.args.pairs.now) c.requires.hull_of_fit.categories) ∙ c.if-over.true)) }
-
-pub owner_of-w-requires : goal.owner_of-w-requires
-owner_of-w-requires c = record {
-  held_fit = c.requires.sound_fit.held;
-  of_fit = c.requires.of_fit;
-}
+pub returns-then-is_passed_over : goal.returns-then-is_passed_over
+returns-then-is_passed_over c = record { defined = sym (ran_none _ _) ∙ ran_same _ _ (over (book_of c.args.book.now c.args.pairs.now) (fit_of c.args.fit.now c.args.pairs.now) c.args.o c.args.phase (sym c.in_phase.ensures.defined ∙ c.if-not-in_phase.false) (sym (c.is_passed_over.ensures.defined (book_of c.args.book.now c.args.pairs.now) c.requires.hull_of_fit.categories) ∙ c.if-is_passed_over.true)) }
 
 pub collect_projected-requires : goal.collect_projected-requires
 collect_projected-requires c = record {
@@ -45,7 +27,7 @@ collect_projected-requires c = record {
 }
 
 pub returns-then-is_projected : goal.returns-then-is_projected
-returns-then-is_projected c = record { defined = c.collect_projected.ensures.defined c.args.plain.now ∙ ran_same _ _ (ap (projected_moves (book_of c.args.book.now c.args.pairs.now) (fit_of c.args.fit.now c.args.pairs.now)) c.owner_of-w.ensures.of_the_fit.1 ∙ projected (book_of c.args.book.now c.args.pairs.now) (fit_of c.args.fit.now c.args.pairs.now) c.args.o c.args.phase (sym c.in_phase-inside.ensures.defined ∙ c.if-not-inside.false) (sym c.is_projected.ensures.defined ∙ c.if-is_projected.true)) }
+returns-then-is_projected c = record { defined = c.collect_projected.ensures.defined c.args.plain.now ∙ ran_same _ _ (ap (projected_moves (book_of c.args.book.now c.args.pairs.now) (fit_of c.args.fit.now c.args.pairs.now)) c.owner_of-w.ensures.of_the_fit.1 ∙ projected (book_of c.args.book.now c.args.pairs.now) (fit_of c.args.fit.now c.args.pairs.now) c.args.o c.args.phase (sym c.in_phase.ensures.defined ∙ c.if-not-in_phase.false) (sym c.is_projected.ensures.defined ∙ c.if-is_projected.true)) }
 
 pub collect_effects-requires : goal.collect_effects-requires
 collect_effects-requires c = record {
@@ -57,4 +39,4 @@ collect_effects-requires c = record {
 }
 
 pub returns : goal.returns
-returns c = record { defined = c.collect_effects.ensures.defined ∙ ran_same _ _ (ap (own_moves (book_of c.args.book.now c.args.pairs.now) (fit_of c.args.fit.now c.args.pairs.now)) c.owner_of-w.ensures.of_the_fit.1 ∙ owned (book_of c.args.book.now c.args.pairs.now) (fit_of c.args.fit.now c.args.pairs.now) c.args.o c.args.phase (sym c.in_phase-inside.ensures.defined ∙ c.if-not-inside.false) (sym (c.is_passed_over-over.ensures.defined (book_of c.args.book.now c.args.pairs.now) c.requires.hull_of_fit.categories) ∙ c.if-over.false) (sym c.is_projected.ensures.defined ∙ c.if-is_projected.false)) }
+returns c = record { defined = c.collect_effects.ensures.defined ∙ ran_same _ _ (ap (own_moves (book_of c.args.book.now c.args.pairs.now) (fit_of c.args.fit.now c.args.pairs.now)) c.owner_of-w.ensures.of_the_fit.1 ∙ owned (book_of c.args.book.now c.args.pairs.now) (fit_of c.args.fit.now c.args.pairs.now) c.args.o c.args.phase (sym c.in_phase.ensures.defined ∙ c.if-not-in_phase.false) (sym (c.is_passed_over.ensures.defined (book_of c.args.book.now c.args.pairs.now) c.requires.hull_of_fit.categories) ∙ c.if-is_passed_over.false) (sym c.is_projected.ensures.defined ∙ c.if-is_projected.false)) }

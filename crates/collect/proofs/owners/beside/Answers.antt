@@ -1,13 +1,12 @@
 -- `owners::beside` meets its contract. Assumes nothing.
 use Rattle.collect.proofs.owners.beside.Goals as goal
 use native.Mathlib.Omega.{arith}
-use mathlib.Core.Path.{refl}
+use mathlib.Core.Path.{sym}
+use Rattle.info.proofs.Elements.{objects_length}
+use Rattle.collect.proofs.Neighbours.{charge_beside}
 
-pub returns-then-is_item : goal.returns-then-is_item
-returns-then-is_item c = record { defined = rw (← c.is_item.ensures.defined, c.if-is_item.true) (omega arith) }
-
-pub returns-then-o-eq0 : goal.returns-then-o-eq0
-returns-then-o-eq0 c = record { defined = rw (← c.is_item.ensures.defined, c.if-is_item.false) (omega (arith, c.if-o-eq0.true)) }
+pub overflow_add-o : goal.overflow_add-o
+overflow_add-o c = record { fits = omega (arith, c.requires.of_fit.few, c.requires.held_fit.objects.few, objects_length c.args.fit.now c.args.pairs.now) }
 
 pub returns : goal.returns
-returns c = record { defined = rw (← c.is_item.ensures.defined, c.if-is_item.false) refl }
+returns c = record { defined = rw (c.then_some-2.ensures, c.saturating_sub.ensures, c.is_charge.ensures.defined) (charge_beside c.args.fit.now c.args.pairs.now c.args.o c.requires.of_fit (sym c.if-is_item.ensures.defined)) }

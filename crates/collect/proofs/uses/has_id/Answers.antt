@@ -1,28 +1,28 @@
--- `uses::has_id` meets its contract. What is left of the ids decides. Assumes nothing.
+-- `uses::has_id` meets its contract. Assumes nothing.
 use Rattle.collect.proofs.uses.has_id.Goals as goal
-use Prim.Native.Nat.{◌-◌}
+use Prim.Native.Nat.{ℕ, ◌+◌}
 use native.Mathlib.Omega.{arith}
-use mir.Syntax.{w32}
-use mir.Val.{to_z, of_z}
-use borrow.Author.Rules.{sfits_of}
+use mathlib.Core.Path.{refl, ◌∙◌}
+use lib.IntN.{ℤ, pos}
+use lib.ListN.{get_or}
+use Rattle.std.proofs.Common.{rules}
+use Rattle.std.proofs.lemmas.Iterator.{YieldsList-from_range}
+use Rattle.std.proofs.lemmas.Iterator.Search.{any_from_yields_List}
+use Rattle.laws.specs.Lists.{eq_z}
+use Rattle.laws.proofs.Signs.{eq_z-bits}
+use Rattle.laws.proofs.Order.{eq_z_sym}
 use Rattle.rules.specs.Sheet.{fit_of}
 use Rattle.info.proofs.Elements.{ids_length}
-use Rattle.collect.proofs.Seeking.{Seeking, seeking, sought_on, sought_here, sought_nowhere}
-
-pub loop-i-init : goal.loop-i-init
-loop-i-init c = seeking (fit_of c.args.fit.now c.args.pairs.now).ids (to_z w32 (of_z w32 c.args.id)) c.index-i.ensures.defined.0 c.index.ensures.defined.0
-
-pub id_at-x-requires : goal.id_at-x-requires
-id_at-x-requires c = record {
-  held_fit = c.requires.held_fit;
-  inside = omega (arith, c.loop-i-test.true, c.requires.inside, c.index-i.ensures.defined.0, c.index.ensures.defined.0);
-}
-
-pub returns-then-id-x : goal.returns-then-id-x
-returns-then-id-x c = record { defined = sought_here _ c.args.id c.ranges.id _ _ _ _ c.loop-i.invariant c.id_at-x.result (sfits_of c.id_at-x.type_inv) c.id_at-x.ensures.record_i c.loop-i-test.true (omega (arith, ids_length c.args.fit.now c.args.pairs.now, c.requires.inside, c.index-i.ensures.defined.0, c.index.ensures.defined.0)) c.if-id-x.true }
-
-pub loop-i-preserved : goal.loop-i-preserved
-loop-i-preserved c = sought_on _ c.args.id c.ranges.id _ _ _ _ c.loop-i.invariant c.id_at-x.result (sfits_of c.id_at-x.type_inv) c.id_at-x.ensures.record_i c.loop-i-test.true (omega (arith, ids_length c.args.fit.now c.args.pairs.now, c.requires.inside, c.index-i.ensures.defined.0, c.index.ensures.defined.0)) c.if-id-x.false
+use Rattle.states.proofs.Raising.{any-span}
 
 pub returns : goal.returns
-returns c = record { defined = sought_nowhere _ c.args.id c.ranges.id _ _ _ _ c.loop-i.invariant c.loop-i-test.false }
+returns c =
+    let ids = (fit_of c.args.fit.now c.args.pairs.now).ids in
+    let same = λ (x : ℤ). eq_z c.args.id x in
+    let at_places = λ (x : ℕ). same (get_or ids x (pos 0)) in
+    record {
+      defined =
+          any_from_yields_List at_places _ _ c.any.result c.any.ensures.ran
+          (YieldsList-from_range c.index-start.result (c.index-start.result + c.index.result) c.index.result refl (omega arith)) (λ x b q k. search (rules, eq_z-bits, eq_z_sym))
+          ∙ rw (c.index-start.ensures.defined.0, c.index.ensures.defined.0) (any-span same ids (pos 0) c.args.first c.args.count (omega (arith, c.requires.inside, ids_length c.args.fit.now c.args.pairs.now)));
+    }

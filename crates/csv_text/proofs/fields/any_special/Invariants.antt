@@ -1,13 +1,5 @@
 use Rattle.csv_text.proofs.fields.any_special.Given as goal
-use Rattle.csv_text.proofs.fields.any_special.Reads as reads
-use Rattle.csv_text.proofs.fields.any_special.Lts as lts
-use Rattle.csv_text.proofs.fields.is_special.Reads as is-special-reads
-use Prim.Native.Nat.{◌-◌}
-use lib.ListN.{length}
-use Rattle.csv_text.proofs.Special.{Plain, plain_none, plain_more, plain-all}
+use Rattle.csv_text.proofs.Special.{Plain}
 
-abbrev pub invariant-loop-i : goal.invariant-loop-i
-invariant-loop-i l = Plain l.text l.i l.found
-
-abbrev pub decreases-loop-i : goal.decreases-loop-i
-decreases-loop-i l = length l.text - l.i
+abbrev pub invariant-loop-b : goal.invariant-loop-b
+invariant-loop-b l = Plain l.text l.b-index l.found

@@ -1,7 +1,5 @@
 -- `fields::is_special` meets its contract. Assumes nothing.
 use Rattle.csv_text.proofs.fields.is_special.Goals as goal
-use Rattle.csv_text.proofs.fields.is_special.Reads as reads
-use Rattle.csv_text.proofs.fields.is_special.Lts as lts
 use Rattle.csv_text.proofs.Classes.{not-special, special-told}
 
 pub returns-then-b-gt-COMMA : goal.returns-then-b-gt-COMMA

@@ -1,14 +1,5 @@
 use Rattle.csv_text.proofs.fields.put_doubled.Given as goal
-use Rattle.csv_text.proofs.fields.put_doubled.Reads as reads
-use Rattle.csv_text.proofs.fields.put_doubled.Lts as lts
-use Rattle.csv_text.proofs.fields.put_twice.Reads as put-twice-reads
-use native.Mathlib.Omega.{arith}
-use Prim.Native.Nat.{◌-◌}
-use lib.ListN.{length}
-use Rattle.csv_text.proofs.Special.{Doubled, doubled_none, doubled_long, doubled-more, doubled-all}
+use Rattle.csv_text.proofs.Special.{Doubled}
 
-abbrev pub invariant-loop-i : goal.invariant-loop-i
-invariant-loop-i l = Doubled l.text l.at l.initial.out l.i l.end l.out
-
-abbrev pub decreases-loop-i : goal.decreases-loop-i
-decreases-loop-i l = length l.text - l.i
+abbrev pub invariant-loop-b : goal.invariant-loop-b
+invariant-loop-b l = Doubled l.text l.at l.initial.out l.b-index l.end l.out

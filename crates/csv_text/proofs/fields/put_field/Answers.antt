@@ -1,11 +1,5 @@
 -- `fields::put_field` meets its contract. Assumes nothing.
 use Rattle.csv_text.proofs.fields.put_field.Goals as goal
-use Rattle.csv_text.proofs.fields.put_field.Reads as reads
-use Rattle.csv_text.proofs.fields.put_field.Lts as lts
-use Rattle.csv_text.proofs.fields.any_special.Reads as any-special-reads
-use Rattle.csv_text.proofs.fields.put_doubled.Reads as put-doubled-reads
-use Rattle.listing.proofs.put_byte.Reads as put-byte-reads
-use Rattle.listing.proofs.put_text.Reads as put-text-reads
 use native.Mathlib.Omega.{arith}
 use mathlib.Core.Path.{sym, ◌∙◌}
 use mathlib.Core.List.{[], ◌∷◌, ◌++◌}

@@ -1,16 +1,8 @@
 -- `fields::put_record` meets its contract: each piece from where the one before it ended. Assumes nothing.
 use Rattle.csv_text.proofs.fields.put_record.Goals as goal
-use Rattle.csv_text.proofs.fields.put_record.Reads as reads
-use Rattle.csv_text.proofs.fields.put_record.Lts as lts
-use Rattle.csv_text.proofs.fields.put_field.Reads as put-field-reads
-use Rattle.listing.proofs.put_byte.Reads as put-byte-reads
-use Rattle.listing.proofs.put_integer.Reads as put-integer-reads
-use Rattle.listing.proofs.put_u32.Reads as put-u32-reads
-use Rattle.listing.proofs.put_value.Reads as put-value-reads
 use native.Mathlib.Omega.{arith}
-use mathlib.Core.Path.{refl, sym, ap, ◌∙◌}
-use mathlib.Core.List.{List, [], ◌∷◌}
-use lib.IntN.{ℤ}
+use mathlib.Core.Path.{◌∙◌}
+use mathlib.Core.List.{[], ◌∷◌}
 use mir.Syntax.{w32}
 use mir.Val.{to_z, of_z}
 use mir.ValLaws.{to_z-of_z}
@@ -19,7 +11,7 @@ use Rattle.rules.specs.Listing.{natural, integer, decimals}
 use Rattle.listing.specs.Put.{put}
 use Rattle.listing.proofs.Puts.{after, renamed}
 use Rattle.csv_text.specs.Csv.{field}
-use Rattle.csv_text.proofs.Plain.{ended, labelled, numbered, row_bytes, row_said}
+use Rattle.csv_text.proofs.Plain.{ended, labelled, numbered, row_said}
 
 pub put_u32-first-requires : goal.put_u32-first-requires
 put_u32-first-requires c = record { room = omega (arith, c.requires.room) }

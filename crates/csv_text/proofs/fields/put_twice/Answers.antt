@@ -1,8 +1,5 @@
 -- `fields::put_twice` meets its contract. Assumes nothing.
 use Rattle.csv_text.proofs.fields.put_twice.Goals as goal
-use Rattle.csv_text.proofs.fields.put_twice.Reads as reads
-use Rattle.csv_text.proofs.fields.put_twice.Lts as lts
-use Rattle.listing.proofs.put_byte.Reads as put-byte-reads
 use native.Mathlib.Omega.{arith}
 use mathlib.Core.List.{[], ◌∷◌}
 use Rattle.listing.specs.Put.{put}

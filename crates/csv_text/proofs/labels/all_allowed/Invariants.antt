@@ -1,13 +1,5 @@
 use Rattle.csv_text.proofs.labels.all_allowed.Given as goal
-use Rattle.csv_text.proofs.labels.all_allowed.Reads as reads
-use Rattle.csv_text.proofs.labels.all_allowed.Lts as lts
-use Rattle.csv_text.proofs.labels.is_allowed.Reads as is-allowed-reads
-use Prim.Native.Nat.{◌-◌}
-use lib.ListN.{length}
-use Rattle.csv_text.proofs.Judging.{Passed, passed_none, passed-more, passed-all}
+use Rattle.csv_text.proofs.Judging.{Passed}
 
-abbrev pub invariant-loop-i : goal.invariant-loop-i
-invariant-loop-i l = Passed l.text l.i l.good
-
-abbrev pub decreases-loop-i : goal.decreases-loop-i
-decreases-loop-i l = length l.text - l.i
+abbrev pub invariant-loop-b : goal.invariant-loop-b
+invariant-loop-b l = Passed l.text l.b-index l.good

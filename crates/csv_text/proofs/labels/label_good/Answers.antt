@@ -1,11 +1,7 @@
 -- `labels::label_good` meets its contract. Assumes nothing.
 use Rattle.csv_text.proofs.labels.label_good.Goals as goal
-use Rattle.csv_text.proofs.labels.label_good.Reads as reads
-use Rattle.csv_text.proofs.labels.label_good.Lts as lts
-use Rattle.csv_text.proofs.labels.all_allowed.Reads as all-allowed-reads
-use Rattle.info.proofs.little_endian.index.Reads as index_Reads
 use native.Mathlib.Omega.{arith}
-use mathlib.Core.Path.{◌≡◌, sym, ap, ◌∙◌}
+use mathlib.Core.Path.{ap, ◌∙◌}
 use Rattle.laws.specs.Lists.{every?}
 use Rattle.csv_text.specs.Labels.{allowed}
 use Rattle.csv_text.proofs.Judging.{too_long, outside, by_bytes, bytes_read, all_clean}

@@ -1,29 +1,13 @@
--- `labels::lower` meets its contract. The measure is how many labels are left.
+-- `labels::lower` meets its contract.
 use Rattle.csv_text.proofs.labels.lower.Goals as goal
-use Rattle.csv_text.proofs.labels.lower.Reads as reads
-use Rattle.csv_text.proofs.labels.lower.Lts as lts
-use Rattle.numbers.proofs.integers.signed.Reads as signed-Reads
-use native.Mathlib.Omega.{arith}
-use Prim.Native.Nat.{◌+◌, ◌≤◌}
-use mir.Syntax.{w32}
-use mir.Val.{to_z, of_z}
-use lib.ListN.{length}
-use mathlib.Core.Path.{◌≡◌, refl, sym, ap, ◌∙◌}
-use Rattle.csv_text.specs.Sought.{Lower}
-use Rattle.search.proofs.Steps.{told_less}
-use Rattle.csv_text.proofs.Seeking.{lower_start, lower_up, lower_down, lower_end, lower_own}
+use Rattle.std.proofs.Common.{rules, w32, to_z, of_z}
+use Rattle.std.proofs.lemmas.List.Sorted.{IsPartitionPoint-from_clause}
+use Rattle.csv_text.specs.Labels.{id_of}
+use Rattle.csv_text.proofs.Seeking.{lower_own, lower_at, falls_by}
+use Rattle.laws.proofs.Search.{less_than}
 
-pub loop-left-init : goal.loop-left-init
-loop-left-init c = (omega arith, lower_start _ _)
-
-pub loop-left-preserved-then-own-id : goal.loop-left-preserved-then-own-id
-loop-left-preserved-then-own-id c = (omega (arith, c.loop-left.invariant.0, c.loop-left-test.true), lower_up _ _ c.loop-left.invariant.1 c.loop-left-test.true (told_less c.signed-own.result _ _ c.signed-own.ensures.and_back ∙ c.if-own-id.true))
-
-pub loop-left-preserved : goal.loop-left-preserved
-loop-left-preserved c = (omega (arith, c.loop-left.invariant.0, c.loop-left-test.true), lower_down _ _ c.loop-left.invariant.1 c.loop-left-test.true (told_less c.signed-own.result _ _ c.signed-own.ensures.and_back ∙ c.if-own-id.false))
-
-pub returns : goal.returns
-returns c = record {
-  inside = omega (arith, c.loop-left.invariant.0);
-  defined = lower_own _ _ c.ranges.id (lower_end _ _ c.loop-left.invariant.1 c.loop-left-test.false);
-}
+pub returns-clause-defined : goal.returns-clause-defined
+returns-clause-defined c =
+    let own = to_z w32 (of_z w32 c.args.id) in
+    lower_own c.args.labels.now c.args.id c.ranges.id (λ f. lower_at c.args.labels.now own c.partition_point.ensures.bound
+    (IsPartitionPoint-from_clause (less_than id_of own) c.args.labels.now c.partition_point.result c.partition_point.ensures.partitioned (falls_by c.args.labels.now own f) (λ a r g k. search rules)))

@@ -1,9 +1,5 @@
 -- `labels::stands` meets its contract. Assumes nothing.
 use Rattle.csv_text.proofs.labels.stands.Goals as goal
-use Rattle.csv_text.proofs.labels.stands.Reads as reads
-use Rattle.csv_text.proofs.labels.stands.Lts as lts
-use Rattle.numbers.proofs.integers.signed.Reads as signed-Reads
-use mathlib.Core.Path.{refl, sym, ap, ◌∙◌}
 use mathlib.Core.List.{[]}
 use lib.ListN.{get_or}
 use Rattle.csv_text.specs.Labels.{id_of}

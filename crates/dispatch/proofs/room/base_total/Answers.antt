@@ -1,30 +1,7 @@
 -- `dispatch::room::base_total` meets its contract.
 use Rattle.dispatch.proofs.room.base_total.Goals as goal
-use Prim.Native.Nat.{ℕ, ◌-◌, ◌+◌, ◌*◌, ◌≤◌}
 use native.Mathlib.Omega.{arith}
-use mathlib.Core.Path.{◌≡◌, refl}
-use lib.ListN.{length}
-use Rattle.rules.specs.Bytes.{count_of}
-use Rattle.rules.specs.Sheet.{fit_of}
-use Rattle.dispatch.proofs.Bases.{keys_to, base_next, base_all}
-
-pub loop-i-init : goal.loop-i-init
-loop-i-init c = (omega arith, refl, omega arith)
-
-pub object-o-requires : goal.object-o-requires
-object-o-requires c = record {
-  held_fit = c.requires.sound_fit.held;
-  inside = omega (arith, c.count_of-objects.ensures.defined, c.loop-i-test.true);
-}
-
-pub overflow_add-total : goal.overflow_add-total
-overflow_add-total c = omega (arith, c.loop-i.invariant.2, c.loop-i.invariant.0, c.index-attributes.ensures.defined.1, c.requires.sound_fit.held.objects.few)
-
-pub overflow_add-i : goal.overflow_add-i
-overflow_add-i c = omega (arith, c.loop-i.invariant.0, c.requires.sound_fit.held.objects.few, c.count_of-objects.ensures.defined, c.loop-i-test.true)
-
-pub loop-i-smaller : goal.loop-i-smaller
-loop-i-smaller c = omega (arith, c.count_of-objects.ensures.defined, c.loop-i-test.true)
+use Rattle.dispatch.proofs.Bases.{base_next, base_all}
 
 pub loop-i-preserved : goal.loop-i-preserved
 loop-i-preserved c = (omega (arith, c.count_of-objects.ensures.defined, c.loop-i-test.true), base_next c.args.fit.now c.args.pairs.now c.requires.sound_fit c.loop-i.i (omega (arith, c.count_of-objects.ensures.defined, c.loop-i-test.true)) c.object-o.result c.object-o.ensures.record_i c.index-attributes.result c.index-attributes.ensures.defined.0 c.loop-i.total c.loop-i.invariant.1, omega (arith, c.loop-i.invariant.2, c.index-attributes.ensures.defined.1))

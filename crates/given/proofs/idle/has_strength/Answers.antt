@@ -9,17 +9,11 @@ use borrow.Author.Rules.{sfits_of}
 use Rattle.std.proofs.Common.{rules}
 use Rattle.given.proofs.Idling.{running_fine, buff_made, idle_made}
 
-pub returns-then-runs : goal.returns-then-runs
-returns-then-runs c = record { defined = λ h i row. running_fine h i row c.args.e c.args.e.origin c.requires.good.sourced (sym c.is_running-runs.ensures.defined ∙ c.if-runs.true) }
-
-pub listed_value-v-requires : goal.listed_value-v-requires
-listed_value-v-requires c = record {
-  judged = c.requires.judged;
-  an_object = rw c.in-Effect.is at c.requires.good.sourced;
-}
+pub returns-then-is_running : goal.returns-then-is_running
+returns-then-is_running c = record { defined = λ h i row. running_fine h i row c.args.e c.args.e.origin c.requires.good.sourced (sym c.is_running.ensures.defined ∙ c.if-is_running.true) }
 
 pub returns-in-Buff : goal.returns-in-Buff
 returns-in-Buff c = record { defined = λ h i row. buff_made h i row c.args.e _ _ c.in-Buff.is }
 
 pub returns-in-Effect : goal.returns-in-Effect
-returns-in-Effect c = let fits : mag c.in-Effect.attribute_id < 2 ^ 31 = search rules in record { defined = λ h i row. idle_made h i row c.args.e c.in-Effect.effect_id c.in-Effect.source c.in-Effect.source_category c.in-Effect.attribute_id c.in-Effect.is c.requires.good.sourced _ c.is_running-runs.ensures.defined c.if-runs.false _ _ (rw (to_z-of_z {w = w32} (sfits_of fits)) at (c.listed_value-v.ensures.defined h)) (c.is_held.ensures.defined h) }
+returns-in-Effect c = let fits : mag c.in-Effect.attribute_id < 2 ^ 31 = search rules in record { defined = λ h i row. idle_made h i row c.args.e c.in-Effect.effect_id c.in-Effect.source c.in-Effect.source_category c.in-Effect.attribute_id c.in-Effect.is c.requires.good.sourced _ c.is_running.ensures.defined c.if-is_running.false _ _ (rw (to_z-of_z {w = w32} (sfits_of fits)) at (c.listed_value-v.ensures.defined h)) (c.is_held.ensures.defined h) }

@@ -1,15 +1,9 @@
 use Rattle.given.proofs.idle.idles_have_strength.Given as goal
-use native.Mathlib.Omega.{arith}
-use Prim.Native.Nat.{◌-◌, ◌≤◌}
-use mathlib.Core.Path.{refl}
-use Rattle.memory.specs.Holding.{tables}
+use Prim.Native.Nat.{◌≤◌}
 use Rattle.memory.specs.Steps.{row_at}
-use Rattle.memory.proofs.Fitting.{fits_below}
+use Rattle.memory.specs.Holding.{tables_of}
 use Rattle.given.specs.Judging.{Judged}
-use Rattle.given.proofs.Idling.{Left, all_done, counted, placed-inside, place_inside, its_entry, its_good, entry_strong, entry_weak}
+use Rattle.given.proofs.Idling.{Left}
 
 abbrev pub invariant-loop-k : goal.invariant-loop-k
-invariant-loop-k l = (l.k ≤ l.count) × ((h : Judged (tables l.book l.pairs l.states l.stretches l.limits l.rows l.bases l.entries l.entry_values) l.values) → Left h l.row (row_at h.world l.row) l.k)
-
-abbrev pub decreases-loop-k : goal.decreases-loop-k
-decreases-loop-k l = l.count - l.k
+invariant-loop-k l = (l.k ≤ l.count) × ((h : Judged (tables_of l.columns) l.values) → Left h l.row (row_at h.world l.row) l.k)

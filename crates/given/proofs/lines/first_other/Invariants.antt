@@ -1,15 +1,10 @@
 use Rattle.given.proofs.lines.first_other.Given as goal
-use native.Mathlib.Omega.{arith}
-use Prim.Native.Nat.{◌-◌, ◌≤◌}
-use mathlib.Core.Path.{refl}
+use Prim.Native.Nat.{◌≤◌}
 use mathlib.Core.List.{List}
 use lib.ListN.{length}
 use Rattle.rules.specs.Dispatch.{Row}
 use Rattle.reading.specs.Held.{RowsHeld}
-use Rattle.given.proofs.Lining.{OtherLeft, line-missing, keys_on, keys_differ, line-more, keys_done}
+use Rattle.given.proofs.Lining.{OtherLeft}
 
 abbrev pub invariant-loop-i : goal.invariant-loop-i
 invariant-loop-i l = (l.i ≤ length l.rows) × ((rs : List Row) (H : RowsHeld rs l.rows) → OtherLeft H l.listing l.i)
-
-abbrev pub decreases-loop-i : goal.decreases-loop-i
-decreases-loop-i l = length l.rows - l.i

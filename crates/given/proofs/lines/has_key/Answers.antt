@@ -1,19 +1,6 @@
--- `lines::has_key` meets its contract. Assumes nothing.
+-- `lines::has_key` meets its contract.
 use Rattle.given.proofs.lines.has_key.Goals as goal
-use mathlib.Core.Path.{sym, ap, ◌∙◌}
-use mir.Syntax.{w32}
-use mir.Val.{of_z}
-use lib.IntN.{ℤ}
-use Rattle.given.proofs.Lining.{apart_keys, alike_keys}
+use mir.Facts.{of_z-to_z}
 
-pub returns-then-object-row : goal.returns-then-object-row
-returns-then-object-row c = record {
-  defined = apart_keys _ _ _ c.if-object-row.true;
-  and_back = sym (ap (of_z w32) c.signed-listed.ensures.defined) ∙ c.signed-listed.ensures.and_back;
-}
-
-pub returns : goal.returns
-returns c = record {
-  defined = alike_keys _ _ _ _ _ _ c.if-object-row.false c.signed-listed.ensures.and_back c.signed-own.ensures.and_back;
-  and_back = sym (ap (of_z w32) c.signed-listed.ensures.defined) ∙ c.signed-listed.ensures.and_back;
-}
+pub returns-then-line-row-clause-and_back : goal.returns-then-line-row-clause-and_back
+returns-then-line-row-clause-and_back c = of_z-to_z c.if-line-row.element_fits

@@ -1,13 +1,11 @@
 -- `lines::set_listed` meets its contract. Assumes nothing.
 use Rattle.given.proofs.lines.set_listed.Goals as goal
 use native.Mathlib.Omega.{arith}
-use Prim.Native.Nat.{◌-◌, ◌≤◌}
 use mathlib.Core.Path.{sym, ap}
 use mathlib.Core.List.{[]}
 use lib.Ieee.{Float}
-use lib.ListN.{length, get_or, take, set}
+use lib.ListN.{get_or, take, set}
 use lib.Seq.{length-take-le, take_all}
-use Rattle.laws.specs.Columns.{Col}
 use Rattle.laws.proofs.Laid.{col_none, col_same, col_next}
 use Rattle.laws.proofs.Maps.{take_next}
 use Rattle.given.specs.Judging.{shown_in}
@@ -15,17 +13,8 @@ use Rattle.given.specs.Judging.{shown_in}
 pub loop-i-init : goal.loop-i-init
 loop-i-init c = (omega arith, col_none shown_in _)
 
-pub offset_bounds-values-i : goal.offset_bounds-values-i
-offset_bounds-values-i c = omega (arith, c.loop-i-test.true, c.requires.inside, c.well_formed, c.loop-i.invariant.1.long)
-
-pub bounds-values-i : goal.bounds-values-i
-bounds-values-i c = omega (arith, c.loop-i-test.true, c.requires.inside, c.well_formed, c.loop-i.invariant.1.long)
-
 pub loop-i-preserved : goal.loop-i-preserved
-loop-i-preserved c = (omega (arith, c.loop-i-test.true), col_next shown_in (take c.loop-i.i c.args.listing.now) (get_or c.args.listing.now c.loop-i.i []) c.loop-i.i (take_next c.args.listing.now c.loop-i.i [] c.loop-i-test.true) c.loop-i.invariant.1 (sym (length-take-le c.loop-i.i c.args.listing.now (omega (arith, c.loop-i-test.true)))) (omega (arith, c.loop-i-test.true, c.requires.inside)) (ap (λ (x : Float). set c.loop-i.values c.loop-i.i x) c.listed_float-x.ensures.defined))
-
-pub shape_of-values : goal.shape_of-values
-shape_of-values c = c.loop-i.invariant.1.long
+loop-i-preserved c = (omega (arith, c.loop-i-test.true), col_next shown_in (take c.loop-i.i c.args.listing.now) (get_or c.args.listing.now c.loop-i.i []) c.loop-i.i (take_next c.args.listing.now c.loop-i.i [] c.loop-i-test.true) c.loop-i.invariant.1 (sym (length-take-le c.loop-i.i c.args.listing.now (omega (arith, c.loop-i-test.true)))) (omega (arith, c.loop-i-test.true, c.requires.inside)) (ap (λ (x : Float). set c.loop-i.values c.loop-i.i x) c.listed_float.ensures.defined))
 
 pub returns : goal.returns
 returns c = record { laid = col_same shown_in (sym (take_all c.loop-i.i c.args.listing.now c.loop-i-test.false)) c.loop-i.invariant.1 }

@@ -1,12 +1,5 @@
 -- `hits::columns` meets its contract.
 use Rattle.hits.proofs.reach.columns.Goals as goal
-use Rattle.hits.proofs.reach.columns.Reads as reads
-use Rattle.hits.proofs.reach.columns.Lts as lts
-use Rattle.numbers.proofs.integers.flag.Reads as flag-reads
-use Rattle.item.proofs.locations.is_in_ship.Reads as is-in-ship-reads
-use Rattle.item.proofs.locations.is_on_char.Reads as is-on-char-reads
-use Rattle.item.proofs.locations.is_owner_modifiable.Reads as is-owner-modifiable-reads
-use Rattle.numbers.proofs.integers.bits.Reads as bits-reads
 use mathlib.Core.Path.{ap, ◌∙◌}
 use borrow.Author.Rules.{sfits_of}
 use mir.Syntax.{w32}

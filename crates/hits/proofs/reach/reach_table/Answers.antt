@@ -1,26 +1,10 @@
 -- `reach::reach_table` meets its contract. The measure is how many objects are left.
 use Rattle.hits.proofs.reach.reach_table.Goals as goal
-use Rattle.hits.proofs.reach.reach_table.Reads as reads
-use Rattle.hits.proofs.reach.reach_table.Lts as lts
-use Rattle.hits.proofs.reach.reach_of.Reads as reach-of-reads
-use Rattle.info.proofs.header.count_of.Reads as count-of-reads
-use Prim.Native.Nat.{◌-◌}
-use mathlib.Core.Path.{◌≡◌}
-use native.Mathlib.Omega.{arith}
-use Rattle.rules.specs.Sheet.{book_of, fit_of}
 use Rattle.info.proofs.Elements.{objects_length}
-use Rattle.hits.specs.Reach.{reach_of}
-use Rattle.hits.proofs.Telling.{Telling, telling_none, telling_more, telling_all}
+use Rattle.hits.proofs.Telling.{telling_none, telling_more, telling_all}
 
 pub loop-i-init : goal.loop-i-init
 loop-i-init c = telling_none c.count_of-objects.ensures.defined (objects_length c.args.fit.now c.args.pairs.now) c.requires.roomy
-
-pub reach_of-row-requires : goal.reach_of-row-requires
-reach_of-row-requires c = record {
-  held_book = c.requires.held_book;
-  sound_fit = c.requires.sound_fit;
-  an_object = omega (arith, c.loop-i-test.true, c.count_of-objects.ensures.defined);
-}
 
 pub loop-i-preserved : goal.loop-i-preserved
 loop-i-preserved c = telling_more c.loop-i.invariant c.loop-i-test.true c.reach_of-row.ensures.defined

@@ -1,25 +1,10 @@
 -- `reach::skill_table` meets its contract. The measure is how many objects are left.
 use Rattle.hits.proofs.reach.skill_table.Goals as goal
-use Rattle.hits.proofs.reach.skill_table.Reads as reads
-use Rattle.hits.proofs.reach.skill_table.Lts as lts
-use Rattle.hits.proofs.reach.required_skills.Reads as required-skills-reads
-use Rattle.info.proofs.header.count_of.Reads as count-of-reads
-use Prim.Native.Nat.{◌-◌}
-use mathlib.Core.Path.{◌≡◌}
-use native.Mathlib.Omega.{arith}
-use Rattle.rules.specs.Sheet.{fit_of}
 use Rattle.info.proofs.Elements.{objects_length}
-use Rattle.hits.specs.Reach.{required_bits}
-use Rattle.hits.proofs.Telling.{Telling, telling_none, telling_more, telling_all}
+use Rattle.hits.proofs.Telling.{telling_none, telling_more, telling_all}
 
 pub loop-i-init : goal.loop-i-init
 loop-i-init c = telling_none c.count_of-objects.ensures.defined (objects_length c.args.fit.now c.args.pairs.now) c.requires.roomy
-
-pub required_skills-row-requires : goal.required_skills-row-requires
-required_skills-row-requires c = record {
-  sound_fit = c.requires.sound_fit;
-  an_object = omega (arith, c.loop-i-test.true, c.count_of-objects.ensures.defined);
-}
 
 pub loop-i-preserved : goal.loop-i-preserved
 loop-i-preserved c = telling_more c.loop-i.invariant c.loop-i-test.true c.required_skills-row.ensures.defined

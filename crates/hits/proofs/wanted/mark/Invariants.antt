@@ -1,14 +1,5 @@
 use Rattle.hits.proofs.wanted.mark.Given as goal
-use Rattle.hits.proofs.wanted.mark.Reads as reads
-use Rattle.hits.proofs.wanted.mark.Lts as lts
-use Prim.Native.Nat.{◌-◌}
-use native.Mathlib.Omega.{arith}
-use mathlib.Core.Path.{refl}
 use Rattle.hits.specs.Marks.{Marking}
-use Rattle.hits.proofs.Marking.{marking_none, marking_more, marking_all}
 
-abbrev pub invariant-loop-k : goal.invariant-loop-k
-invariant-loop-k l = Marking l.initial.wanted l.wanted l.row l.k
-
-abbrev pub decreases-loop-k : goal.decreases-loop-k
-decreases-loop-k l = 6 - l.k
+abbrev pub invariant-loop-required : goal.invariant-loop-required
+invariant-loop-required l = Marking l.initial.wanted l.wanted l.required-items l.required-index

@@ -1,8 +1,5 @@
 -- `wanted::worth` meets its contract.
 use Rattle.hits.proofs.wanted.worth.Goals as goal
-use Rattle.hits.proofs.wanted.worth.Reads as reads
-use Rattle.hits.proofs.wanted.worth.Lts as lts
-use Rattle.hits.proofs.none.Reads as none_reads
 use Rattle.hits.proofs.Skipping.{aims_unwanted}
 
 pub returns-then-marked-eq0 : goal.returns-then-marked-eq0

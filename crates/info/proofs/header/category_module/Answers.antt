@@ -1,6 +1,6 @@
 -- `header::category_module` meets its contract. Assumes nothing.
 use Rattle.info.proofs.header.category_module.Goals as goal
-use borrow.Author.Rules.{rules, sfits_of}
+use borrow.Author.Rules.{sfits_of}
 use Rattle.info.proofs.Elements.{kept}
 
 pub returns : goal.returns

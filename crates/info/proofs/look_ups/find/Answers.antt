@@ -1,9 +1,5 @@
 -- `look_ups::find` meets its contract: what stands at the bound decides. Assumes nothing.
 use Rattle.info.proofs.look_ups.find.Goals as goal
-use Rattle.info.proofs.look_ups.find.Reads as reads
-use Rattle.info.proofs.look_ups.find.Lts as lts
-use Rattle.info.proofs.look_ups.key_at.Reads as key-at-reads
-use Rattle.info.proofs.look_ups.lower_at.Reads as lower-at-reads
 use borrow.Author.Rules.{sfits_of}
 use Rattle.info.proofs.Searches.{lower_back, key_inside, key_same, key_apart, found_is, missing-is, past_is}
 

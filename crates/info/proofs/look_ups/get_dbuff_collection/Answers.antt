@@ -1,33 +1,27 @@
 -- `look_ups::get_dbuff_collection` meets its contract. Assumes nothing.
+use Rattle.laws.specs.Options.{option_of}
 use Rattle.info.proofs.look_ups.get_dbuff_collection.Goals as goal
-use Rattle.info.proofs.look_ups.get_dbuff_collection.Reads as reads
-use Rattle.info.proofs.look_ups.get_dbuff_collection.Lts as lts
-use Rattle.info.proofs.header.count_of.Reads as count-of-reads
-use Rattle.info.proofs.header.offset_of.Reads as offset-of-reads
-use Rattle.info.proofs.look_ups.find.Reads as find-reads
-use Rattle.info.proofs.records.buff_collection.Reads as buff-collection-reads
 use mathlib.Core.Path.{refl, sym, ap, ◌∙◌}
 use lib.Dec.{lit≤}
 use Rattle.rules.specs.Sheet.{book_of, buff_collection_from}
 use Rattle.rules.specs.Info.{get_dbuff_collection}
 use Rattle.rules.proofs.Verdicts.{buff_collections_ordered}
-use Rattle.info.specs.LookUps.{place_found}
 use Rattle.info.proofs.Finds.{asked, table_keyed, found_below, found_first, missing-first}
 
-pub find-found-requires : goal.find-found-requires
+pub find-requires : goal.find-requires
 unfolding book_of
-find-found-requires c = record { keyed = table_keyed buff_collection_from (λ r. r.id) (λ k r. refl) 5 (lit≤ tt) c.args.book.now c.args.pairs.now c.offset_of.ensures.defined c.count_of.ensures.defined c.requires.sound_book.held.buff_collections (buff_collections_ordered (book_of c.args.book.now c.args.pairs.now) c.requires.sound_book.good) }
+find-requires c = record { keyed = table_keyed buff_collection_from (λ r. r.id) (λ k r. refl) 5 (lit≤ tt) c.args.book.now c.args.pairs.now c.offset_of.ensures.defined c.count_of.ensures.defined c.requires.sound_book.held.buff_collections (buff_collections_ordered (book_of c.args.book.now c.args.pairs.now) c.requires.sound_book.good) }
 
-pub returns-in_default : goal.returns-in_default
+pub returns-in_err-i : goal.returns-in_err-i
 unfolding book_of get_dbuff_collection
-returns-in_default c = record { defined = missing-first buff_collection_from (λ r. r.id) (λ k r. refl) 5 (lit≤ tt) c.args.book.now c.args.pairs.now c.offset_of.ensures.defined c.count_of.ensures.defined c.args.id (asked c.args.book.now c.offset_of.result 16 c.count_of.result c.args.id c.ranges.id (sym (ap place_found c.in_default.is) ∙ c.find-found.ensures.defined)) }
+returns-in_err-i c = record { defined = ap option_of c.from_residual.ensures ∙ missing-first buff_collection_from (λ r. r.id) (λ k r. refl) 5 (lit≤ tt) c.args.book.now c.args.pairs.now c.offset_of.ensures.defined c.count_of.ensures.defined c.args.id (asked c.args.book.now c.offset_of.result 16 c.count_of.result c.args.id c.ranges.id (sym (ap option_of c.in_err-i.was) ∙ c.find.ensures.defined)) }
 
 pub buff_collection-requires : goal.buff_collection-requires
 buff_collection-requires c = record {
   held_book = c.requires.sound_book.held;
-  inside = found_below buff_collection_from (λ r. r.id) (λ k r. refl) 5 (lit≤ tt) c.args.book.now c.args.pairs.now c.offset_of.ensures.defined c.count_of.ensures.defined c.args.id (asked c.args.book.now c.offset_of.result 16 c.count_of.result c.args.id c.ranges.id (sym (ap place_found c.in-At.is) ∙ c.find-found.ensures.defined));
+  inside = found_below buff_collection_from (λ r. r.id) (λ k r. refl) 5 (lit≤ tt) c.args.book.now c.args.pairs.now c.offset_of.ensures.defined c.count_of.ensures.defined c.args.id (asked c.args.book.now c.offset_of.result 16 c.count_of.result c.args.id c.ranges.id (sym (ap option_of c.in_ok-i.was) ∙ c.find.ensures.defined));
 }
 
 pub returns : goal.returns
 unfolding book_of get_dbuff_collection
-returns c = record { defined = found_first buff_collection_from (λ r. r.id) (λ k r. refl) 5 (lit≤ tt) c.args.book.now c.args.pairs.now c.offset_of.ensures.defined c.count_of.ensures.defined c.args.id (asked c.args.book.now c.offset_of.result 16 c.count_of.result c.args.id c.ranges.id (sym (ap place_found c.in-At.is) ∙ c.find-found.ensures.defined)) c.buff_collection.ensures.record_i }
+returns c = record { defined = found_first buff_collection_from (λ r. r.id) (λ k r. refl) 5 (lit≤ tt) c.args.book.now c.args.pairs.now c.offset_of.ensures.defined c.count_of.ensures.defined c.args.id (asked c.args.book.now c.offset_of.result 16 c.count_of.result c.args.id c.ranges.id (sym (ap option_of c.in_ok-i.was) ∙ c.find.ensures.defined)) c.buff_collection.ensures.record_i }

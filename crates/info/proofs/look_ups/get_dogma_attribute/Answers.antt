@@ -1,8 +1,5 @@
 -- `look_ups::get_dogma_attribute` meets its contract. Assumes nothing.
 use Rattle.info.proofs.look_ups.get_dogma_attribute.Goals as goal
-use Rattle.info.proofs.look_ups.get_dogma_attribute.Reads as reads
-use Rattle.info.proofs.look_ups.get_dogma_attribute.Lts as lts
-use Rattle.info.proofs.look_ups.attribute_by.Reads as attribute-by-reads
 use mathlib.Core.Path.{ap, ◌∙◌}
 use mir.Syntax.{w32}
 use mir.ValLaws.{to_z-of_z}

@@ -1,13 +1,5 @@
 -- `look_ups::get_dogma_effects` meets its contract. Assumes nothing.
 use Rattle.info.proofs.look_ups.get_dogma_effects.Goals as goal
-use Rattle.info.proofs.look_ups.get_dogma_effects.Reads as reads
-use Rattle.info.proofs.look_ups.get_dogma_effects.Lts as lts
-use Rattle.info.proofs.header.count_of.Reads as count-of-reads
-use Rattle.info.proofs.header.offset_of.Reads as offset-of-reads
-use Rattle.info.proofs.look_ups.lower_at.Reads as lower-at-reads
-use Rattle.info.proofs.look_ups.run_end.Reads as run-end-reads
-use Rattle.info.proofs.places.effect_slot.Reads as effect-slot-reads
-use Rattle.info.proofs.places.place_of.Reads as place-of-reads
 use mathlib.Core.Path.{refl, subst}
 use lib.Dec.{lit≤}
 use lib.IntN.{ℤ}

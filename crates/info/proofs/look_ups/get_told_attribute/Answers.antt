@@ -1,10 +1,5 @@
 -- `look_ups::get_told_attribute` meets its contract. Assumes nothing.
 use Rattle.info.proofs.look_ups.get_told_attribute.Goals as goal
-use Rattle.info.proofs.look_ups.get_told_attribute.Reads as reads
-use Rattle.info.proofs.look_ups.get_told_attribute.Lts as lts
-use Rattle.info.proofs.look_ups.attribute_by.Reads as attribute-by-reads
-use Rattle.info.proofs.places.attribute_slot.Reads as attribute-slot-reads
-use Rattle.info.proofs.places.place_of.Reads as place-of-reads
 use mathlib.Core.Path.{ap, ◌∙◌}
 use mir.Syntax.{w32}
 use mir.ValLaws.{to_z-of_z}

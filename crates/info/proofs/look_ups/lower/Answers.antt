@@ -1,18 +1,10 @@
 -- `look_ups::lower` meets its contract. The lesser of the places before k are counted. The measure is what is left of the window. Assumes nothing.
 use Rattle.info.proofs.look_ups.lower.Goals as goal
-use Rattle.info.proofs.look_ups.lower.Reads as reads
-use Rattle.info.proofs.look_ups.lower.Lts as lts
-use Rattle.laws.proofs.step.Reads as step-reads
-use Rattle.info.proofs.look_ups.key_at.Reads as key-at-reads
-use Rattle.info.proofs.look_ups.narrowed.Reads as narrowed-reads
-use Prim.Native.Nat.{◌-◌}
 use native.Mathlib.Omega.{arith}
 use borrow.Author.Rules.{sfits_of}
 use mathlib.Core.Path.{refl}
-use mir.Syntax.{w32}
-use mir.Val.{to_z}
 use Rattle.laws.proofs.Windows.{counted_start, counted_end}
-use Rattle.info.proofs.Searches.{CountedBelow, bounds_back, bounds_high, counts-more, key_inside, key_less}
+use Rattle.info.proofs.Searches.{bounds_back, bounds_high, counts-more, key_inside, key_less}
 
 pub overflow_add-end : goal.overflow_add-end
 overflow_add-end c = omega (arith, bounds_high _ _ _ _ _ c.requires.keyed c.narrowed-window.ensures.narrowed, c.ranges.n.fits)
@@ -25,9 +17,6 @@ key_at-key-requires c = record { inside = key_inside _ _ _ _ c.requires.keyed _ 
 
 pub overflow_add-found : goal.overflow_add-found
 overflow_add-found c = omega (arith, c.loop-k.invariant.within, bounds_high _ _ _ _ _ c.requires.keyed c.narrowed-window.ensures.narrowed, c.loop-k-test.true, c.ranges.n.fits)
-
-pub overflow_add-k : goal.overflow_add-k
-overflow_add-k c = omega (arith, c.loop-k.invariant.within, bounds_high _ _ _ _ _ c.requires.keyed c.narrowed-window.ensures.narrowed, c.loop-k-test.true, c.ranges.n.fits)
 
 pub loop-k-preserved : goal.loop-k-preserved
 loop-k-preserved c = counts-more _ _ _ _ _ c.requires.keyed c.loop-k.invariant (omega (arith, bounds_high _ _ _ _ _ c.requires.keyed c.narrowed-window.ensures.narrowed, c.loop-k-test.true)) (key_less (sfits_of c.key_at-key.type_inv) c.key_at-key.ensures.defined _ _ refl) c.step-found.ensures.defined

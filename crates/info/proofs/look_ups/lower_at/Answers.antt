@@ -1,9 +1,5 @@
 -- `look_ups::lower_at` meets its contract: a told place is tested. Assumes nothing.
 use Rattle.info.proofs.look_ups.lower_at.Goals as goal
-use Rattle.info.proofs.look_ups.lower_at.Reads as reads
-use Rattle.info.proofs.look_ups.lower_at.Lts as lts
-use Rattle.info.proofs.look_ups.key_at.Reads as key-at-reads
-use Rattle.info.proofs.look_ups.lower.Reads as lower-reads
 use native.Mathlib.Omega.{arith}
 use mathlib.Core.Path.{refl}
 use borrow.Author.Rules.{sfits_of}

@@ -1,11 +1,5 @@
 -- `places::attribute_places` meets its contract: it stays inside. The measure is how many records are left. Assumes nothing.
 use Rattle.info.proofs.places.attribute_places.Goals as goal
-use Rattle.info.proofs.places.attribute_places.Reads as reads
-use Rattle.info.proofs.places.attribute_places.Lts as lts
-use Rattle.info.proofs.header.count_of.Reads as count-of-reads
-use Rattle.info.proofs.places.attribute_slot.Reads as attribute-slot-reads
-use Rattle.info.proofs.records.attribute.Reads as attribute-reads
-use Prim.Native.Nat.{◌-◌}
 use native.Mathlib.Omega.{arith}
 
 pub loop-i-init : goal.loop-i-init
@@ -19,9 +13,6 @@ attribute-a-requires c = record {
 
 pub overflow_cast-place : goal.overflow_cast-place
 overflow_cast-place c = omega (arith, c.loop-i-test.true, c.count_of-n.ensures.defined, c.requires.held_book.attributes.few)
-
-pub overflow_add-i : goal.overflow_add-i
-overflow_add-i c = omega (arith, c.loop-i-test.true, c.count_of-n.ensures.defined, c.requires.held_book.attributes.few)
 
 pub loop-i-preserved : goal.loop-i-preserved
 loop-i-preserved c = tt

@@ -1,11 +1,5 @@
 -- `places::tell_effects` meets its contract: it stays inside. The measure is how many records are left. Assumes nothing.
 use Rattle.info.proofs.places.tell_effects.Goals as goal
-use Rattle.info.proofs.places.tell_effects.Reads as reads
-use Rattle.info.proofs.places.tell_effects.Lts as lts
-use Rattle.info.proofs.header.count_of.Reads as count-of-reads
-use Rattle.info.proofs.places.effect_slot.Reads as effect-slot-reads
-use Rattle.info.proofs.records.effect.Reads as effect-reads
-use Prim.Native.Nat.{◌-◌}
 use native.Mathlib.Omega.{arith}
 
 pub loop-i-init : goal.loop-i-init
@@ -19,9 +13,6 @@ effect-e-requires c = record {
 
 pub overflow_cast-place : goal.overflow_cast-place
 overflow_cast-place c = omega (arith, c.loop-i-test.true, c.count_of-n.ensures.defined, c.requires.held_book.effects.few)
-
-pub overflow_add-i : goal.overflow_add-i
-overflow_add-i c = omega (arith, c.loop-i-test.true, c.count_of-n.ensures.defined, c.requires.held_book.effects.few)
 
 pub loop-i-preserved : goal.loop-i-preserved
 loop-i-preserved c = tt

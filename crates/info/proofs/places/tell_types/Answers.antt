@@ -1,13 +1,6 @@
 -- `places::tell_types` meets its contract: it stays inside. The measure is how many records are left. Assumes nothing.
 use Rattle.info.proofs.places.tell_types.Goals as goal
-use Rattle.info.proofs.places.tell_types.Reads as reads
-use Rattle.info.proofs.places.tell_types.Lts as lts
-use Rattle.info.proofs.header.count_of.Reads as count-of-reads
-use Rattle.info.proofs.places.effect_slot.Reads as effect-slot-reads
-use Rattle.info.proofs.records.type_effect.Reads as type-effect-reads
-use Prim.Native.Nat.{◌≤◌}
 use native.Mathlib.Omega.{arith}
-use Rattle.rules.specs.Bytes.{count_of}
 
 pub loop-i-init : goal.loop-i-init
 loop-i-init c = omega (arith, c.count_of-i.ensures.defined)

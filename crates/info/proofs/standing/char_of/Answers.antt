@@ -1,8 +1,5 @@
 -- `standing::char_of` meets its contract.
 use Rattle.info.proofs.standing.char_of.Goals as goal
-use Rattle.info.proofs.standing.char_of.Reads as reads
-use Rattle.info.proofs.standing.char_of.Lts as lts
-use Rattle.info.proofs.records.object.Reads as object-reads
 use native.Mathlib.Omega.{arith}
 use Rattle.rules.specs.Item.{no_item}
 use Rattle.rules.specs.Sheet.{fit_of}

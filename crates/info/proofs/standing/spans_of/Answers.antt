@@ -1,12 +1,7 @@
 -- `standing::spans_of` meets its contract.
 use Rattle.info.proofs.standing.spans_of.Goals as goal
-use Rattle.info.proofs.standing.spans_of.Reads as reads
-use Rattle.info.proofs.standing.spans_of.Lts as lts
-use Rattle.info.proofs.standing.char_of.Reads as char-of-reads
-use Rattle.info.proofs.standing.first_skill.Reads as first-skill-reads
-use Rattle.info.proofs.header.count_of.Reads as count-of-reads
 use native.Mathlib.Omega.{arith}
-use mathlib.Core.Path.{◌≡◌, sym, ap, ◌∙◌}
+use mathlib.Core.Path.{sym, ap, ◌∙◌}
 use Prim.Native.Nat.{ℕ, ◌+◌}
 use Rattle.rules.specs.Sheet.{fit_of}
 use Rattle.info.proofs.Elements.{objects_length}

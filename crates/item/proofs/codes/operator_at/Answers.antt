@@ -1,7 +1,5 @@
 -- `codes::operator_at` meets its contract. Assumes nothing.
 use Rattle.item.proofs.codes.operator_at.Goals as goal
-use Rattle.item.proofs.codes.operator_at.Reads as reads
-use Rattle.item.proofs.codes.operator_at.Lts as lts
 use mathlib.Core.Path.{sym, ap}
 use Rattle.rules.specs.Codes.{operators, operator_at}
 use Rattle.item.proofs.Back.{nth_past, past_all}

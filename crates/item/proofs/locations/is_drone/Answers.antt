@@ -1,7 +1,5 @@
 -- `locations::is_drone` meets its contract. Assumes nothing.
 use Rattle.item.proofs.locations.is_drone.Goals as goal
-use Rattle.item.proofs.locations.is_drone.Reads as reads
-use Rattle.item.proofs.locations.is_drone.Lts as lts
 use lib.IntN.{pos}
 use mir.Syntax.{w32}
 use borrow.Author.Rules.{sfits_of}

@@ -1,7 +1,5 @@
 -- `locations::is_fighter` meets its contract. Assumes nothing.
 use Rattle.item.proofs.locations.is_fighter.Goals as goal
-use Rattle.item.proofs.locations.is_fighter.Reads as reads
-use Rattle.item.proofs.locations.is_fighter.Lts as lts
 use lib.IntN.{pos}
 use mir.Syntax.{w32}
 use borrow.Author.Rules.{sfits_of}

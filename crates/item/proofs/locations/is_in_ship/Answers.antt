@@ -1,9 +1,5 @@
 -- `locations::is_in_ship` meets its contract. Assumes nothing.
 use Rattle.item.proofs.locations.is_in_ship.Goals as goal
-use Rattle.item.proofs.locations.is_in_ship.Reads as reads
-use Rattle.item.proofs.locations.is_in_ship.Lts as lts
-use Rattle.item.proofs.locations.is_module.Reads as is-module-reads
-use Rattle.item.proofs.locations.is_module_category.Reads as is-module-category-reads
 use mir.Syntax.{w32}
 use mir.ValLaws.{to_z-of_z}
 use borrow.Author.Rules.{sfits_of}

@@ -1,8 +1,5 @@
 -- `locations::is_module` meets its contract. Assumes nothing.
 use Rattle.item.proofs.locations.is_module.Goals as goal
-use Rattle.item.proofs.locations.is_module.Reads as reads
-use Rattle.item.proofs.locations.is_module.Lts as lts
-use Rattle.item.proofs.locations.is_module_category.Reads as is-module-category-reads
 use mir.Syntax.{w32}
 use mir.ValLaws.{to_z-of_z}
 use borrow.Author.Rules.{sfits_of}

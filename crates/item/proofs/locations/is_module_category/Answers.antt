@@ -1,8 +1,6 @@
 -- `locations::is_module_category` meets its contract. Assumes nothing.
 -- the machine's == against a field that is n
 use Rattle.item.proofs.locations.is_module_category.Goals as goal
-use Rattle.item.proofs.locations.is_module_category.Reads as reads
-use Rattle.item.proofs.locations.is_module_category.Lts as lts
 use lib.IntN.{ℤ}
 use mir.Syntax.{w32}
 use mir.Val.{SFits, of_z}

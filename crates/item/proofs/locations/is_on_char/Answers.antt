@@ -1,7 +1,5 @@
 -- `locations::is_on_char` meets its contract. Assumes nothing.
 use Rattle.item.proofs.locations.is_on_char.Goals as goal
-use Rattle.item.proofs.locations.is_on_char.Reads as reads
-use Rattle.item.proofs.locations.is_on_char.Lts as lts
 use lib.IntN.{pos}
 use mir.Syntax.{w32}
 use borrow.Author.Rules.{sfits_of}

@@ -1,9 +1,5 @@
 -- `states::category_on` meets its contract. Assumes nothing.
 use Rattle.item.proofs.states.category_on.Goals as goal
-use Rattle.item.proofs.states.category_on.Reads as reads
-use Rattle.item.proofs.states.category_on.Lts as lts
-use Rattle.item.proofs.locations.is_rig.Reads as is-rig-reads
-use Rattle.item.proofs.states.is_passive.Reads as is-passive-reads
 
 pub returns-then-is_rig-is_passive : goal.returns-then-is_rig-is_passive
 returns-then-is_rig-is_passive c = record { defined = rw (← c.is_rig.ensures.defined, ← c.is_passive.ensures.defined, c.if-is_rig-is_passive.true) }

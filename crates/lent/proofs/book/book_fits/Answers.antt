@@ -6,4 +6,4 @@ use Rattle.lent.proofs.Verdicts.{book_fits_by}
 
 pub returns : goal.returns
 unfolding book_fits
-returns c = record { defined = book_fits_by (length c.args.attributes.now) (length c.args.defaults.now) (length c.args.effects.now) (length c.args.modifiers.now) (length c.args.type_effects.now) (length c.args.buff_collections.now) }
+returns c = record { defined = book_fits_by (length c.args.book.attributes.now) (length c.args.book.defaults.now) (length c.args.book.effects.now) (length c.args.book.modifiers.now) (length c.args.book.type_effects.now) (length c.args.book.buff_collections.now) }

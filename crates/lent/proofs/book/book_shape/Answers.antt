@@ -1,21 +1,15 @@
 -- `book::book_shape` meets its contract. Assumes nothing.
+use Rattle.tables.specs.At.{book_in}
 use Rattle.lent.proofs.book.book_shape.Goals as goal
-use Rattle.lent.proofs.book.book_shape.Reads as reads
-use Rattle.lent.proofs.book.book_shape.Lts as lts
-use Rattle.lent.proofs.book.book_bad.Reads as book-bad-reads
-use Rattle.lent.proofs.book.book_fits.Reads as book-fits-reads
-use Rattle.shape.proofs.Scans.{passed, failed}
-use mathlib.Core.Path.{◌≡◌, refl, sym, ◌∙◌}
-use mathlib.Core.List.{[], ◌∷◌}
-use lib.ListN.{length, get_or}
-use Rattle.tables.specs.Tables.{book_tables, fit_tables}
+use Rattle.shape.proofs.Scans.{passed}
+use mathlib.Core.List.{[]}
 use Rattle.lent.proofs.Verdicts.{book_header_bad, book_judged}
 
 pub returns-then-not-book_fits : goal.returns-then-not-book_fits
-returns-then-not-book_fits c = record { defined = book_header_bad (book_tables [] c.args.attributes.now c.args.defaults.now c.args.effects.now c.args.modifiers.now c.args.type_effects.now c.args.buff_collections.now) c.book_fits.ensures.defined c.if-not-book_fits.true }
+returns-then-not-book_fits c = record { defined = book_header_bad (book_in c.args.book []) c.book_fits.ensures.defined c.if-not-book_fits.true }
 
 pub book_bad-requires : goal.book_bad-requires
 book_bad-requires c = record { fits = passed c.book_fits.ensures.defined c.if-not-book_fits.false }
 
 pub returns : goal.returns
-returns c = record { defined = book_judged (book_tables [] c.args.attributes.now c.args.defaults.now c.args.effects.now c.args.modifiers.now c.args.type_effects.now c.args.buff_collections.now) c.book_fits.ensures.defined c.if-not-book_fits.false c.book_bad.ensures.defined }
+returns c = record { defined = book_judged (book_in c.args.book []) c.book_fits.ensures.defined c.if-not-book_fits.false c.book_bad.ensures.defined }

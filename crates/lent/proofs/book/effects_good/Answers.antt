@@ -1,28 +1,21 @@
 -- `book::effects_good` meets its contract. Assumes nothing.
 use Rattle.lent.proofs.book.effects_good.Goals as goal
-use Prim.Native.Nat.{◌-◌}
-use native.Mathlib.Omega.{arith}
-use borrow.Author.Rules.{sfits_of}
-use mathlib.Core.Path.{◌≡◌, refl, sym, ◌∙◌}
+use Rattle.std.proofs.Common.{rules}
+use mathlib.Core.Path.{sym}
 use mathlib.Core.List.{[]}
-use lib.ListN.{length}
-use mir.Syntax.{w32}
-use mir.Val.{to_z}
-use mir.ValLaws.{to_z-of_z}
-use Rattle.tables.specs.Tables.{book_tables, fit_tables, book_lent, fit_lent}
-use Rattle.lent.specs.Alone.{attributes_alone, effects_alone, type_effects_alone, buff_collections_alone, objects_alone, bases_alone, asks_alone}
-use Rattle.shape.proofs.Scans.{scan_next, scan_failed, scan_done, and_same, Each, each_start}
-use Rattle.shape.proofs.BookScans.{EffectScan, effects_start}
+use Rattle.tables.specs.Tables.{book_tables}
+use Rattle.shape.proofs.Scans.{scan_next, scan_failed, scan_done}
+use Rattle.shape.proofs.BookScans.{effects_start}
 use Rattle.lent.proofs.Nths.{effect_nth, effects_long, modifiers_long}
 
 pub loop-i-init : goal.loop-i-init
 loop-i-init c = effects_start _ (effects_long (book_tables [] [] [] c.args.effects.now c.args.modifiers.now [] [])) (sym (modifiers_long (book_tables [] [] [] c.args.effects.now c.args.modifiers.now [] [])))
 
-pub returns-then-not-good : goal.returns-then-not-good
-returns-then-not-good c = record { defined = scan_failed c.loop-i.invariant c.loop-i-test.true (effect_nth (book_tables [] [] [] c.args.effects.now c.args.modifiers.now [] []) c.loop-i-test.true c.effect-r.ensures.defined) c.effect_good-good.ensures.defined c.if-not-good.true }
+pub returns-then-not-effect_good : goal.returns-then-not-effect_good
+returns-then-not-effect_good c = record { defined = scan_failed c.loop-i.invariant c.loop-i-test.true (effect_nth (book_tables [] [] [] c.args.effects.now c.args.modifiers.now [] []) c.loop-i-test.true c.effect-r.ensures.defined) c.effect_good.ensures.defined c.if-not-effect_good.true }
 
 pub loop-i-preserved : goal.loop-i-preserved
-loop-i-preserved c = scan_next c.loop-i.invariant c.loop-i-test.true (effect_nth (book_tables [] [] [] c.args.effects.now c.args.modifiers.now [] []) c.loop-i-test.true c.effect-r.ensures.defined) c.effect_good-good.ensures.defined c.if-not-good.false (to_z-of_z w32 _ (sfits_of c.struct_told-1.given.1.0.1))
+loop-i-preserved c = scan_next c.loop-i.invariant c.loop-i-test.true (effect_nth (book_tables [] [] [] c.args.effects.now c.args.modifiers.now [] []) c.loop-i-test.true c.effect-r.ensures.defined) c.effect_good.ensures.defined c.if-not-effect_good.false (search rules)
 
 pub returns : goal.returns
 returns c = record { defined = scan_done c.loop-i.invariant c.loop-i-test.false }

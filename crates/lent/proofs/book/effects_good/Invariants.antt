@@ -1,21 +1,7 @@
 use Rattle.lent.proofs.book.effects_good.Given as goal
-use Prim.Native.Nat.{◌-◌}
-use native.Mathlib.Omega.{arith}
-use borrow.Author.Rules.{sfits_of}
-use mathlib.Core.Path.{◌≡◌, refl, sym, ◌∙◌}
-use mathlib.Core.List.{[]}
 use lib.ListN.{length}
-use mir.Syntax.{w32}
-use mir.Val.{to_z}
-use mir.ValLaws.{to_z-of_z}
-use Rattle.tables.specs.Tables.{book_tables, fit_tables, book_lent, fit_lent}
-use Rattle.lent.specs.Alone.{attributes_alone, effects_alone, type_effects_alone, buff_collections_alone, objects_alone, bases_alone, asks_alone}
-use Rattle.shape.proofs.Scans.{scan_next, scan_failed, scan_done, and_same, Each, each_start}
-use Rattle.shape.proofs.BookScans.{EffectScan, effects_start}
-use Rattle.lent.proofs.Nths.{effect_nth, effects_long, modifiers_long}
+use Rattle.lent.specs.Alone.{effects_alone}
+use Rattle.shape.proofs.BookScans.{EffectScan}
 
 abbrev pub invariant-loop-i : goal.invariant-loop-i
 invariant-loop-i l = EffectScan (effects_alone l.effects l.modifiers) (length l.effects) (length l.modifiers) l.i l.last
-
-abbrev pub decreases-loop-i : goal.decreases-loop-i
-decreases-loop-i l = length l.effects - l.i

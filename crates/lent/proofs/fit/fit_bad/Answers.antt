@@ -1,16 +1,9 @@
 -- `fit::fit_bad` meets its contract. Assumes nothing.
+use Rattle.tables.specs.At.{fit_in}
 use Rattle.lent.proofs.fit.fit_bad.Goals as goal
-use Rattle.lent.proofs.fit.fit_bad.Reads as reads
-use Rattle.lent.proofs.fit.fit_bad.Lts as lts
-use Rattle.lent.proofs.fit.all_finite.Reads as all-finite-reads
-use Rattle.lent.proofs.fit.asks_good.Reads as asks-good-reads
-use Rattle.lent.proofs.fit.bases_ascend.Reads as bases-ascend-reads
-use Rattle.lent.proofs.fit.objects_good.Reads as objects-good-reads
 use Rattle.shape.proofs.Scans.{passed, failed}
-use mathlib.Core.Path.{◌≡◌, refl, sym, ◌∙◌}
-use mathlib.Core.List.{[], ◌∷◌}
-use lib.ListN.{length, get_or}
-use Rattle.tables.specs.Tables.{book_tables, fit_tables}
+use mathlib.Core.Path.{sym, ◌∙◌}
+use mathlib.Core.List.{[]}
 use borrow.Author.Tests.{eqb-true}
 use Rattle.laws.proofs.Bools.{and_left}
 use Rattle.rules.specs.Shape.{fit_bad}
@@ -21,11 +14,11 @@ objects_good-requires c = record { few = c.requires.few }
 
 pub returns-then-not-objects_good : goal.returns-then-not-objects_good
 unfolding fit_bad
-returns-then-not-objects_good c = record { defined = rw (failed (c.objects_good.ensures.defined ∙ objects_alone_lem (fit_tables [] c.args.objects.now c.args.base_attributes.now c.args.base_values.now c.args.ids.now c.args.buffs.now c.args.buff_values.now c.args.asks.now)) c.if-not-objects_good.true) }
+returns-then-not-objects_good c = record { defined = rw (failed (c.objects_good.ensures.defined ∙ objects_alone_lem (fit_in c.args.fit [])) c.if-not-objects_good.true) }
 
 pub returns-then-not-all_finite : goal.returns-then-not-all_finite
 unfolding fit_bad
-returns-then-not-all_finite c = record { defined = rw (passed (c.objects_good.ensures.defined ∙ objects_alone_lem (fit_tables [] c.args.objects.now c.args.base_attributes.now c.args.base_values.now c.args.ids.now c.args.buffs.now c.args.buff_values.now c.args.asks.now)) c.if-not-objects_good.false, bases_unfinite (fit_tables [] c.args.objects.now c.args.base_attributes.now c.args.base_values.now c.args.ids.now c.args.buffs.now c.args.buff_values.now c.args.asks.now) c.requires.alike c.all_finite.ensures.defined c.if-not-all_finite.true) }
+returns-then-not-all_finite c = record { defined = rw (passed (c.objects_good.ensures.defined ∙ objects_alone_lem (fit_in c.args.fit [])) c.if-not-objects_good.false, bases_unfinite (fit_in c.args.fit []) c.requires.alike c.all_finite.ensures.defined c.if-not-all_finite.true) }
 
 pub bases_ascend-requires : goal.bases_ascend-requires
 bases_ascend-requires c = record {
@@ -36,16 +29,16 @@ bases_ascend-requires c = record {
 
 pub returns-then-not-bases_ascend : goal.returns-then-not-bases_ascend
 unfolding fit_bad
-returns-then-not-bases_ascend c = record { defined = rw (passed (c.objects_good.ensures.defined ∙ objects_alone_lem (fit_tables [] c.args.objects.now c.args.base_attributes.now c.args.base_values.now c.args.ids.now c.args.buffs.now c.args.buff_values.now c.args.asks.now)) c.if-not-objects_good.false, bases_left (fit_tables [] c.args.objects.now c.args.base_attributes.now c.args.base_values.now c.args.ids.now c.args.buffs.now c.args.buff_values.now c.args.asks.now) c.requires.alike c.all_finite.ensures.defined c.bases_ascend.ensures.defined c.if-not-all_finite.false ∙ c.if-not-bases_ascend.true) }
+returns-then-not-bases_ascend c = record { defined = rw (passed (c.objects_good.ensures.defined ∙ objects_alone_lem (fit_in c.args.fit [])) c.if-not-objects_good.false, bases_left (fit_in c.args.fit []) c.requires.alike c.all_finite.ensures.defined c.bases_ascend.ensures.defined c.if-not-all_finite.false ∙ c.if-not-bases_ascend.true) }
 
 pub returns-then-not-all_finite-2 : goal.returns-then-not-all_finite-2
 unfolding fit_bad
-returns-then-not-all_finite-2 c = record { defined = rw (passed (c.objects_good.ensures.defined ∙ objects_alone_lem (fit_tables [] c.args.objects.now c.args.base_attributes.now c.args.base_values.now c.args.ids.now c.args.buffs.now c.args.buff_values.now c.args.asks.now)) c.if-not-objects_good.false, bases_left (fit_tables [] c.args.objects.now c.args.base_attributes.now c.args.base_values.now c.args.ids.now c.args.buffs.now c.args.buff_values.now c.args.asks.now) c.requires.alike c.all_finite.ensures.defined c.bases_ascend.ensures.defined c.if-not-all_finite.false ∙ c.if-not-bases_ascend.false, failed (c.all_finite-2.ensures.defined ∙ sym (buffs_finite (fit_tables [] c.args.objects.now c.args.base_attributes.now c.args.base_values.now c.args.ids.now c.args.buffs.now c.args.buff_values.now c.args.asks.now) c.requires.alike)) c.if-not-all_finite-2.true) }
+returns-then-not-all_finite-2 c = record { defined = rw (passed (c.objects_good.ensures.defined ∙ objects_alone_lem (fit_in c.args.fit [])) c.if-not-objects_good.false, bases_left (fit_in c.args.fit []) c.requires.alike c.all_finite.ensures.defined c.bases_ascend.ensures.defined c.if-not-all_finite.false ∙ c.if-not-bases_ascend.false, failed (c.all_finite-2.ensures.defined ∙ sym (buffs_finite (fit_in c.args.fit []) c.requires.alike)) c.if-not-all_finite-2.true) }
 
 pub returns-then-not-asks_good : goal.returns-then-not-asks_good
 unfolding fit_bad
-returns-then-not-asks_good c = record { defined = rw (passed (c.objects_good.ensures.defined ∙ objects_alone_lem (fit_tables [] c.args.objects.now c.args.base_attributes.now c.args.base_values.now c.args.ids.now c.args.buffs.now c.args.buff_values.now c.args.asks.now)) c.if-not-objects_good.false, bases_left (fit_tables [] c.args.objects.now c.args.base_attributes.now c.args.base_values.now c.args.ids.now c.args.buffs.now c.args.buff_values.now c.args.asks.now) c.requires.alike c.all_finite.ensures.defined c.bases_ascend.ensures.defined c.if-not-all_finite.false ∙ c.if-not-bases_ascend.false, passed (c.all_finite-2.ensures.defined ∙ sym (buffs_finite (fit_tables [] c.args.objects.now c.args.base_attributes.now c.args.base_values.now c.args.ids.now c.args.buffs.now c.args.buff_values.now c.args.asks.now) c.requires.alike)) c.if-not-all_finite-2.false, failed (c.asks_good.ensures.defined ∙ asks_alone_lem (fit_tables [] c.args.objects.now c.args.base_attributes.now c.args.base_values.now c.args.ids.now c.args.buffs.now c.args.buff_values.now c.args.asks.now)) c.if-not-asks_good.true) }
+returns-then-not-asks_good c = record { defined = rw (passed (c.objects_good.ensures.defined ∙ objects_alone_lem (fit_in c.args.fit [])) c.if-not-objects_good.false, bases_left (fit_in c.args.fit []) c.requires.alike c.all_finite.ensures.defined c.bases_ascend.ensures.defined c.if-not-all_finite.false ∙ c.if-not-bases_ascend.false, passed (c.all_finite-2.ensures.defined ∙ sym (buffs_finite (fit_in c.args.fit []) c.requires.alike)) c.if-not-all_finite-2.false, failed (c.asks_good.ensures.defined ∙ asks_alone_lem (fit_in c.args.fit [])) c.if-not-asks_good.true) }
 
 pub returns : goal.returns
 unfolding fit_bad
-returns c = record { defined = rw (passed (c.objects_good.ensures.defined ∙ objects_alone_lem (fit_tables [] c.args.objects.now c.args.base_attributes.now c.args.base_values.now c.args.ids.now c.args.buffs.now c.args.buff_values.now c.args.asks.now)) c.if-not-objects_good.false, bases_left (fit_tables [] c.args.objects.now c.args.base_attributes.now c.args.base_values.now c.args.ids.now c.args.buffs.now c.args.buff_values.now c.args.asks.now) c.requires.alike c.all_finite.ensures.defined c.bases_ascend.ensures.defined c.if-not-all_finite.false ∙ c.if-not-bases_ascend.false, passed (c.all_finite-2.ensures.defined ∙ sym (buffs_finite (fit_tables [] c.args.objects.now c.args.base_attributes.now c.args.base_values.now c.args.ids.now c.args.buffs.now c.args.buff_values.now c.args.asks.now) c.requires.alike)) c.if-not-all_finite-2.false, passed (c.asks_good.ensures.defined ∙ asks_alone_lem (fit_tables [] c.args.objects.now c.args.base_attributes.now c.args.base_values.now c.args.ids.now c.args.buffs.now c.args.buff_values.now c.args.asks.now)) c.if-not-asks_good.false) }
+returns c = record { defined = rw (passed (c.objects_good.ensures.defined ∙ objects_alone_lem (fit_in c.args.fit [])) c.if-not-objects_good.false, bases_left (fit_in c.args.fit []) c.requires.alike c.all_finite.ensures.defined c.bases_ascend.ensures.defined c.if-not-all_finite.false ∙ c.if-not-bases_ascend.false, passed (c.all_finite-2.ensures.defined ∙ sym (buffs_finite (fit_in c.args.fit []) c.requires.alike)) c.if-not-all_finite-2.false, passed (c.asks_good.ensures.defined ∙ asks_alone_lem (fit_in c.args.fit [])) c.if-not-asks_good.false) }

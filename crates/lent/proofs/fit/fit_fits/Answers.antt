@@ -8,4 +8,4 @@ use Rattle.std.proofs.Common.{rules}
 
 pub returns : goal.returns
 unfolding fit_fits
-returns c = record { defined = rw (and_true_right (leb (length c.args.asks.now) 1024)) (search rules) }
+returns c = record { defined = rw (and_true_right (leb (length c.args.fit.asks.now) 1024)) (search rules) }

@@ -1,21 +1,7 @@
 use Rattle.lent.proofs.fit.objects_good.Given as goal
-use Prim.Native.Nat.{◌-◌}
-use native.Mathlib.Omega.{arith}
-use borrow.Author.Rules.{sfits_of}
-use mathlib.Core.Path.{◌≡◌, refl, sym, ◌∙◌}
-use mathlib.Core.List.{[]}
 use lib.ListN.{length}
-use mir.Syntax.{w32}
-use mir.Val.{to_z}
-use mir.ValLaws.{to_z-of_z}
-use Rattle.tables.specs.Tables.{book_tables, fit_tables, book_lent, fit_lent}
-use Rattle.lent.specs.Alone.{attributes_alone, effects_alone, type_effects_alone, buff_collections_alone, objects_alone, bases_alone, asks_alone}
-use Rattle.shape.proofs.Scans.{scan_next, scan_failed, scan_done, and_same, Each, each_start}
-use Rattle.shape.proofs.FitScans.{ObjectScan, objects_start}
-use Rattle.lent.proofs.Nths.{object-nth, objects_long, bases_long, ids_long}
+use Rattle.lent.specs.Alone.{objects_alone}
+use Rattle.shape.proofs.FitScans.{ObjectScan}
 
 abbrev pub invariant-loop-i : goal.invariant-loop-i
 invariant-loop-i l = ObjectScan (objects_alone l.objects l.base_attributes l.ids) (length l.objects) l.i l.last
-
-abbrev pub decreases-loop-i : goal.decreases-loop-i
-decreases-loop-i l = length l.objects - l.i

@@ -1,23 +1,16 @@
--- `fields::natural` meets its contract. Assumes nothing.
+-- `fields::natural` meets its contract.
 use Rattle.lines.proofs.fields.natural.Goals as goal
-use Rattle.lines.proofs.fields.natural.Reads as reads
-use Rattle.lines.proofs.fields.natural.Lts as lts
-use Rattle.lines.proofs.fields.begins.Reads as begins-reads
-use Rattle.lines.proofs.fields.digits.Reads as digits-reads
+use Rattle.lines.proofs.fields.natural.Goals.{then-next-at-via-then-next-at, then-next-at-via-else-next-at+then-from-value, then-next-at-via-else-next-at+else-from-value+then-not-begins}
 use native.Mathlib.Omega.{arith}
-use Rattle.lines.proofs.Fielded.{natural_here, natural-not, has_space, small_value}
+use mathlib.Core.Path.{sym, ◌∙◌}
+use Rattle.lines.proofs.Fielded.{natural_here, no_digits, too_large, no_space}
 
-pub overflow_cast-result : goal.overflow_cast-result
-overflow_cast-result c = omega (arith, c.well_formed, small_value c.args.most c.args.at _ c.digits-d.ensures.defined c.digits-d.ensures.onward c.digits-d.ensures.inside c.begins-space.ensures.defined c.if-at-next.true)
+pub returns-then-next-at-clause-defined : goal.returns-then-next-at-clause-defined
+returns-then-next-at-clause-defined c = let e = c.digits-value.ensures in elim c.then-next-at.branch [
+  | then-next-at-via-then-next-at w ↦ no_digits c.args.most c.args.at _ e.defined e.onward e.inside w.if-next-at.true
+  | then-next-at-via-else-next-at+then-from-value w ↦ too_large c.args.most c.args.at _ e.defined e.onward e.inside (omega (arith, w.if-from-value.true, w.from.ensures))
+  | then-next-at-via-else-next-at+else-from-value+then-not-begins w ↦ no_space c.args.most c.args.at _ e.defined e.onward e.inside (sym w.begins.ensures.defined ∙ w.if-not-begins.true)
+]
 
-pub returns-then-at-next : goal.returns-then-at-next
-returns-then-at-next c = record {
-  defined = natural_here c.args.most c.args.at _ c.digits-d.ensures.defined c.digits-d.ensures.onward c.digits-d.ensures.inside c.begins-space.ensures.defined c.if-at-next.true;
-  inside = omega (arith, c.begins-space.ensures.inside (has_space c.args.most c.args.at _ c.digits-d.ensures.defined c.digits-d.ensures.onward c.digits-d.ensures.inside c.begins-space.ensures.defined c.if-at-next.true));
-}
-
-pub returns : goal.returns
-returns c = record {
-  defined = natural-not c.args.most c.args.at _ c.digits-d.ensures.defined c.digits-d.ensures.onward c.digits-d.ensures.inside c.begins-space.ensures.defined c.if-at-next.false;
-  inside = c.requires.inside;
-}
+pub returns-clause-defined : goal.returns-clause-defined
+returns-clause-defined c = let e = c.digits-value.ensures in natural_here c.args.most c.args.at _ e.defined e.onward e.inside c.if-next-at.false (omega (arith, c.if-from-value.false, c.from.ensures)) (sym c.begins.ensures.defined ∙ c.if-not-begins.false)

@@ -1,9 +1,5 @@
 -- `build::add_map` meets its contract.
 use Rattle.maps.proofs.build.add_map.Goals as goal
-use Rattle.maps.proofs.build.add_map.Reads as reads
-use Rattle.maps.proofs.build.add_map.Lts as lts
-use Rattle.maps.proofs.clear_map.Reads as clear-map-reads
-use Rattle.maps.proofs.head_of.Reads as head-of-reads
 use Prim.Native.Nat.{◌+◌, ◌*◌, ◌%◌}
 use native.Mathlib.Omega.{arith}
 use mathlib.Core.Path.{refl}

@@ -1,10 +1,5 @@
 -- `build::keys_of` meets its contract.
 use Rattle.maps.proofs.build.keys_of.Goals as goal
-use Rattle.maps.proofs.build.keys_of.Reads as reads
-use Rattle.maps.proofs.build.keys_of.Lts as lts
-use Rattle.hits.proofs.reach.required_skills.Reads as required-skills-reads
-use Rattle.info.proofs.records.object.Reads as object-reads
-use Rattle.maps.proofs.group_key.Reads as group-key-reads
 use native.Mathlib.Omega.{arith}
 use mathlib.Core.Path.{refl, sym, ap, ◌∙◌}
 use Rattle.rules.specs.Item.{object, no_item}

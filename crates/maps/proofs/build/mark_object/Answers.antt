@@ -1,31 +1,11 @@
 -- `build::mark_object` meets its contract.
 use Rattle.maps.proofs.build.mark_object.Goals as goal
-use Rattle.maps.proofs.build.mark_object.Reads as reads
-use Rattle.maps.proofs.build.mark_object.Lts as lts
-use Rattle.hits.proofs.reach.reach_of.Reads as reach-of-reads
-use Rattle.maps.proofs.build.keys_of.Reads as keys-of-reads
-use Rattle.maps.proofs.build.mark_columns.Reads as mark-columns-reads
-use Rattle.maps.proofs.build.mark_keys.Reads as mark-keys-reads
 use native.Mathlib.Omega.{arith}
-use mathlib.Core.Path.{refl}
 use lib.ListN.{length}
 use Rattle.rules.specs.Item.{object}
 use Rattle.rules.specs.Sheet.{book_of, fit_of}
 use Rattle.maps.proofs.Index.{head_behind}
 use Rattle.maps.proofs.Building.{group_in, object_made}
-
-pub reach_of-row-requires : goal.reach_of-row-requires
-reach_of-row-requires c = record {
-  held_book = c.requires.held_book;
-  sound_fit = c.requires.sound_fit;
-  an_object = c.requires.an_object;
-}
-
-pub keys_of-keys-requires : goal.keys_of-keys-requires
-keys_of-keys-requires c = record {
-  sound_fit = c.requires.sound_fit;
-  an_object = c.requires.an_object;
-}
 
 pub mark_columns-requires : goal.mark_columns-requires
 mark_columns-requires c = record { inside = (c.requires.counted.held.mapped.narrow, omega (arith, head_behind c.args.width (length c.requires.counted.held.keys), c.requires.counted.held.mapped.fits), c.requires.small.1) }

@@ -1,7 +1,5 @@
 -- `build::set_bit` meets its contract.
 use Rattle.maps.proofs.build.set_bit.Goals as goal
-use Rattle.maps.proofs.build.set_bit.Reads as reads
-use Rattle.maps.proofs.build.set_bit.Lts as lts
 use Rattle.maps.proofs.Bits.{bit_written}
 
 pub returns : goal.returns

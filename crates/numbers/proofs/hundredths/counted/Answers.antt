@@ -1,6 +1,5 @@
 -- `hundredths::counted` meets its contract, by the exponent's field.
 use Rattle.numbers.proofs.hundredths.counted.Goals as goal
-use Rattle.std.proofs.Common.{rules}
 use Rattle.numbers.proofs.Counts.{at_zero, high, deep, one_more, counts, limits}
 
 pub returns-then-field-eq0 : goal.returns-then-field-eq0

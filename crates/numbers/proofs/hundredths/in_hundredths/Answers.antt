@@ -1,6 +1,5 @@
 -- `hundredths::in_hundredths` meets its contract, by the count that the bit pattern gives.
 use Rattle.numbers.proofs.hundredths.in_hundredths.Goals as goal
-use Rattle.std.proofs.Common.{rules}
 use Rattle.numbers.proofs.HundredthsLaws.{star_of_nan, no_nan, star, plain, signed}
 
 pub returns-then-x : goal.returns-then-x

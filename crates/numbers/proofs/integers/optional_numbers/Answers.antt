@@ -5,7 +5,7 @@ use Prim.Native.Nat.{◌<◌, ◌^◌}
 use lib.Signed.{mag}
 use Rattle.numbers.proofs.Signs.{stored}
 
-pub returns-in-Given : goal.returns-in-Given
-returns-in-Given c =
-    let fits : mag c.in-Given.id < 2 ^ 31 = search rules in
-    record { defined = rw (c.in-Given.is, c.bits.ensures.defined, stored _ fits) refl }
+pub returns-in-Some : goal.returns-in-Some
+returns-in-Some c =
+    let fits : mag c.in-Some.id < 2 ^ 31 = search rules in
+    record { defined = rw (c.in-Some.is, c.bits.ensures.defined, stored _ fits) refl }

@@ -1,15 +1,12 @@
 -- `words::put_word` meets its contract. Assumes nothing.
+use Rattle.std.proofs.Common.{refl, ◌∙◌}
+use Rattle.tables.proofs.Numbers.{word-length}
+use Rattle.put_tables.proofs.Steps.{word_low}
+use Rattle.listing.proofs.Puts.{copied}
 use Rattle.put_tables.proofs.words.put_word.Goals as goal
-use Rattle.put_tables.proofs.Steps.{four_bytes, in_second, in_third, in_fourth}
-
-pub bounds-bytes-at-2 : goal.bounds-bytes-at-2
-bounds-bytes-at-2 c = in_second c.args.x c.args.at c.args.bytes.now c.requires.room
-
-pub bounds-bytes-at-3 : goal.bounds-bytes-at-3
-bounds-bytes-at-3 c = in_third c.args.x c.args.at c.args.bytes.now c.requires.room
-
-pub bounds-bytes-at-4 : goal.bounds-bytes-at-4
-bounds-bytes-at-4 c = in_fourth c.args.x c.args.at c.args.bytes.now c.requires.room
 
 pub returns : goal.returns
-returns c = record { written = four_bytes c.args.x c.args.at c.args.bytes.now }
+returns c = record {
+  written = copied c.args.at 4 c.args.bytes.now (c.copy_from_slice.ensures.after ∙ c.to_le_bytes.ensures ∙ word_low c.args.x) (word-length c.args.x) c.requires.room;
+  end = refl;
+}

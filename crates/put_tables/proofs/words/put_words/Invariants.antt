@@ -1,14 +1,7 @@
-use Rattle.put_tables.proofs.words.put_words.Given as goal
-use native.Mathlib.Omega.{arith}
-use Prim.Native.Nat.{◌+◌, ◌-◌, ◌≤◌}
-use mathlib.Core.Path.{◌≡◌}
-use lib.ListN.{length, take}
+use Rattle.std.proofs.Common.{◌≡◌, take}
 use Rattle.listing.specs.Put.{put, puts}
 use Rattle.tables.specs.Layout.{words}
-use Rattle.put_tables.proofs.Steps.{word_none, word_next, word_room, word-all, as_far}
+use Rattle.put_tables.proofs.words.put_words.Given as goal
 
-abbrev pub invariant-loop-i : goal.invariant-loop-i
-invariant-loop-i l = (l.i ≤ length l.numbers) × (put l.place l.bytes ≡ puts (words (take l.i l.numbers)) (put l.at l.initial.bytes))
-
-abbrev pub decreases-loop-i : goal.decreases-loop-i
-decreases-loop-i l = length l.numbers - l.i
+abbrev pub invariant-loop-x : goal.invariant-loop-x
+invariant-loop-x l = put l.place l.bytes ≡ puts (words (take l.x-index l.numbers)) (put l.at l.initial.bytes)

@@ -1,9 +1,5 @@
 use Rattle.reading.proofs.entries.operators_in.Given as goal
-use Prim.Native.Nat.{◌-◌}
 use Rattle.reading.proofs.Decodes.{Marks}
 
 abbrev pub invariant-loop-i : goal.invariant-loop-i
 invariant-loop-i l = Marks l.entries l.first l.end l.i l.marks
-
-abbrev pub decreases-loop-i : goal.decreases-loop-i
-decreases-loop-i l = l.end - l.i

@@ -1,10 +1,6 @@
 use Rattle.reading.proofs.stretches.set_limits.Given as goal
-use Prim.Native.Nat.{◌-◌}
 use Rattle.rules.specs.Sheet.{book_of}
 use Rattle.reading.proofs.Limiting.{Marking}
 
 abbrev pub invariant-loop-i : goal.invariant-loop-i
 invariant-loop-i l = Marking (book_of l.book l.pairs).attributes l.marks l.i
-
-abbrev pub decreases-loop-i : goal.decreases-loop-i
-decreases-loop-i l = l.attributes - l.i

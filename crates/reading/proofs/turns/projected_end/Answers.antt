@@ -1,4 +1,5 @@
 -- `turns::projected_end` meets its contract.
+use Rattle.std.proofs.Common.{◌≡◌}
 use Rattle.reading.proofs.turns.projected_end.Goals as goal
 use native.Mathlib.Omega.{arith}
 use Prim.Native.Nat.{ℕ, ◌+◌}
@@ -25,4 +26,4 @@ pub loop-i-preserved : goal.loop-i-preserved
 loop-i-preserved c = passing_more c.loop-i.invariant c.loop-i-test.true (c.object-o.ensures.record_i no_item) c.if-o-ne-PROJECTED.false
 
 pub returns : goal.returns
-returns c = record { defined = passing_all c.loop-i.invariant (objects_good_lem _ c.requires.sound.good) c.loop-i-test.false }
+returns c = let e : c.loop-i.i ≡ c.count_of-objects.result = omega (arith, c.loop-i-test.false, c.loop-i.invariant.inside) in record { defined = sym e ∙ passing_all c.loop-i.invariant (objects_good_lem _ c.requires.sound.good) c.loop-i-test.false }

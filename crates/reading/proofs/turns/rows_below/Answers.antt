@@ -1,22 +1,13 @@
--- `turns::rows_below` meets its contract.
+-- `turns::rows_below` meets its contract: the rows ascend by object, so the library's search finds the place.
+use Rattle.std.proofs.Common.{ℕ, List, get_or, ltb, rules}
+use Rattle.std.proofs.lemmas.List.Sorted.{IsPartitionPoint-from_clause, IsPartitionedBy-ltb}
+use Rattle.reading.proofs.Bounds.{point_is, numbers_climb}
 use Rattle.reading.proofs.turns.rows_below.Goals as goal
-use native.Mathlib.Omega.{arith}
-use Rattle.reading.proofs.Bounds.{bounded_start, bounded_end, middle_inside, bounded_up, bounded_down}
-
-pub loop-low-init : goal.loop-low-init
-loop-low-init c = bounded_start _ _
-
-pub overflow_add-middle : goal.overflow_add-middle
-overflow_add-middle c = omega (arith, middle_inside _ _ c.loop-low.invariant c.loop-low-test.true)
-
-pub overflow_add-low : goal.overflow_add-low
-overflow_add-low c = omega (arith, middle_inside _ _ c.loop-low.invariant c.loop-low-test.true)
-
-pub loop-low-preserved-then-o-object : goal.loop-low-preserved-then-o-object
-loop-low-preserved-then-o-object c = bounded_up _ _ c.loop-low.invariant c.loop-low-test.true c.if-o-object.true
-
-pub loop-low-preserved : goal.loop-low-preserved
-loop-low-preserved c = bounded_down _ _ c.loop-low.invariant c.loop-low-test.true c.if-o-object.false
 
 pub returns : goal.returns
-returns c = record { counted = bounded_end _ _ c.loop-low.invariant c.loop-low-test.false }
+returns c = record {
+  counted = λ rs H.
+      let parted = IsPartitionedBy-ltb (λ (r : List ℕ). get_or r 0 0) c.args.rows.now c.args.object (numbers_climb c.args.rows.now rs H) in
+      let point = IsPartitionPoint-from_clause (λ (r : List ℕ). ltb (get_or r 0 0) c.args.object) _ _ c.partition_point.ensures.partitioned parted (λ a r q k. search rules) in
+      point_is c.args.rows.now c.args.object c.partition_point.ensures.bound point rs H;
+}

@@ -1,44 +1,13 @@
 -- `object_lists::all_lists` meets its contract.
 use Rattle.rows.proofs.object_lists.all_lists.Goals as goal
-use Rattle.rows.proofs.object_lists.all_lists.Reads as reads
-use Rattle.rows.proofs.object_lists.all_lists.Lts as lts
-use Rattle.info.proofs.header.count_of.Reads as count-of-reads
-use Rattle.info.proofs.little_endian.index.Reads as index_Reads
-use Rattle.rows.proofs.object_lists.object_lists.Reads as object-lists-reads
-use Prim.Native.Nat.{ℕ, ◌-◌}
 use native.Mathlib.Omega.{arith}
-use mathlib.Core.Path.{◌≡◌, refl, sym, ◌∙◌}
-use lib.ListN.{length}
+use mathlib.Core.Path.{refl}
 use Rattle.rules.specs.Bytes.{count_of}
 use Rattle.rules.specs.Sheet.{book_of, fit_of}
-use Rattle.rows.proofs.Together.{part_long, Turns, turns_none, turn_ordered, turn_entries, turn_values, turn_few, turn_even, turn-fits, turn-numbered, turn_stretch, turn-full, turn-next, turns_all}
+use Rattle.rows.proofs.Together.{turns_none, turn_ordered, turn_entries, turn_values, turn_few, turn_even, turn-fits, turn-numbered, turn_stretch, turn-full, turn-next, turns_all}
 
 pub loop-i-init : goal.loop-i-init
 loop-i-init c = turns_none (book_of c.args.book.now c.args.pairs.now) (fit_of c.args.fit.now c.args.pairs.now) c.args.collected.now c.args.collected_values.now (count_of c.args.pairs.now 6) c.args.rows.now c.args.bases.now c.args.entries.now c.args.values.now c.args.ends.now c.args.room
-
-pub offset_bounds-rows-n : goal.offset_bounds-rows-n
-offset_bounds-rows-n c = omega (arith, c.loop-i.invariant.inside, c.loop-i.invariant.rows_long, c.loop-i.invariant.bases_long, c.loop-i.invariant.entries_long, c.loop-i.invariant.values_long, c.requires.inside.0, c.requires.inside.1, c.well_formed.0, c.well_formed.1.0, c.well_formed.1.1.0, c.well_formed.1.1.1.0)
-
-pub slice_bounds-object_lists-count : goal.slice_bounds-object_lists-count
-slice_bounds-object_lists-count c = omega (arith, c.loop-i.invariant.inside, c.loop-i.invariant.rows_long, c.loop-i.invariant.bases_long, c.loop-i.invariant.entries_long, c.loop-i.invariant.values_long, c.requires.inside.0, c.requires.inside.1)
-
-pub slice_bounds-object_lists-start : goal.slice_bounds-object_lists-start
-slice_bounds-object_lists-start c = omega (arith, c.loop-i.invariant.inside, c.loop-i.invariant.rows_long, c.loop-i.invariant.bases_long, c.loop-i.invariant.entries_long, c.loop-i.invariant.values_long, c.requires.inside.0, c.requires.inside.1)
-
-pub slice_bounds-object_lists-end : goal.slice_bounds-object_lists-end
-slice_bounds-object_lists-end c = omega (arith, c.loop-i.invariant.inside, c.loop-i.invariant.rows_long, c.loop-i.invariant.bases_long, c.loop-i.invariant.entries_long, c.loop-i.invariant.values_long, c.requires.inside.0, c.requires.inside.1)
-
-pub offset_bounds-bases-n : goal.offset_bounds-bases-n
-offset_bounds-bases-n c = omega (arith, c.loop-i.invariant.inside, c.loop-i.invariant.rows_long, c.loop-i.invariant.bases_long, c.loop-i.invariant.entries_long, c.loop-i.invariant.values_long, c.requires.inside.0, c.requires.inside.1, c.well_formed.0, c.well_formed.1.0, c.well_formed.1.1.0, c.well_formed.1.1.1.0)
-
-pub slice_bounds-object_lists-count-in-loop-i : goal.slice_bounds-object_lists-count-in-loop-i
-slice_bounds-object_lists-count-in-loop-i c = omega (arith, c.loop-i.invariant.inside, c.loop-i.invariant.rows_long, c.loop-i.invariant.bases_long, c.loop-i.invariant.entries_long, c.loop-i.invariant.values_long, c.requires.inside.0, c.requires.inside.1)
-
-pub slice_bounds-object_lists-start-in-loop-i : goal.slice_bounds-object_lists-start-in-loop-i
-slice_bounds-object_lists-start-in-loop-i c = omega (arith, c.loop-i.invariant.inside, c.loop-i.invariant.rows_long, c.loop-i.invariant.bases_long, c.loop-i.invariant.entries_long, c.loop-i.invariant.values_long, c.requires.inside.0, c.requires.inside.1)
-
-pub slice_bounds-object_lists-end-in-loop-i : goal.slice_bounds-object_lists-end-in-loop-i
-slice_bounds-object_lists-end-in-loop-i c = omega (arith, c.loop-i.invariant.inside, c.loop-i.invariant.rows_long, c.loop-i.invariant.bases_long, c.loop-i.invariant.entries_long, c.loop-i.invariant.values_long, c.requires.inside.0, c.requires.inside.1)
 
 pub offset_bounds-entries-from : goal.offset_bounds-entries-from
 offset_bounds-entries-from c = omega (arith, c.loop-i.invariant.inside, c.loop-i.invariant.rows_long, c.loop-i.invariant.bases_long, c.loop-i.invariant.entries_long, c.loop-i.invariant.values_long, c.requires.inside.0, c.requires.inside.1, turn_ordered (book_of c.args.book.now c.args.pairs.now) (fit_of c.args.fit.now c.args.pairs.now) c.args.collected.now c.args.collected_values.now (count_of c.args.pairs.now 6) c.args.rows.now c.args.bases.now c.args.entries.now c.args.values.now c.args.ends.now c.args.room c.requires.listed c.requires.parted c.loop-i.invariant (omega (arith, c.count_of-objects.ensures.defined, c.loop-i-test.true)) c.index-end.result c.index-end.ensures.defined.0, turn_entries (book_of c.args.book.now c.args.pairs.now) (fit_of c.args.fit.now c.args.pairs.now) c.args.collected.now c.args.collected_values.now (count_of c.args.pairs.now 6) c.args.rows.now c.args.bases.now c.args.entries.now c.args.values.now c.args.ends.now c.args.room c.requires.listed c.requires.parted c.loop-i.invariant (omega (arith, c.count_of-objects.ensures.defined, c.loop-i-test.true)) c.index-end.result c.index-end.ensures.defined.0, turn_values (book_of c.args.book.now c.args.pairs.now) (fit_of c.args.fit.now c.args.pairs.now) c.args.collected.now c.args.collected_values.now (count_of c.args.pairs.now 6) c.args.rows.now c.args.bases.now c.args.entries.now c.args.values.now c.args.ends.now c.args.room c.requires.listed c.requires.parted c.loop-i.invariant (omega (arith, c.count_of-objects.ensures.defined, c.loop-i-test.true)) c.index-end.result c.index-end.ensures.defined.0, c.well_formed.0, c.well_formed.1.0, c.well_formed.1.1.0, c.well_formed.1.1.1.0)
@@ -67,8 +36,8 @@ slice_bounds-object_lists-end-in-loop-i-3 c = turn_values (book_of c.args.book.n
 pub overflow_cast-from : goal.overflow_cast-from
 overflow_cast-from c = omega (arith, turn_ordered (book_of c.args.book.now c.args.pairs.now) (fit_of c.args.fit.now c.args.pairs.now) c.args.collected.now c.args.collected_values.now (count_of c.args.pairs.now 6) c.args.rows.now c.args.bases.now c.args.entries.now c.args.values.now c.args.ends.now c.args.room c.requires.listed c.requires.parted c.loop-i.invariant (omega (arith, c.count_of-objects.ensures.defined, c.loop-i-test.true)) c.index-end.result c.index-end.ensures.defined.0, turn_few (book_of c.args.book.now c.args.pairs.now) (fit_of c.args.fit.now c.args.pairs.now) c.args.collected.now c.args.collected_values.now (count_of c.args.pairs.now 6) c.args.rows.now c.args.bases.now c.args.entries.now c.args.values.now c.args.ends.now c.args.room c.requires.listed c.requires.parted c.loop-i.invariant (omega (arith, c.count_of-objects.ensures.defined, c.loop-i-test.true)) c.index-end.result c.index-end.ensures.defined.0)
 
-pub object_lists-got-requires : goal.object_lists-got-requires
-object_lists-got-requires c = record {
+pub object_lists-requires : goal.object_lists-requires
+object_lists-requires c = record {
   sound_book = c.requires.sound_book;
   sound_fit = c.requires.sound_fit;
   an_object = (omega (arith, c.count_of-objects.ensures.defined, c.loop-i-test.true));
@@ -77,32 +46,14 @@ object_lists-got-requires c = record {
   numbered = (turn-numbered (book_of c.args.book.now c.args.pairs.now) (fit_of c.args.fit.now c.args.pairs.now) c.args.collected.now c.args.collected_values.now (count_of c.args.pairs.now 6) c.args.rows.now c.args.bases.now c.args.entries.now c.args.values.now c.args.ends.now c.args.room c.requires.listed c.requires.parted c.loop-i.invariant (omega (arith, c.count_of-objects.ensures.defined, c.loop-i-test.true)) c.index-end.result c.index-end.ensures.defined.0, turn-fits (book_of c.args.book.now c.args.pairs.now) (fit_of c.args.fit.now c.args.pairs.now) c.args.collected.now c.args.collected_values.now (count_of c.args.pairs.now 6) c.args.rows.now c.args.bases.now c.args.entries.now c.args.values.now c.args.ends.now c.args.room c.requires.listed c.requires.parted c.loop-i.invariant (omega (arith, c.count_of-objects.ensures.defined, c.loop-i-test.true)) c.index-end.result c.index-end.ensures.defined.0);
 }
 
-pub shape_of-rows-in_default : goal.shape_of-rows-in_default
-shape_of-rows-in_default c = part_long c.loop-i.n (c.args.room - c.loop-i.n) c.loop-i.rows c.object_lists-got.new.rows c.object_lists-got.auto.rows ∙ c.loop-i.invariant.rows_long
-
-pub shape_of-bases-in_default : goal.shape_of-bases-in_default
-shape_of-bases-in_default c = part_long c.loop-i.n (c.args.room - c.loop-i.n) c.loop-i.bases c.object_lists-got.new.bases c.object_lists-got.auto.bases ∙ c.loop-i.invariant.bases_long
-
-pub shape_of-entries-in_default : goal.shape_of-entries-in_default
-shape_of-entries-in_default c = part_long c.loop-i.from (c.index-end.result - c.loop-i.from) c.loop-i.entries c.object_lists-got.new.segment c.object_lists-got.auto.segment ∙ c.loop-i.invariant.entries_long
-
-pub shape_of-values-in_default : goal.shape_of-values-in_default
-shape_of-values-in_default c = part_long c.loop-i.from (c.index-end.result - c.loop-i.from) c.loop-i.values c.object_lists-got.new.values c.object_lists-got.auto.values ∙ c.loop-i.invariant.values_long
-
-pub returns-in_default : goal.returns-in_default
-returns-in_default c = record { laid = turn-full (book_of c.args.book.now c.args.pairs.now) (fit_of c.args.fit.now c.args.pairs.now) c.args.collected.now c.args.collected_values.now (count_of c.args.pairs.now 6) c.args.rows.now c.args.bases.now c.args.entries.now c.args.values.now c.args.ends.now c.args.room c.requires.listed c.requires.parted c.loop-i.invariant (omega (arith, c.count_of-objects.ensures.defined, c.loop-i-test.true)) c.index-end.result c.index-end.ensures.defined.0 c.requires.inside.0 c.requires.inside.1 c.object_lists-got.result c.object_lists-got.new.rows c.object_lists-got.new.bases c.object_lists-got.new.segment c.object_lists-got.new.values c.object_lists-got.ensures.laid c.in_default.is }
+pub returns-in_err-n : goal.returns-in_err-n
+returns-in_err-n c = rw c.from_residual.ensures (record { laid = turn-full (book_of c.args.book.now c.args.pairs.now) (fit_of c.args.fit.now c.args.pairs.now) c.args.collected.now c.args.collected_values.now (count_of c.args.pairs.now 6) c.args.rows.now c.args.bases.now c.args.entries.now c.args.values.now c.args.ends.now c.args.room c.requires.listed c.requires.parted c.loop-i.invariant (omega (arith, c.count_of-objects.ensures.defined, c.loop-i-test.true)) c.index-end.result c.index-end.ensures.defined.0 c.requires.inside.0 c.requires.inside.1 c.object_lists.result c.object_lists.new.rows c.object_lists.new.bases c.object_lists.new.segment c.object_lists.new.values c.object_lists.ensures.laid c.in_err-n.was })
 
 pub overflow_add-n : goal.overflow_add-n
-overflow_add-n c = omega (arith, (turn-next (book_of c.args.book.now c.args.pairs.now) (fit_of c.args.fit.now c.args.pairs.now) c.args.collected.now c.args.collected_values.now (count_of c.args.pairs.now 6) c.args.rows.now c.args.bases.now c.args.entries.now c.args.values.now c.args.ends.now c.args.room c.requires.listed c.requires.parted c.loop-i.invariant (omega (arith, c.count_of-objects.ensures.defined, c.loop-i-test.true)) c.index-end.result c.index-end.ensures.defined.0 c.requires.inside.0 c.requires.inside.1 c.object_lists-got.result c.object_lists-got.new.rows c.object_lists-got.new.bases c.object_lists-got.new.segment c.object_lists-got.new.values c.object_lists-got.ensures.laid c.in-Rows.is c.object_lists-got.auto.segment c.object_lists-got.auto.values refl refl refl refl).inside, c.ranges.room)
-
-pub overflow_add-i : goal.overflow_add-i
-overflow_add-i c = omega (arith, c.count_of-objects.ensures.defined, c.loop-i-test.true, c.requires.sound_fit.held.objects.few)
-
-pub loop-i-smaller : goal.loop-i-smaller
-loop-i-smaller c = omega (arith, c.count_of-objects.ensures.defined, c.loop-i-test.true)
+overflow_add-n c = omega (arith, (turn-next (book_of c.args.book.now c.args.pairs.now) (fit_of c.args.fit.now c.args.pairs.now) c.args.collected.now c.args.collected_values.now (count_of c.args.pairs.now 6) c.args.rows.now c.args.bases.now c.args.entries.now c.args.values.now c.args.ends.now c.args.room c.requires.listed c.requires.parted c.loop-i.invariant (omega (arith, c.count_of-objects.ensures.defined, c.loop-i-test.true)) c.index-end.result c.index-end.ensures.defined.0 c.requires.inside.0 c.requires.inside.1 c.object_lists.result c.object_lists.new.rows c.object_lists.new.bases c.object_lists.new.segment c.object_lists.new.values c.object_lists.ensures.laid c.in_ok-n.was c.object_lists.auto.segment c.object_lists.auto.values refl refl refl refl).inside, c.ranges.room)
 
 pub loop-i-preserved : goal.loop-i-preserved
-loop-i-preserved c = turn-next (book_of c.args.book.now c.args.pairs.now) (fit_of c.args.fit.now c.args.pairs.now) c.args.collected.now c.args.collected_values.now (count_of c.args.pairs.now 6) c.args.rows.now c.args.bases.now c.args.entries.now c.args.values.now c.args.ends.now c.args.room c.requires.listed c.requires.parted c.loop-i.invariant (omega (arith, c.count_of-objects.ensures.defined, c.loop-i-test.true)) c.index-end.result c.index-end.ensures.defined.0 c.requires.inside.0 c.requires.inside.1 c.object_lists-got.result c.object_lists-got.new.rows c.object_lists-got.new.bases c.object_lists-got.new.segment c.object_lists-got.new.values c.object_lists-got.ensures.laid c.in-Rows.is c.object_lists-got.auto.segment c.object_lists-got.auto.values refl refl refl refl
+loop-i-preserved c = turn-next (book_of c.args.book.now c.args.pairs.now) (fit_of c.args.fit.now c.args.pairs.now) c.args.collected.now c.args.collected_values.now (count_of c.args.pairs.now 6) c.args.rows.now c.args.bases.now c.args.entries.now c.args.values.now c.args.ends.now c.args.room c.requires.listed c.requires.parted c.loop-i.invariant (omega (arith, c.count_of-objects.ensures.defined, c.loop-i-test.true)) c.index-end.result c.index-end.ensures.defined.0 c.requires.inside.0 c.requires.inside.1 c.object_lists.result c.object_lists.new.rows c.object_lists.new.bases c.object_lists.new.segment c.object_lists.new.values c.object_lists.ensures.laid c.in_ok-n.was c.object_lists.auto.segment c.object_lists.auto.values refl refl refl refl
 
 pub returns : goal.returns
 returns c = record { laid = turns_all (book_of c.args.book.now c.args.pairs.now) (fit_of c.args.fit.now c.args.pairs.now) c.args.collected.now c.args.collected_values.now (count_of c.args.pairs.now 6) c.args.rows.now c.args.bases.now c.args.entries.now c.args.values.now c.args.ends.now c.args.room c.loop-i.invariant (omega (arith, c.count_of-objects.ensures.defined, c.loop-i-test.false)) }

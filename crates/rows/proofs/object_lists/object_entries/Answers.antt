@@ -1,11 +1,6 @@
 -- `object_lists::object_entries` meets its contract.
 use Rattle.rows.proofs.object_lists.object_entries.Goals as goal
-use Rattle.rows.proofs.object_lists.object_entries.Reads as reads
-use Rattle.rows.proofs.object_lists.object_entries.Lts as lts
-use Rattle.rows.proofs.entries.write_entries.Reads as write-entries-reads
-use Rattle.rows.proofs.spread.set_firsts.Reads as set-firsts-reads
-use Rattle.rows.proofs.spread.spread.Reads as spread-reads
-use mathlib.Core.Path.{◌≡◌, sym, ◌∙◌}
+use mathlib.Core.Path.{◌∙◌}
 use Rattle.rules.specs.Sheet.{book_of, fit_of}
 use Rattle.rules.specs.Item.{object}
 use Rattle.rows.proofs.RowOf.{object-number, bases_ascend}

@@ -13,6 +13,3 @@ use Rattle.shape.proofs.BookScans.{AttributeScan, attributes_start}
 
 abbrev pub invariant-loop-i : goal.invariant-loop-i
 invariant-loop-i l = AttributeScan (book_of l.book l.pairs) l.n l.i l.last
-
-abbrev pub decreases-loop-i : goal.decreases-loop-i
-decreases-loop-i l = l.n - l.i

@@ -12,6 +12,3 @@ use Rattle.shape.proofs.Scans.{Each, scan_next, scan_failed, scan_done}
 
 abbrev pub invariant-loop-i : goal.invariant-loop-i
 invariant-loop-i l = Each (λ a. ltb a.object (length (fit_of l.fit l.pairs).objects)) (asks_good (fit_of l.fit l.pairs)) (fit_of l.fit l.pairs).asks l.n l.i
-
-abbrev pub decreases-loop-i : goal.decreases-loop-i
-decreases-loop-i l = l.n - l.i

@@ -13,6 +13,3 @@ use Rattle.shape.proofs.Scans.{Each, scan_next, scan_failed, scan_done}
 
 abbrev pub invariant-loop-i : goal.invariant-loop-i
 invariant-loop-i l = Each (range_ascends (fit_of l.fit l.pairs)) (every? (range_ascends (fit_of l.fit l.pairs)) (fit_of l.fit l.pairs).objects) (fit_of l.fit l.pairs).objects l.n l.i
-
-abbrev pub decreases-loop-i : goal.decreases-loop-i
-decreases-loop-i l = l.n - l.i

@@ -18,6 +18,3 @@ use Rattle.shape.proofs.Scans.{Each, scan_next, scan_failed, scan_done}
 
 abbrev pub invariant-loop-i : goal.invariant-loop-i
 invariant-loop-i l = Each (λ r. finite r.value) (every? (λ r. finite r.value) (fit_of l.fit l.pairs).bases) (fit_of l.fit l.pairs).bases l.n l.i
-
-abbrev pub decreases-loop-i : goal.decreases-loop-i
-decreases-loop-i l = l.n - l.i

@@ -9,6 +9,3 @@ use Rattle.info.proofs.Elements.{objects_length, bases_length, ids_length}
 
 abbrev pub invariant-loop-i : goal.invariant-loop-i
 invariant-loop-i l = ObjectScan (fit_of l.fit l.pairs) l.n l.i l.last
-
-abbrev pub decreases-loop-i : goal.decreases-loop-i
-decreases-loop-i l = l.n - l.i

@@ -14,6 +14,3 @@ use Rattle.shape.proofs.FitScans.{RangeScan, range_start, range_nth}
 
 abbrev pub invariant-loop-i : goal.invariant-loop-i
 invariant-loop-i l = RangeScan (fit_of l.fit l.pairs) l.first l.n l.i l.last
-
-abbrev pub decreases-loop-i : goal.decreases-loop-i
-decreases-loop-i l = l.n - l.i

@@ -2,24 +2,15 @@
 use Rattle.sources.proofs.notes.note.Goals as goal
 use native.Mathlib.Omega.{arith}
 use Rattle.sources.proofs.Noting.{off, full, noted}
-use mathlib.Core.Path.{refl, sym, ap, ◌∙◌}
+use mathlib.Core.Path.{sym, ap, ◌∙◌}
 use mathlib.Core.Bool.{not}
 use Rattle.laws.proofs.Bools.{not-not}
 
-pub returns-then-not-run : goal.returns-then-not-run
-returns-then-not-run c = record {
-  defined = λ w counts s₀ f₀ i row m t b k fit. off w counts s₀ f₀ i row m _ k (t.recording ∙ sym (not-not _) ∙ ap not c.if-not-run.true);
-  advanced = rw (sym (not-not c.args.run.recording) ∙ ap not c.if-not-run.true) (omega arith, omega arith);
-}
+pub returns-then-not-run-clause-defined : goal.returns-then-not-run-clause-defined
+returns-then-not-run-clause-defined c = λ w counts s₀ f₀ i row m t b k fit. off w counts s₀ f₀ i row m _ k (t.recording ∙ sym (not-not _) ∙ ap not c.if-not-run.true)
 
-pub returns-then-run-used : goal.returns-then-run-used
-returns-then-run-used c = record {
-  defined = λ w counts s₀ f₀ i row m t b k fit. full w counts s₀ f₀ i row m _ k (t.recording ∙ sym (not-not _) ∙ ap not c.if-not-run.false) (omega (arith, t.room, c.if-run-used.true));
-  advanced = tt;
-}
+pub returns-then-run-counts-clause-defined : goal.returns-then-run-counts-clause-defined
+returns-then-run-counts-clause-defined c = λ w counts s₀ f₀ i row m t b k fit. full w counts s₀ f₀ i row m _ k (t.recording ∙ sym (not-not _) ∙ ap not c.if-not-run.false) (omega (arith, t.room, c.if-run-counts.true))
 
-pub returns : goal.returns
-returns c = record {
-  defined = λ w counts s₀ f₀ i row m t b k fit. noted w counts s₀ f₀ i row m _ k b (omega (arith, fit (t.recording ∙ sym (not-not _) ∙ ap not c.if-not-run.false))) (omega (arith, t.room, c.if-run-used.false)) (omega (arith, t.room)) (t.recording ∙ sym (not-not _) ∙ ap not c.if-not-run.false) (rw t.room c.put_source.ensures.numbers) (rw t.room c.put_source.ensures.floats);
-  advanced = rw (sym (not-not c.args.run.recording) ∙ ap not c.if-not-run.false) (refl, refl);
-}
+pub returns-clause-defined : goal.returns-clause-defined
+returns-clause-defined c = λ w counts s₀ f₀ i row m t b k fit. noted w counts s₀ f₀ i row m _ k b (omega (arith, fit (t.recording ∙ sym (not-not _) ∙ ap not c.if-not-run.false))) (omega (arith, t.room, c.if-run-counts.false)) (omega (arith, t.room)) (t.recording ∙ sym (not-not _) ∙ ap not c.if-not-run.false) (rw t.room c.put_source.ensures.numbers) (rw t.room c.put_source.ensures.floats)

@@ -7,6 +7,3 @@ use Rattle.values.proofs.BlankLaws.{Blanked, begun, one_more, done, no_number}
 
 abbrev pub invariant-loop-k : goal.invariant-loop-k
 invariant-loop-k l = Blanked l.n l.initial.values l.k l.values
-
-abbrev pub decreases-loop-k : goal.decreases-loop-k
-decreases-loop-k l = l.n - l.k

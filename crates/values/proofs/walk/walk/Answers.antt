@@ -1,4 +1,5 @@
 -- `walk::walk` meets its contract. Assumes nothing.
+use Rattle.std.proofs.lemmas.Result.{err_from_is_err_and}
 use Rattle.values.proofs.walk.walk.Goals as goal
 use native.Mathlib.Omega.{arith}
 use Prim.Native.Nat.{◌+◌, ◌-◌, ◌≤◌, ◌<◌}
@@ -22,20 +23,17 @@ loop-k-init c = ((omega arith, refl, refl, refl), λ h. asking_starts h.ready c.
 pub walked-row-requires : goal.walked-row-requires
 walked-row-requires c = record { ordered = (c.turns_of-turns.ensures.in_order c.requires.holding.ready.world.rows c.requires.holding.ready.told.held c.requires.holding.own).ordered }
 
-pub walk_row-got-requires : goal.walk_row-got-requires
-walk_row-got-requires c = let T = c.turns_of-turns.ensures.in_order c.requires.holding.ready.world.rows c.requires.holding.ready.told.held c.requires.holding.own in record {
+pub walk_row-requires : goal.walk_row-requires
+walk_row-requires c = let T = c.turns_of-turns.ensures.in_order c.requires.holding.ready.world.rows c.requires.holding.ready.told.held c.requires.holding.own in record {
   holding = asking_ready c.requires.holding.ready c.depth_of-depth.result _ (c.loop-k.invariant.1 c.requires.holding);
-  within = c.walked-row.ensures.defined.1 (length c.args.rows.now) (omega (arith, T.inside, c.requires.holding.ready.told.held.long)) c.loop-k-test.true;
+  within = c.walked-row.ensures.defined.1 (length c.args.columns.now.rows.now) (omega (arith, T.inside, c.requires.holding.ready.told.held.long)) c.loop-k-test.true;
 }
 
-pub overflow_add-k : goal.overflow_add-k
-overflow_add-k c = fits_below (c.loop-k.k + 1) (length c.args.rows.now) (omega (arith, c.loop-k-test.true)) c.well_formed.1.1.1.1.1.1.1.1.0.0
-
 pub loop-k-preserved : goal.loop-k-preserved
-loop-k-preserved c = ((omega (arith, c.loop-k-test.true), c.walk_row-got.auto.values ∙ c.loop-k.invariant.0.1, c.walk_row-got.auto.sources ∙ c.loop-k.invariant.0.2, c.walk_row-got.auto.floats ∙ c.loop-k.invariant.0.3), λ h. let T = c.turns_of-turns.ensures.in_order h.ready.world.rows h.ready.told.held h.own in asking_next h.ready c.depth_of-depth.result _ (c.loop-k.invariant.1 h) (omega (arith, c.loop-k-test.true, walk_long T, h.ready.told.held.long)) (ask_of (row_at h.ready.world c.walked-row.result)) (walk_at T c.loop-k.k c.walked-row.result (omega (arith, c.loop-k-test.true, h.ready.told.held.long)) c.walked-row.ensures.defined.0) _ _ _ _ _ (rw c.in-Value.is at (c.walk_row-got.ensures.defined (asking_ready h.ready c.depth_of-depth.result _ (c.loop-k.invariant.1 h)))))
+loop-k-preserved c = ((omega (arith, c.loop-k-test.true), c.walk_row.auto.values ∙ c.loop-k.invariant.0.1, c.walk_row.auto.sources ∙ c.loop-k.invariant.0.2, c.walk_row.auto.floats ∙ c.loop-k.invariant.0.3), λ h. let T = c.turns_of-turns.ensures.in_order h.ready.world.rows h.ready.told.held h.own in asking_next h.ready c.depth_of-depth.result _ (c.loop-k.invariant.1 h) (omega (arith, c.loop-k-test.true, walk_long T, h.ready.told.held.long)) (ask_of (row_at h.ready.world c.walked-row.result)) (walk_at T c.loop-k.k c.walked-row.result (omega (arith, c.loop-k-test.true, h.ready.told.held.long)) c.walked-row.ensures.defined.0) _ _ _ _ _ (c.in_ok-got.ensures.defined (asking_ready h.ready c.depth_of-depth.result _ (c.loop-k.invariant.1 h))))
 
-pub returns-in-Refused : goal.returns-in-Refused
-returns-in-Refused c = record { defined = λ h. let T = c.turns_of-turns.ensures.in_order h.ready.world.rows h.ready.told.held h.own in rw (depth_is c.args.fit.now c.args.pairs.now c.depth_of-depth.ensures.defined) (asking_refused h.ready c.depth_of-depth.result _ (c.loop-k.invariant.1 h) (omega (arith, c.loop-k-test.true, walk_long T, h.ready.told.held.long)) (ask_of (row_at h.ready.world c.walked-row.result)) (walk_at T c.loop-k.k c.walked-row.result (omega (arith, c.loop-k-test.true, h.ready.told.held.long)) c.walked-row.ensures.defined.0) _ _ _ _ (rw c.in-Refused.is at (c.walk_row-got.ensures.defined (asking_ready h.ready c.depth_of-depth.result _ (c.loop-k.invariant.1 h))))) }
+pub returns-in_err-got : goal.returns-in_err-got
+returns-in_err-got c = let p = err_from_is_err_and c.from_residual.result c.from_residual.ensures.1 in record { defined = λ h. let T = c.turns_of-turns.ensures.in_order h.ready.world.rows h.ready.told.held h.own in rw (p.1, p.2, depth_is c.args.fit.now c.args.columns.now.pairs.now c.depth_of-depth.ensures.defined) (asking_refused h.ready c.depth_of-depth.result _ (c.loop-k.invariant.1 h) (omega (arith, c.loop-k-test.true, walk_long T, h.ready.told.held.long)) (ask_of (row_at h.ready.world c.walked-row.result)) (walk_at T c.loop-k.k c.walked-row.result (omega (arith, c.loop-k-test.true, h.ready.told.held.long)) c.walked-row.ensures.defined.0) _ _ _ _ (c.in_err-got.ensures.defined (asking_ready h.ready c.depth_of-depth.result _ (c.loop-k.invariant.1 h)))) }
 
 pub returns : goal.returns
-returns c = record { defined = λ h. let T = c.turns_of-turns.ensures.in_order h.ready.world.rows h.ready.told.held h.own in rw (depth_is c.args.fit.now c.args.pairs.now c.depth_of-depth.ensures.defined) (asking_ends h.ready c.depth_of-depth.result _ (c.loop-k.invariant.1 h) (omega (arith, c.loop-k-test.false, walk_long T, h.ready.told.held.long))) }
+returns c = record { defined = λ h. let T = c.turns_of-turns.ensures.in_order h.ready.world.rows h.ready.told.held h.own in rw (depth_is c.args.fit.now c.args.columns.now.pairs.now c.depth_of-depth.ensures.defined) (asking_ends h.ready c.depth_of-depth.result _ (c.loop-k.invariant.1 h) (omega (arith, c.loop-k-test.false, walk_long T, h.ready.told.held.long))) }

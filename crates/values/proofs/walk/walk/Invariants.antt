@@ -12,11 +12,8 @@ use Rattle.memory.specs.Steps.{row_at}
 use Rattle.memory.proofs.Fitting.{fits_below}
 use Rattle.values.specs.Complete.{ask_of}
 use Rattle.values.specs.Starting.{Walkable}
-use Rattle.memory.specs.Holding.{tables}
+use Rattle.memory.specs.Holding.{tables_of}
 use Rattle.values.proofs.Startings.{Asking, asking_starts, asking_ready, asking_ends, asking_next, asking_refused, walk_long, walk_at, depth_is}
 
 abbrev pub invariant-loop-k : goal.invariant-loop-k
-invariant-loop-k l = ((l.k ≤ l.n) × (length l.values ≡ length l.initial.values) × (length l.sources ≡ length l.initial.sources) × (length l.floats ≡ length l.initial.floats)) × ((h : Walkable (tables l.book l.pairs l.states l.stretches l.limits l.rows l.bases l.entries l.entry_values) l.run l.initial.values l.initial.sources l.initial.floats l.before l.fit) → Asking h.ready.world h.ready.sources₀ h.ready.floats₀ l.depth (map ask_of (walk_order (fit_of l.fit l.pairs).objects h.ready.world.rows)) h.ready.mem l.k l.values l.sources l.floats l.used)
-
-abbrev pub decreases-loop-k : goal.decreases-loop-k
-decreases-loop-k l = l.n - l.k
+invariant-loop-k l = ((l.k ≤ l.n) × (length l.values ≡ length l.initial.values) × (length l.sources ≡ length l.initial.sources) × (length l.floats ≡ length l.initial.floats)) × ((h : Walkable (tables_of l.columns) l.run l.initial.values l.initial.sources l.initial.floats l.before l.fit) → Asking h.ready.world h.ready.sources₀ h.ready.floats₀ l.depth (map ask_of (walk_order (fit_of l.fit l.columns.pairs.now).objects h.ready.world.rows)) h.ready.mem l.k l.values l.sources l.floats l.used)

@@ -5,23 +5,8 @@ use Rattle.memory.proofs.Holdings.{value_long}
 use Rattle.memory.proofs.Starts.{known_row}
 use Rattle.values.proofs.Settling.{settled_meets}
 
-pub bounds-values-row : goal.bounds-values-row
-bounds-values-row c = omega (arith, c.requires.within, value_long c.requires.holding.holds, c.requires.holding.told.held.long)
-
 pub returns-then-v : goal.returns-then-v
 returns-then-v c = record { defined = λ h. known_row h c.args.row c.requires.within c.args.left c.if-v.true }
 
-pub bounds-values-row-then-plain : goal.bounds-values-row-then-plain
-bounds-values-row-then-plain c = omega (arith, c.requires.within, value_long c.requires.holding.holds, c.requires.holding.told.held.long)
-
-pub returns-then-plain : goal.returns-then-plain
-returns-then-plain c = record { defined = λ h. settled_meets h c.args.row c.requires.within c.if-v.false c.args.left (c.untouched-plain.ensures.untouched c.if-plain.true) }
-
-pub calculate_value-requires : goal.calculate_value-requires
-calculate_value-requires c = record {
-  holding = c.requires.holding;
-  within = c.requires.within;
-}
-
-pub returns : goal.returns
-returns c = record { defined = λ h. c.calculate_value.ensures.defined h }
+pub returns-then-untouched : goal.returns-then-untouched
+returns-then-untouched c = record { defined = λ h. settled_meets h c.args.row c.requires.within c.if-v.false c.args.left (c.untouched.ensures.untouched c.if-untouched.true) }

@@ -1,7 +1,0 @@
--- `calculate::counts_of` meets its contract. Assumes nothing.
-use Rattle.calculate.proofs.counts_of.Goals as goal
-use mathlib.Core.Path.{sym, ap}
-use Rattle.calculate.specs.Given.{counts_given}
-
-pub returns-in-Refused : goal.returns-in-Refused
-returns-in-Refused c = record { defined = sym (ap counts_given c.in-Refused.is) }

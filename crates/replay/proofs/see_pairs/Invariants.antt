@@ -1,9 +1,0 @@
--- `replay::see_pairs` is safe and ends. Assumes nothing.
-use Rattle.replay.proofs.see_pairs.Given as goal
-use Rattle.std.proofs.Common.{◌-◌, ◌≤◌, length, rules}
-
-abbrev pub invariant-loop-i : goal.invariant-loop-i
-invariant-loop-i l = l.i ≤ length l.column
-
-abbrev pub decreases-loop-i : goal.decreases-loop-i
-decreases-loop-i l = length l.column - l.i

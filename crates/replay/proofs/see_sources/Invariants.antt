@@ -1,9 +1,0 @@
--- `replay::see_sources` is safe and ends. Assumes nothing.
-use Rattle.replay.proofs.see_sources.Given as goal
-use Rattle.std.proofs.Common.{◌-◌, ◌≤◌, length, rules}
-
-abbrev pub invariant-loop-i : goal.invariant-loop-i
-invariant-loop-i l = l.i ≤ length l.column
-
-abbrev pub decreases-loop-i : goal.decreases-loop-i
-decreases-loop-i l = length l.column - l.i
