@@ -110,7 +110,7 @@ fn place(keys: &Keys, key: u64) -> usize
 {
     let mut low = 0;
     let mut left = PLACES;
-    // A while: partition_point was proved too and is slower, since it branches at each half: 73 against 162 µs for 1,000 lines of random ids and kinds.
+    // A while: the library's partition_point, proved too, branches at each half, and takes 2.2 times the time on 1,000 lines of random ids.
     while 1 < left {
         let half = left / 2;
         let own = keys[low + half - 1];
