@@ -1,7 +1,7 @@
 // What one operator gathers of a row's entries, entry by entry (pass_3.rs).
 #![tactic(auto)]
 
-ghost use Rattle.std.specs.Prelude.{◌≡◌, true, false, ◌+◌, ◌≤◌, ◌<◌, ◌^◌, min, T, Float, length};
+ghost use Rattle.std.specs.Prelude.{◌≡◌, true, false, ◌+◌, ◌≤◌, ◌<◌, ◌^◌, min, T, Float, OnErr, length};
 ghost use Rattle.std.specs.Float.Ieee.{lt};
 ghost use Rattle.laws.specs.Floats.{finite, zero_f};
 ghost use Rattle.rules.specs.Columns.{yes1};
@@ -127,6 +127,7 @@ fn add_penalised(
     ensures defined { let pile = tried positives positive_sources negatives negative_sources p.old (grown_if p.new result) in
         PenalisedGives run first x pile sources floats (min e.quantity 9) (λ w i row. values.penalised w i row e strength x) }
     ensures counted { p.new.counts.own ≤ p.new.counts.used }
+    ensures unchanged { OnErr result (p.new ≡ p.old) }
     ensures eights { EightsAt positives.exit positive_sources.exit negatives.exit negative_sources.exit }
 {
     let counts = note_penalised(sources, floats, run, first, e, strength, p.counts)?;
@@ -159,6 +160,7 @@ fn add_plain(
     requires roomy { (run.room ≤ length sources.old) × (run.room ≤ length floats.old) × (p.old.counts.own ≤ p.old.counts.used) }
     ensures defined { PlainGives run first high e x p.old (grown_if p.new result) sources floats 1 (λ w i row. values.unpenalised w i row e strength x) }
     ensures counted { p.new.counts.own ≤ p.new.counts.used }
+    ensures unchanged { OnErr result (p.new ≡ p.old) }
 {
     let s = to_source(e, strength, true, e.quantity, false);
     let counts = note(sources, floats, run, first, s, p.counts)?;
@@ -180,6 +182,7 @@ fn add_idle(
     requires roomy { (run.room ≤ length sources.old) × (run.room ≤ length floats.old) × (p.old.counts.own ≤ p.old.counts.used) }
     ensures defined { IdleGives run first p.old (grown_if p.new result) sources floats 1 (λ w i row. entered w i row false e strength) }
     ensures counted { p.new.counts.own ≤ p.new.counts.used }
+    ensures unchanged { OnErr result (p.new ≡ p.old) }
 {
     let s = to_source(e, strength, false, e.quantity, false);
     p.counts = note(sources, floats, run, first, s, p.counts)?;
@@ -207,6 +210,7 @@ fn add_running(
     ensures defined { let pile = tried positives positive_sources negatives negative_sources p.old (grown_if p.new result) in
         EntryGives run first object high e strength pile sources floats (entered_count true e) (λ w i row. entered w i row true e strength) }
     ensures counted { p.new.counts.own ≤ p.new.counts.used }
+    ensures unchanged { OnErr result (p.new ≡ p.old) }
     ensures eights { EightsAt positives.exit positive_sources.exit negatives.exit negative_sources.exit }
 {
     let Some(x) = simplified(e.operator, strength) else {
@@ -253,6 +257,7 @@ pub fn add_entry(
     ensures defined { let pile = tried positives positive_sources negatives negative_sources p.old (grown_if p.new result) in
         EntryGives run first object high e strength pile sources floats (entered_count runs e) (λ w i row. entered w i row runs e strength) }
     ensures counted { p.new.counts.own ≤ p.new.counts.used }
+    ensures unchanged { OnErr result (p.new ≡ p.old) }
     ensures eights { EightsAt positives.exit positive_sources.exit negatives.exit negative_sources.exit }
 {
     if runs {
