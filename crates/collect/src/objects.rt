@@ -61,7 +61,8 @@ fn collect_object(
     if !in_phase(phase, o) {
         return Ok(used);
     }
-    if is_passed_over(fit, pairs, hull.categories, hull.structure, o) {
+    let over = is_passed_over(fit, pairs, hull.categories, hull.structure, o);
+    if over {
         return Ok(used);
     }
     let w = owner_of(fit, pairs, hull, o);

@@ -35,7 +35,7 @@ pub fn hull_of(book: &[u8], fit: &[u8], pairs: &TablePairs) -> Hull
 }
 
 // Whether a charge stands right after an object.
-fn is_charged(fit: &[u8], pairs: &TablePairs, number: u32) -> bool
+pub fn is_charged(fit: &[u8], pairs: &TablePairs, number: u32) -> bool
     requires held_fit { HeldFit fit.now pairs.now }
     ensures defined { result ≡ is_charge (object_at fit pairs (suc number)) }
 {

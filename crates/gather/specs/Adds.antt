@@ -1,5 +1,5 @@
 -- What a function promises that adds to a pile. Definitions only.
-use Rattle.std.specs.Prelude.{ℕ, ◌+◌, ◌≤◌, ◌≡◌, Bool, true, List, T, Float, Result, length, get_or}
+use Rattle.std.specs.Prelude.{ℕ, ◌+◌, ◌≤◌, ◌≡◌, Bool, true, List, T, Float, Result, length, get_or, Ok, Err}
 use denote.Triple.Both.{Both}
 use Rattle.columns.specs.Lending.{Column, LentColumn}
 use Rattle.laws.specs.Floats.{finite}
@@ -25,6 +25,11 @@ pile_of pv ps nv ns p = whole pv.now ps.now nv.now ns.now p
 abbrev pub piled : LentColumn Float → LentColumn ℕ → LentColumn Float → LentColumn ℕ → Growing → Growing → Both Pile Pile
 piled pv ps nv ns p r =
     record { entry = pile_of pv.entry ps.entry nv.entry ns.entry p; exit = pile_of pv.exit ps.exit nv.exit ns.exit r }
+
+-- what a pile has become in a call that may be refused
+abbrev pub grown_if : Growing → Result Unit Refusal → Result Growing Refusal
+grown_if p (Ok t) = Ok p
+grown_if p (Err y) = Err y
 
 -- the same of a call that may be refused
 abbrev pub tried : LentColumn Float → LentColumn ℕ → LentColumn Float → LentColumn ℕ → Growing → Result Growing Refusal → Both Pile (Result Pile Refusal)

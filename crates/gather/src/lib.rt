@@ -1,7 +1,7 @@
 // What one operator gathers of a row's entries, entry by entry (pass_3.rs).
 #![tactic(auto)]
 
-ghost use Rattle.std.specs.Prelude.{◌≡◌, true, false, ◌+◌, ◌≤◌, ◌<◌, ◌^◌, min, T, Float, IfOk, length};
+ghost use Rattle.std.specs.Prelude.{◌≡◌, true, false, ◌+◌, ◌≤◌, ◌<◌, ◌^◌, min, T, Float, OnErr, length};
 ghost use Rattle.std.specs.Float.Ieee.{lt};
 ghost use Rattle.laws.specs.Floats.{finite, zero_f};
 ghost use Rattle.rules.specs.Columns.{yes1};
@@ -11,7 +11,7 @@ ghost use Rattle.rules.specs.Value as values;
 ghost use Rattle.operate.specs.SoFar.{RunningOf, copies_from, with_copies};
 ghost use Rattle.sources.specs.Keeping.{more_of};
 ghost use Rattle.gather.specs.Piles.{whole, entered, entered_count};
-ghost use Rattle.gather.specs.Adds.{piled, tried, EightsAt, PileBegins, CopiesGive, EntryGives, PenalisedGives, PlainGives, IdleGives};
+ghost use Rattle.gather.specs.Adds.{piled, tried, grown_if, EightsAt, PileBegins, CopiesGive, EntryGives, PenalisedGives, PlainGives, IdleGives};
 
 use columns::{CopySources, CopyValues, SourceFloats, SourceRow};
 use numbers::integers::flag;
@@ -56,39 +56,36 @@ pub fn empty(value: f64, counts: SourceCounts) -> Growing
 }
 
 // An unpenalised value more.
-fn with_value(p: Growing, high: bool, operator: EffectOperator, x: f64, quantity: u32) -> Growing
-    ensures defined { (v : Float) (g : Values) → T (finite x) → RunningOf high operator v g.unpenalized p.running
-        → RunningOf high operator v (with_stack x quantity g).unpenalized result.running }
-    ensures kept { (result.counts ≡ p.counts) × (result.positive ≡ p.positive) × (result.negative ≡ p.negative) }
+fn put_value(p: &mut Growing, high: bool, operator: EffectOperator, x: f64, quantity: u32)
+    ensures defined { (v : Float) (g : Values) → T (finite x) → RunningOf high operator v g.unpenalized p.old.running
+        → RunningOf high operator v (with_stack x quantity g).unpenalized p.new.running }
+    ensures kept { (p.new.counts ≡ p.old.counts) × (p.new.positive ≡ p.old.positive) × (p.new.negative ≡ p.old.negative) }
 {
-    Growing {
-        running: more(p.running, high, operator, x, quantity),
-        ..p
-    }
+    p.running = more(p.running, high, operator, x, quantity);
 }
 
 // So many copies of a penalised value more, whose source rows follow those that the row has; 0.0 of either sign is among the positive ones.
-fn with_copies(
+fn put_penalised(
     positives: &mut CopyValues,
     positive_sources: &mut CopySources,
     negatives: &mut CopyValues,
     negative_sources: &mut CopySources,
-    p: Growing,
+    p: &mut Growing,
     recording: bool,
     x: f64,
     copies: u32,
-) -> Growing
-    requires few { p.counts.own + more_of recording copies < 2 ^ 32 }
+)
+    requires few { p.old.counts.own + more_of recording copies < 2 ^ 32 }
     requires eights { EightsAt positives positive_sources negatives negative_sources }
-    ensures defined { let pile = piled positives positive_sources negatives negative_sources p result in
-        CopiesGive pile x (with_copies (lt x zero_f) (copies_from x p.counts.own (yes1 recording) copies)) }
-    ensures kept { (result.counts ≡ p.counts) × (result.running ≡ p.running) }
+    ensures defined { let pile = piled positives positive_sources negatives negative_sources p.old p.new in
+        CopiesGive pile x (with_copies (lt x zero_f) (copies_from x p.old.counts.own (yes1 recording) copies)) }
+    ensures kept { (p.new.counts ≡ p.old.counts) × (p.new.running ≡ p.old.running) }
     ensures eights { EightsAt positives.exit positive_sources.exit negatives.exit negative_sources.exit }
 {
     let own = p.counts.own;
     let step = flag(recording);
     if less(x, 0.0) {
-        let negative = put_copies(
+        p.negative = put_copies(
             negatives,
             negative_sources,
             p.negative,
@@ -97,9 +94,9 @@ fn with_copies(
             step,
             copies,
         );
-        return Growing { negative, ..p };
+        return;
     }
-    let positive = put_copies(
+    p.positive = put_copies(
         positives,
         positive_sources,
         p.positive,
@@ -108,7 +105,6 @@ fn with_copies(
         step,
         copies,
     );
-    Growing { positive, ..p }
 }
 
 // A penalised entry by its strength, and by x, its simplified value.
@@ -124,17 +120,18 @@ fn add_penalised(
     e: Effect,
     strength: f64,
     x: f64,
-    p: Growing,
-) -> Result<Growing, Refusal>
-    requires roomy { (run.room ≤ length sources.old) × (run.room ≤ length floats.old) × (p.counts.own ≤ p.counts.used) }
+    p: &mut Growing,
+) -> Result<(), Refusal>
+    requires roomy { (run.room ≤ length sources.old) × (run.room ≤ length floats.old) × (p.old.counts.own ≤ p.old.counts.used) }
     requires eights { EightsAt positives positive_sources negatives negative_sources }
-    ensures defined { let pile = tried positives positive_sources negatives negative_sources p result in
+    ensures defined { let pile = tried positives positive_sources negatives negative_sources p.old (grown_if p.new result) in
         PenalisedGives run first x pile sources floats (min e.quantity 9) (λ w i row. values.penalised w i row e strength x) }
-    ensures counted { IfOk result (λ q. q.counts.own ≤ q.counts.used) }
+    ensures counted { p.new.counts.own ≤ p.new.counts.used }
+    ensures unchanged { OnErr result (p.new ≡ p.old) }
     ensures eights { EightsAt positives.exit positive_sources.exit negatives.exit negative_sources.exit }
 {
     let counts = note_penalised(sources, floats, run, first, e, strength, p.counts)?;
-    let q = with_copies(
+    put_penalised(
         positives,
         positive_sources,
         negatives,
@@ -144,7 +141,8 @@ fn add_penalised(
         x,
         kept(e.quantity),
     );
-    Ok(Growing { counts, ..q })
+    p.counts = counts;
+    Ok(())
 }
 
 // An unpenalised entry by its strength, and by x, its simplified value.
@@ -157,16 +155,18 @@ fn add_plain(
     e: Effect,
     strength: f64,
     x: f64,
-    p: Growing,
-) -> Result<Growing, Refusal>
-    requires roomy { (run.room ≤ length sources.old) × (run.room ≤ length floats.old) × (p.counts.own ≤ p.counts.used) }
-    ensures defined { PlainGives run first high e x p result sources floats 1 (λ w i row. values.unpenalised w i row e strength x) }
-    ensures counted { IfOk result (λ q. q.counts.own ≤ q.counts.used) }
+    p: &mut Growing,
+) -> Result<(), Refusal>
+    requires roomy { (run.room ≤ length sources.old) × (run.room ≤ length floats.old) × (p.old.counts.own ≤ p.old.counts.used) }
+    ensures defined { PlainGives run first high e x p.old (grown_if p.new result) sources floats 1 (λ w i row. values.unpenalised w i row e strength x) }
+    ensures counted { p.new.counts.own ≤ p.new.counts.used }
+    ensures unchanged { OnErr result (p.new ≡ p.old) }
 {
     let s = to_source(e, strength, true, e.quantity, false);
     let counts = note(sources, floats, run, first, s, p.counts)?;
-    let q = with_value(p, high, e.operator, x, e.quantity);
-    Ok(Growing { counts, ..q })
+    put_value(p, high, e.operator, x, e.quantity);
+    p.counts = counts;
+    Ok(())
 }
 
 // An entry that does not run leaves a source row.
@@ -177,15 +177,16 @@ fn add_idle(
     first: u32,
     e: Effect,
     strength: f64,
-    p: Growing,
-) -> Result<Growing, Refusal>
-    requires roomy { (run.room ≤ length sources.old) × (run.room ≤ length floats.old) × (p.counts.own ≤ p.counts.used) }
-    ensures defined { IdleGives run first p result sources floats 1 (λ w i row. entered w i row false e strength) }
-    ensures counted { IfOk result (λ q. q.counts.own ≤ q.counts.used) }
+    p: &mut Growing,
+) -> Result<(), Refusal>
+    requires roomy { (run.room ≤ length sources.old) × (run.room ≤ length floats.old) × (p.old.counts.own ≤ p.old.counts.used) }
+    ensures defined { IdleGives run first p.old (grown_if p.new result) sources floats 1 (λ w i row. entered w i row false e strength) }
+    ensures counted { p.new.counts.own ≤ p.new.counts.used }
+    ensures unchanged { OnErr result (p.new ≡ p.old) }
 {
     let s = to_source(e, strength, false, e.quantity, false);
-    let counts = note(sources, floats, run, first, s, p.counts)?;
-    Ok(Growing { counts, ..p })
+    p.counts = note(sources, floats, run, first, s, p.counts)?;
+    Ok(())
 }
 
 // An entry that runs, by its strength: its simplified value must be finite, or the object has the refusal.
@@ -202,13 +203,14 @@ fn add_running(
     high: bool,
     e: Effect,
     strength: f64,
-    p: Growing,
-) -> Result<Growing, Refusal>
-    requires roomy { (run.room ≤ length sources.old) × (run.room ≤ length floats.old) × (p.counts.own ≤ p.counts.used) }
+    p: &mut Growing,
+) -> Result<(), Refusal>
+    requires roomy { (run.room ≤ length sources.old) × (run.room ≤ length floats.old) × (p.old.counts.own ≤ p.old.counts.used) }
     requires eights { EightsAt positives positive_sources negatives negative_sources }
-    ensures defined { let pile = tried positives positive_sources negatives negative_sources p result in
+    ensures defined { let pile = tried positives positive_sources negatives negative_sources p.old (grown_if p.new result) in
         EntryGives run first object high e strength pile sources floats (entered_count true e) (λ w i row. entered w i row true e strength) }
-    ensures counted { IfOk result (λ q. q.counts.own ≤ q.counts.used) }
+    ensures counted { p.new.counts.own ≤ p.new.counts.used }
+    ensures unchanged { OnErr result (p.new ≡ p.old) }
     ensures eights { EightsAt positives.exit positive_sources.exit negatives.exit negative_sources.exit }
 {
     let Some(x) = simplified(e.operator, strength) else {
@@ -248,13 +250,14 @@ pub fn add_entry(
     runs: bool,
     e: Effect,
     strength: f64,
-    p: Growing,
-) -> Result<Growing, Refusal>
-    requires roomy { (run.room ≤ length sources.old) × (run.room ≤ length floats.old) × (p.counts.own ≤ p.counts.used) }
+    p: &mut Growing,
+) -> Result<(), Refusal>
+    requires roomy { (run.room ≤ length sources.old) × (run.room ≤ length floats.old) × (p.old.counts.own ≤ p.old.counts.used) }
     requires eights { EightsAt positives positive_sources negatives negative_sources }
-    ensures defined { let pile = tried positives positive_sources negatives negative_sources p result in
+    ensures defined { let pile = tried positives positive_sources negatives negative_sources p.old (grown_if p.new result) in
         EntryGives run first object high e strength pile sources floats (entered_count runs e) (λ w i row. entered w i row runs e strength) }
-    ensures counted { IfOk result (λ q. q.counts.own ≤ q.counts.used) }
+    ensures counted { p.new.counts.own ≤ p.new.counts.used }
+    ensures unchanged { OnErr result (p.new ≡ p.old) }
     ensures eights { EightsAt positives.exit positive_sources.exit negatives.exit negative_sources.exit }
 {
     if runs {

@@ -161,6 +161,12 @@ module _ (t : Tables) where
         → MatchResult v (λ s. w ≡ Ok s) (λ e. IsErrAnd w (Q e)) → w ≡ shaped_of (fit_tables_bad t)
     fit_judged Q same m = plus20_said (fit_bad (fit_lent t)) h Q same m ∙ sym (ap shaped_of by-tables)
 
+    pub fit_judged_bad : {i : ℕ} → v ≡ Err (bad_table i) → Err (bad_table (i + 20)) ≡ shaped_of (fit_tables_bad t)
+    fit_judged_bad g = sym (ap shaped_of (by-tables ∙ ap plus20 (bad_said (fit_bad (fit_lent t)) (sym g ∙ h))))
+
+    pub fit_judged_sound : v ≡ Ok tt → Ok tt ≡ shaped_of (fit_tables_bad t)
+    fit_judged_sound g = sym (ap shaped_of (by-tables ∙ ap plus20 (sound_said (fit_bad (fit_lent t)) (sym g ∙ h))))
+
   -- a fit that fits has columns that are alike, and few objects
   pub fit_alike_lem : {r : Bool} → r ≡ fit_fits t → r ≡ true → fit_alike t ≡ true
   fit_alike_lem {r} e n = like_fit t (sym e ∙ n)

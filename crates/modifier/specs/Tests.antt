@@ -1,12 +1,11 @@
 -- What the code's tests and its struct of an object mean.
-use Rattle.std.specs.Prelude.{ℕ, suc, ◌≡◌, ◌&&◌, not, cond, List, eqb, Option, Some, None, Result, Ok, Err}
+use Rattle.std.specs.Prelude.{ℕ, suc, ◌<◌, ◌^◌, ◌≡◌, ◌&&◌, true, not, cond, List, eqb, Option, Some, None, Result, Ok, Err}
 use Rattle.rules.specs.Sheet.{Fit}
 use Rattle.rules.specs.Item.{is_item, is_charge, is_skill, item_of, has_charge, char_of, structure_fit}
 use Rattle.rules.specs.Collect.{Move, Test, go, over, bad, then, unless, test_domain}
 use Rattle.rules.specs.declared.DogmaModifier.{DogmaModifier}
 use Rattle.rules.specs.declared.Item.{Item}
 use Rattle.rules.specs.declared.Refusal.{Refusal}
-use Rattle.rules.specs.declared.Refusal.TheVariants.{Other}
 use Rattle.modifier.specs.declared.codes.Owner.{Owner}
 
 -- what a code stands for, nothing where the modifier is passed over, or a refusal
@@ -25,15 +24,9 @@ pub record OwnerOf (f : Fit) (w : Owner) : Type 0 where
   pub structure : w.structure ≡ structure_fit f
   pub character : w.character ≡ char_of f
 
--- the domain OtherID, where an item without charge is passed over
-abbrev pub test_other : Fit → Item → DogmaModifier → Test ℕ
-test_other f o m =
-    cond (is_item o) (cond (has_charge f o) (go (suc o.number)) over)
-    (cond (is_charge o) (go (item_of f o).number) (bad (Other m.number)))
-
--- "item without charge, target domain"
-abbrev pub test_own_domain : Fit → Item → DogmaModifier → Test ℕ
-test_own_domain f o m = cond (eqb m.domain 3) (test_other f o m) (test_domain f o m)
+-- an item whose other is meant has a number after its own
+abbrev pub Followed : Item → DogmaModifier → Type 0
+Followed o m = is_item o ≡ true → m.domain ≡ 3 → suc o.number < 2 ^ 32
 
 -- "item without charge, ship domain skipped, target domain", and then g
 abbrev pub own_target : Fit → Item → DogmaModifier → (ℕ → List Move) → List Move

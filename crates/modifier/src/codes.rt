@@ -2,8 +2,8 @@
 // A test gives what the code stands for, None where the modifier is passed over, or a refusal.
 ghost use Rattle.std.specs.Prelude.{◌≡◌, ℕ, List};
 ghost use Rattle.rules.specs.Sheet.{Fit};
-ghost use Rattle.rules.specs.Collect.{Move, test_func, test_operation, test_projected_domain, then};
-ghost use Rattle.modifier.specs.Tests.{OwnerOf, test_of, test_other, test_own_domain, own_target};
+ghost use Rattle.rules.specs.Collect.{Move, test_func, test_operation, test_domain, test_projected_domain, then};
+ghost use Rattle.modifier.specs.Tests.{OwnerOf, Followed, test_of, own_target};
 
 use item::codes::operator_at;
 use item::kinds::{is_charge, is_item, is_skill};
@@ -46,11 +46,15 @@ pub fn get_effect_operator(operation: u32, number: u32) -> Result<Option<EffectO
     }
 }
 
-// The other of an item and its charge; an item without charge is passed over.
+// The other of an item and its charge; of an item, the object after it, whether that is its charge or not.
+#[tactic(auto, unfolding(rules::specs::Collect::test_domain))]
 fn other_of(w: Owner, m: DogmaModifier) -> Result<Option<u32>, Refusal>
-    ensures defined { (f : Fit) → OwnerOf f w → test_of result ≡ test_other f w.item m }
+    ensures defined { (f : Fit) → OwnerOf f w → Followed w.item m → m.domain ≡ 3 → test_of result ≡ test_domain f w.item m }
 {
-    if is_item(w.item) | is_charge(w.item) {
+    if is_item(w.item) {
+        return Ok(Some(w.item.number.saturating_add(1)));
+    }
+    if is_charge(w.item) {
         return Ok(w.other);
     }
     Err(Refusal::Other(m.number))
@@ -58,8 +62,8 @@ fn other_of(w: Owner, m: DogmaModifier) -> Result<Option<u32>, Refusal>
 
 // The object that an own modifier's domain means.
 #[tactic(auto, unfolding(rules::specs::Collect::test_domain))]
-fn get_target_object(w: Owner, m: DogmaModifier) -> Result<Option<u32>, Refusal>
-    ensures defined { (f : Fit) → OwnerOf f w → test_of result ≡ test_own_domain f w.item m }
+pub fn get_target_object(w: Owner, m: DogmaModifier) -> Result<Option<u32>, Refusal>
+    ensures defined { (f : Fit) → OwnerOf f w → Followed w.item m → test_of result ≡ test_domain f w.item m }
 {
     match m.domain {
         0 => Ok(Some(w.item.number)),
@@ -76,6 +80,9 @@ fn get_target_object(w: Owner, m: DogmaModifier) -> Result<Option<u32>, Refusal>
 pub fn get_own_target(w: Owner, m: DogmaModifier) -> Result<Option<u32>, Refusal>
     ensures defined { (f : Fit) (g : ℕ → List Move) → OwnerOf f w → then (test_of result) g ≡ own_target f w.item m g }
 {
+    if is_item(w.item) & (m.domain == 3) & w.other.is_none() {
+        return Ok(None);
+    }
     if is_skill(w.item) & w.structure & (m.domain == 1) {
         return Ok(None);
     }

@@ -16,7 +16,7 @@ ghost use Rattle.memory.specs.Steps.{row_at, entry_at, strength_of, evaluation};
 ghost use Rattle.memory.specs.Holding.{Good};
 ghost use Rattle.memory.specs.Answers.{held_by};
 ghost use Rattle.gather.specs.Piles.{Eights};
-ghost use Rattle.gather.specs.Adds.{pile_of, tried, EightsAt};
+ghost use Rattle.gather.specs.Adds.{pile_of, tried, grown_if, EightsAt};
 ghost use Rattle.pass_3.specs.Calls.{is_assign, ReadyNow, BusyNow, Gives, BusyGives, PartGives, GivesOn, Piling, PileGives};
 
 use columns::{
@@ -270,7 +270,7 @@ fn gathered(
     let mut negative_sources = [0u32; 8];
     let mut p = empty(part.value, part.counts);
     for k in 0..count {
-        p = with_entry(
+        with_entry(
             values,
             sources,
             floats,
@@ -285,7 +285,7 @@ fn gathered(
             operator,
             high,
             left,
-            p,
+            &mut p,
         )?;
     }
     let object = columns.rows[row][ROW_OBJECT];
@@ -311,11 +311,11 @@ fn with_entry(
     operator: EffectOperator,
     high: bool,
     left: u32,
-    p: Growing,
-) -> Result<Growing, Refusal>
-    requires piling { Piling columns.now values sources floats run row k high operator (pile_of positives positive_sources negatives negative_sources p) }
+    p: &mut Growing,
+) -> Result<(), Refusal>
+    requires piling { Piling columns.now values sources floats run row k high operator (pile_of positives positive_sources negatives negative_sources p.old) }
     requires eights { EightsAt positives positive_sources negatives negative_sources }
-    ensures defined { let pile = tried positives positive_sources negatives negative_sources p result in
+    ensures defined { let pile = tried positives positive_sources negatives negative_sources p.old (grown_if p.new result) in
         PileGives columns.now values sources floats pile run row k high operator
         (λ w m v. gather w row (row_at w row) (value_of w left) operator (entry_at w row k ∷ []) (record { mem = m; values = v })) }
     ensures eights { Eights positives.new positive_sources.new negatives.new negative_sources.new }
@@ -323,12 +323,12 @@ fn with_entry(
     let at = columns.rows[row][ROW_FIRST_ENTRY] as usize + k;
     let code = columns.entries[at][ENTRY_OPERATOR];
     if code != operator_code(operator) {
-        return Ok(p);
+        return Ok(());
     }
     let e = entry_at(columns.entries, columns.entry_values, at);
     let runs = is_running(columns.states, e.origin);
     if !(runs | run.recording) {
-        return Ok(p);
+        return Ok(());
     }
     let object = columns.rows[row][ROW_OBJECT];
     let first = columns.rows[row][ROW_FIRST_SOURCE];
@@ -343,10 +343,7 @@ fn with_entry(
         left,
         p.counts.used,
     )?;
-    let counts = SourceCounts {
-        own: p.counts.own,
-        used: got.used,
-    };
+    p.counts.used = got.used;
     add_entry(
         positives,
         positive_sources,
@@ -361,7 +358,7 @@ fn with_entry(
         runs,
         e,
         got.value,
-        Growing { counts, ..p },
+        p,
     )
 }
 

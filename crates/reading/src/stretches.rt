@@ -70,7 +70,7 @@ pub fn set_stretches(rows: &[AttributeRow]) -> Stretches
     let mut first: usize = 0;
     for object in 0u32..1024 {
         if rows.len() <= first {
-            return stretches;
+            break;
         }
         let end = past(rows, first, object);
         let at = index(object);

@@ -39,6 +39,17 @@ module _ {A B : Type 0} {g : List A → B} {xs : List A} {a i : ℕ} (l : Left g
   pub left_end : length xs ≤ i → g (drop a xs) ≡ g []
   left_end h = l.left ∙ ap g (drop_end xs i h)
 
+-- every one passes
+module _ {A : Type 0} (f : A → Bool) {xs : List A} {a i : ℕ} (l : Left (every? f) xs a i) (d : A) (h : i < length xs) where
+  pub every_pass : f (get_or xs i d) ≡ true → Left (every? f) xs a (i + 1)
+  every_pass e = left_next l d h (ap (λ (b : Bool). b && every? f (drop (i + 1) xs)) e)
+
+  pub every_fail : f (get_or xs i d) ≡ false → false ≡ every? f (drop a xs)
+  every_fail e = sym (left_now l d h ∙ ap (λ (b : Bool). b && every? f (drop (i + 1) xs)) e)
+
+pub every_end : {A : Type 0} (f : A → Bool) {xs : List A} {a i : ℕ} → Left (every? f) xs a i → length xs ≤ i → true ≡ every? f (drop a xs)
+every_end f l h = sym (left_end l h)
+
 -- a test of each that agrees with another
 pub all_every : {A : Type 0} (f g : A → Bool) → ((x : A) → f x ≡ g x) → (xs : List A) → list_all f xs ≡ every? g xs
 all_every f g e [] = refl

@@ -1,14 +1,15 @@
 -- One entry more: what it is, and what it adds to the source rows planned.
-use Prim.Native.Nat.{ℕ, ◌+◌, ◌≤◌, ◌<◌}
+use Prim.Native.Nat.{ℕ, ◌+◌, ◌≤◌, ◌<◌, min}
 use native.Mathlib.Omega.{arith}
 use mathlib.Core.Path.{◌≡◌, sym, ap, subst, ◌∙◌}
-use mathlib.Core.Bool.{Bool}
+use mathlib.Core.Bool.{Bool, true, ◌&&◌, cond}
 use mathlib.Core.List.{List, [], map}
 use lib.Ieee.{Float, nan}
 use lib.ListN.{length, get_or}
 use Rattle.laws.specs.Lists.{span, total}
 use Rattle.laws.proofs.Spans.{map_span_next}
 use Rattle.laws.proofs.Sums.{total_snoc}
+use Rattle.rules.specs.Operate.{has_penalty}
 use Rattle.rules.specs.declared.Effect.{Effect}
 use Rattle.reading.specs.Held.{EntryHeld, Sourced, is_running}
 use Rattle.sources.specs.Planned.{planned_if}
@@ -29,6 +30,10 @@ counted states es first i e {more = more} t q a b d =
     let sum : planned_in states es first (i + 1) ≡ planned_in states es first i + planned_by states entry = ap total (map_span_next first i es e t (planned_by states))
     ∙ total_snoc (map (planned_by states) (span first i es)) (planned_by states entry) in
     omega (arith, a, added, sum)
+
+-- how many a penalised entry that runs has
+pub planned_copies : (running : Bool) (e : Effect) {p : Bool} {r : ℕ} → p ≡ has_penalty e.operator → (running && (e.penalty && p)) ≡ true → r ≡ min e.quantity 9 → r ≡ planned_if running e
+planned_copies running e {p} h t q = q ∙ sym (ap (λ (b : Bool). cond b (min e.quantity 9) 1) (sym (ap (λ (b : Bool). running && (e.penalty && b)) h) ∙ t))
 
 -- all of them
 pub ends : (states : List (List ℕ)) (es : List Effect) (first i count : ℕ) {tot : ℕ} → i ≤ count → count ≤ i → tot ≡ planned_in states es first i → tot ≡ planned_in states es first count

@@ -7,17 +7,17 @@ use Rattle.gather.specs.Piles.{whole}
 use Rattle.gather.proofs.Copies.{few_copies}
 use Rattle.gather.proofs.Adding.{penalised_stops, penalised_goes}
 
-pub with_copies-q-requires : goal.with_copies-q-requires
-with_copies-q-requires c = record {
+pub put_penalised-requires : goal.put_penalised-requires
+put_penalised-requires c = record {
   few = few_copies c.args.run.recording c.args.e.quantity _ c.kept.ensures.defined c.in_ok-counts.ensures.advanced.0 (omega arith);
   eights = c.requires.eights;
 }
 
 pub returns-in_err-counts-clause-defined : goal.returns-in_err-counts-clause-defined
 returns-in_err-counts-clause-defined c = let p = err_from_is_err_and c.from_residual.result c.from_residual.ensures.1 in λ w counts s₀ f₀ i row high op found g t b x k fit.
-    rw (p.1, p.2) (penalised_stops w counts s₀ f₀ i row high op found g (whole c.args.positives.now c.args.positive_sources.now c.args.negatives.now c.args.negative_sources.now c.args.p) _ _ _ _ k b.row c.args.e c.args.strength c.args.x _ (c.in_err-counts.ensures.defined w counts s₀ f₀ i row g.mem t b k.keeping fit))
+    rw (p.1, p.2) (penalised_stops w counts s₀ f₀ i row high op found g (whole c.args.positives.now c.args.positive_sources.now c.args.negatives.now c.args.negative_sources.now c.args.p.now) _ _ _ _ k b.row c.args.e c.args.strength c.args.x _ (c.in_err-counts.ensures.defined w counts s₀ f₀ i row g.mem t b k.keeping fit))
 
 pub returns-clause-defined : goal.returns-clause-defined
 returns-clause-defined c = λ w counts s₀ f₀ i row high op found g t b x k fit.
-    let copies = rw (sym t.recording, c.kept.ensures.defined) at (c.with_copies-q.ensures.defined g.values x k.positive k.negative) in
-    penalised_goes w counts s₀ f₀ i row high op found g (whole c.args.positives.now c.args.positive_sources.now c.args.negatives.now c.args.negative_sources.now c.args.p) _ _ _ _ k b.row c.args.e c.args.strength c.args.x _ (whole c.with_copies-q.new.positives c.with_copies-q.new.positive_sources c.with_copies-q.new.negatives c.with_copies-q.new.negative_sources c.with_copies-q.result) (c.in_ok-counts.ensures.defined w counts s₀ f₀ i row g.mem t b k.keeping fit) c.with_copies-q.ensures.kept.1 copies.0 copies.1
+    let copies = rw (sym t.recording, c.kept.ensures.defined) at (c.put_penalised.ensures.defined g.values x k.positive k.negative) in
+    penalised_goes w counts s₀ f₀ i row high op found g (whole c.args.positives.now c.args.positive_sources.now c.args.negatives.now c.args.negative_sources.now c.args.p.now) _ _ _ _ k b.row c.args.e c.args.strength c.args.x _ (whole c.put_penalised.new.positives c.put_penalised.new.positive_sources c.put_penalised.new.negatives c.put_penalised.new.negative_sources c.put_penalised.new.p) (c.in_ok-counts.ensures.defined w counts s₀ f₀ i row g.mem t b k.keeping fit) c.put_penalised.ensures.kept.1 copies.0 copies.1

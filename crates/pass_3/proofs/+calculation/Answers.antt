@@ -113,12 +113,12 @@ pub gathered-with_entry-requires : goal.gathered-with_entry-requires
 gathered-with_entry-requires t c = (omega (arith, falling.gathering_falls c.requires.begun.0 (c.loop-k.invariant.1 c.requires.begun.0)), (gathering.piling c.requires.begun.0 (c.loop-k.invariant.1 c.requires.begun.0) (omega (arith, c.loop-k-test.true, (c.requires.begun.0.ready.told.row c.args.row c.requires.begun.0.within).count)), c.loop-k.invariant.0.4))
 
 pub gathered-loop-k-preserved : goal.gathered-loop-k-preserved
-gathered-loop-k-preserved t c = ((omega (arith, c.loop-k-test.true), c.with_entry.auto.values ∙ c.loop-k.invariant.0.1, c.with_entry.auto.sources ∙ c.loop-k.invariant.0.2, c.with_entry.auto.floats ∙ c.loop-k.invariant.0.3, c.in_ok-p.ensures.eights), λ h. let inside : c.loop-k.k < length (row_at h.ready.world c.args.row).entries = omega (arith, c.loop-k-test.true, (h.ready.told.row c.args.row h.within).count) in gathering.gathering_next h (c.loop-k.invariant.1 h) inside _ _ _ _ (c.in_ok-p.ensures.defined (gathering.piling h (c.loop-k.invariant.1 h) inside)))
+gathered-loop-k-preserved t c = ((omega (arith, c.loop-k-test.true), c.with_entry.auto.values ∙ c.loop-k.invariant.0.1, c.with_entry.auto.sources ∙ c.loop-k.invariant.0.2, c.with_entry.auto.floats ∙ c.loop-k.invariant.0.3, c.in_ok-with_entry.ensures.eights), λ h. let inside : c.loop-k.k < length (row_at h.ready.world c.args.row).entries = omega (arith, c.loop-k-test.true, (h.ready.told.row c.args.row h.within).count) in gathering.gathering_next h (c.loop-k.invariant.1 h) inside _ _ _ _ (c.in_ok-with_entry.ensures.defined (gathering.piling h (c.loop-k.invariant.1 h) inside)))
 
-pub gathered-returns-in_err-p : goal.gathered-returns-in_err-p
-gathered-returns-in_err-p t c = let p = err_from_is_err_and c.from_residual.result c.from_residual.ensures.1 in record {
+pub gathered-returns-in_err-with_entry : goal.gathered-returns-in_err-with_entry
+gathered-returns-in_err-with_entry t c = let p = err_from_is_err_and c.from_residual.result c.from_residual.ensures.1 in record {
   defined = λ h. let inside : c.loop-k.k < length (row_at h.ready.world c.args.row).entries = omega (arith, c.loop-k-test.true, (h.ready.told.row c.args.row h.within).count) in
-      rw (p.1, p.2) (gathering.gathering_refused h (c.loop-k.invariant.1 h) inside _ _ _ _ (c.in_err-p.ensures.defined (gathering.piling h (c.loop-k.invariant.1 h) inside)));
+      rw (p.1, p.2) (gathering.gathering_refused h (c.loop-k.invariant.1 h) inside _ _ _ _ (c.in_err-with_entry.ensures.defined (gathering.piling h (c.loop-k.invariant.1 h) inside)));
 }
 
 pub gathered-returns : goal.gathered-returns

@@ -11,11 +11,11 @@ use Rattle.collect.proofs.Phases.{out_of, over, projected, owned}
 pub returns-then-not-in_phase : goal.returns-then-not-in_phase
 returns-then-not-in_phase c = record { defined = sym (ran_none _ _) ∙ ran_same _ _ (out_of (book_of c.args.book.now c.args.pairs.now) (fit_of c.args.fit.now c.args.pairs.now) c.args.o c.args.phase (sym c.in_phase.ensures.defined ∙ c.if-not-in_phase.true)) }
 
-pub is_passed_over-requires-clause-inside : goal.is_passed_over-requires-clause-inside
-is_passed_over-requires-clause-inside c = omega (arith, c.requires.of_fit.few, objects_length c.args.fit.now c.args.pairs.now)
+pub is_passed_over-over-requires-clause-inside : goal.is_passed_over-over-requires-clause-inside
+is_passed_over-over-requires-clause-inside c = omega (arith, c.requires.of_fit.few, objects_length c.args.fit.now c.args.pairs.now)
 
-pub returns-then-is_passed_over : goal.returns-then-is_passed_over
-returns-then-is_passed_over c = record { defined = sym (ran_none _ _) ∙ ran_same _ _ (over (book_of c.args.book.now c.args.pairs.now) (fit_of c.args.fit.now c.args.pairs.now) c.args.o c.args.phase (sym c.in_phase.ensures.defined ∙ c.if-not-in_phase.false) (sym (c.is_passed_over.ensures.defined (book_of c.args.book.now c.args.pairs.now) c.requires.hull_of_fit.categories) ∙ c.if-is_passed_over.true)) }
+pub returns-then-over : goal.returns-then-over
+returns-then-over c = record { defined = sym (ran_none _ _) ∙ ran_same _ _ (over (book_of c.args.book.now c.args.pairs.now) (fit_of c.args.fit.now c.args.pairs.now) c.args.o c.args.phase (sym c.in_phase.ensures.defined ∙ c.if-not-in_phase.false) (sym (c.is_passed_over-over.ensures.defined (book_of c.args.book.now c.args.pairs.now) c.requires.hull_of_fit.categories) ∙ c.if-over.true)) }
 
 pub collect_projected-requires : goal.collect_projected-requires
 collect_projected-requires c = record {
@@ -39,4 +39,4 @@ collect_effects-requires c = record {
 }
 
 pub returns : goal.returns
-returns c = record { defined = c.collect_effects.ensures.defined ∙ ran_same _ _ (ap (own_moves (book_of c.args.book.now c.args.pairs.now) (fit_of c.args.fit.now c.args.pairs.now)) c.owner_of-w.ensures.of_the_fit.1 ∙ owned (book_of c.args.book.now c.args.pairs.now) (fit_of c.args.fit.now c.args.pairs.now) c.args.o c.args.phase (sym c.in_phase.ensures.defined ∙ c.if-not-in_phase.false) (sym (c.is_passed_over.ensures.defined (book_of c.args.book.now c.args.pairs.now) c.requires.hull_of_fit.categories) ∙ c.if-is_passed_over.false) (sym c.is_projected.ensures.defined ∙ c.if-is_projected.false)) }
+returns c = record { defined = c.collect_effects.ensures.defined ∙ ran_same _ _ (ap (own_moves (book_of c.args.book.now c.args.pairs.now) (fit_of c.args.fit.now c.args.pairs.now)) c.owner_of-w.ensures.of_the_fit.1 ∙ owned (book_of c.args.book.now c.args.pairs.now) (fit_of c.args.fit.now c.args.pairs.now) c.args.o c.args.phase (sym c.in_phase.ensures.defined ∙ c.if-not-in_phase.false) (sym (c.is_passed_over-over.ensures.defined (book_of c.args.book.now c.args.pairs.now) c.requires.hull_of_fit.categories) ∙ c.if-over.false) (sym c.is_projected.ensures.defined ∙ c.if-is_projected.false)) }

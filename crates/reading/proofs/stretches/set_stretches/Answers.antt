@@ -14,5 +14,5 @@ past-end-requires c = record { inside = c.loop-object.invariant.inside }
 pub loop-object-preserved : goal.loop-object-preserved
 loop-object-preserved c = laying_next c.loop-object.invariant c.past-end.ensures.past c.index-at.ensures.defined.0 c.loop-object-test.true
 
-pub returns : goal.returns
-returns c = record { stretched = laying_all c.loop-object.invariant c.loop-object-test.false }
+pub returns-after-loop-object : goal.returns-after-loop-object
+returns-after-loop-object c = record { stretched = laying_all c.loop-object.invariant c.loop-object-test.false }
