@@ -29,7 +29,7 @@ use Rattle.modifier.specs.Causes.{Cause}
 use Rattle.modifier.specs.Causes as cause
 use Rattle.modifier.specs.declared.codes.Owner.{Owner}
 use Rattle.modifier.specs.Causes.{cause_moves}
-use Rattle.modifier.specs.Tests.{other_in}
+use Rattle.modifier.specs.Tests.{charge_in}
 use Rattle.collect.specs.Takes.{Each, Of, Member, Caused, Collects}
 use Rattle.collect.proofs.Gives.{given, found, found_is, no_effect_lem, an_effect, projected_none, projected_bad, projected_modifiers, buff_after, buff_none, buff_some}
 use Rattle.collect.proofs.Taking.{each_append, each_unless, each_weaker, each_taken}
@@ -91,7 +91,7 @@ module _ (k : Book) (f : Fit) where
       each_weaker (Of f c m) (Collects k f) (λ t o. record { cause = c; modifier = m; of = o; listed = l; caused = a }) (cause_moves k f c m) (each_taken f m k c)
 
   abbrev owner_of : Item → Owner
-  owner_of o = record { item = o; other = other_in f o; structure = structure_fit f; character = char_of f }
+  owner_of o = record { item = o; charge = charge_in f o; before = (item_of f o).number; structure = structure_fit f; character = char_of f }
 
   module _ (o : Item) (n : Member f.objects o) where
     module _ (e : DogmaEffect) (i : Member k.effects e) where

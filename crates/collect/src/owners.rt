@@ -1,11 +1,11 @@
 // An object with what of the fit its modifiers go by.
-ghost use Rattle.std.specs.Prelude.{◌≡◌, cond, suc, ◌+◌, ◌-◌, ◌≤◌, ◌<◌, length};
+ghost use Rattle.std.specs.Prelude.{◌≡◌, suc, ◌+◌, ◌≤◌, length};
 ghost use Rattle.rules.specs.Bytes.{categories_at};
 ghost use Rattle.rules.specs.Sheet.{Book, fit_of};
-ghost use Rattle.rules.specs.Item.{is_item, is_charge};
+ghost use Rattle.rules.specs.Item.{is_charge};
 ghost use Rattle.info.specs.At.{book_at, fit_at, object_at};
 ghost use Rattle.info.specs.Sound.{HeldFit, SoundFit};
-ghost use Rattle.modifier.specs.Tests.{OwnerOf, other_in};
+ghost use Rattle.modifier.specs.Tests.{OwnerOf, charge_in};
 ghost use Rattle.collect.specs.OfFit.{OfFit};
 ghost use Rattle.collect.specs.Parts.{HullOf};
 
@@ -16,7 +16,7 @@ use info::little_endian::index;
 use info::records::object;
 use info::standing::char_of;
 use item::categories::categories_of;
-use item::kinds::{is_charge, is_item};
+use item::kinds::is_charge;
 use modifier::codes::Owner;
 use rules::Item;
 use states::is_structure_fit;
@@ -35,7 +35,7 @@ pub fn hull_of(book: &[u8], fit: &[u8], pairs: &TablePairs) -> Hull
 }
 
 // Whether a charge stands right after an object.
-pub fn is_charged(fit: &[u8], pairs: &TablePairs, number: u32) -> bool
+fn is_charged(fit: &[u8], pairs: &TablePairs, number: u32) -> bool
     requires held_fit { HeldFit fit.now pairs.now }
     ensures defined { result ≡ is_charge (object_at fit pairs (suc number)) }
 {
@@ -43,16 +43,13 @@ pub fn is_charged(fit: &[u8], pairs: &TablePairs, number: u32) -> bool
     next < count_of(pairs, TABLE_OBJECTS) && is_charge(object(fit, pairs, next))
 }
 
-// An item's charge, if it has one, stands after it, and a charge's item before it.
-fn beside(fit: &[u8], pairs: &TablePairs, o: Item) -> Option<u32>
+// The charge right after an object, where there is one.
+fn charge_of(fit: &[u8], pairs: &TablePairs, o: Item) -> Option<u32>
     requires held_fit { HeldFit fit.now pairs.now }
     requires of_fit { OfFit (fit_of fit.now pairs.now) o }
-    ensures defined { result ≡ other_in (fit_at fit pairs) o }
+    ensures defined { result ≡ charge_in (fit_at fit pairs) o }
 {
-    if is_item(o) {
-        return is_charged(fit, pairs, o.number).then_some(o.number + 1);
-    }
-    is_charge(o).then_some(o.number.saturating_sub(1))
+    is_charged(fit, pairs, o.number).then_some(o.number + 1)
 }
 
 // An object with what of the fit its modifiers go by.
@@ -63,7 +60,8 @@ pub fn owner_of(fit: &[u8], pairs: &TablePairs, hull: Hull, o: Item) -> Owner
 {
     Owner {
         item: o,
-        other: beside(fit, pairs, o),
+        charge: charge_of(fit, pairs, o),
+        before: o.number.saturating_sub(1),
         structure: hull.structure,
         character: hull.character,
     }

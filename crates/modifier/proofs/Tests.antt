@@ -10,8 +10,8 @@ use Rattle.std.specs.Result.{IsErrAnd}
 use Rattle.std.proofs.lemmas.Result.{err_from_is_err_and}
 use Rattle.rules.specs.declared.Refusal.{Refusal}
 use Rattle.rules.specs.Sheet.{Fit}
-use Rattle.rules.specs.Item.{is_item, is_charge, is_skill, has_charge, item_of, structure_fit}
-use Rattle.modifier.specs.Tests.{other_in, own_target}
+use Rattle.rules.specs.Item.{is_item, is_skill, has_charge, structure_fit}
+use Rattle.modifier.specs.Tests.{charge_in, own_target}
 use Rattle.rules.specs.Collect.{Move, Test, then, unless, test_domain}
 use Rattle.rules.specs.declared.Item.{Item}
 use Rattle.rules.specs.declared.DogmaModifier.{DogmaModifier}
@@ -33,12 +33,10 @@ missing_or (Some x) e = cc
 
 -- ---- an own modifier's target
 
--- of an item (i) whose charge (h) is meant (d), none is there
-bare : (i d h : Bool) (n : ℕ) (r : Option ℕ) → i && d && is_none (cond i (cond h (Some n) None) r) ≡ i && d && not h
-bare true true true n r = refl
-bare true true false n r = refl
-bare true false h n r = refl
-bare false d h n r = refl
+-- where an item (i) whose charge (h) is meant (d) has none
+bare : (i d h : Bool) (n : ℕ) → i && d && is_none (cond h (Some n) None) ≡ i && d && not h
+bare i d true n = refl
+bare i d false n = refl
 
 unless_nothing : (b : Bool) → [] ≡ unless b []
 unless_nothing true = refl
@@ -49,11 +47,11 @@ module _ (f : Fit) (o : Item) (m : DogmaModifier) where
   skipped g h = rw h (unless_nothing (is_item o && eqb m.domain 3 && not (has_charge f o)))
 
   -- whether it is an item without charge whose charge is meant
-  pub uncharged : is_item o && eqb m.domain 3 && is_none (other_in f o) ≡ is_item o && eqb m.domain 3 && not (has_charge f o)
-  uncharged = bare (is_item o) (eqb m.domain 3) (has_charge f o) (suc o.number) (cond (is_charge o) (Some (item_of f o).number) None)
+  pub uncharged : is_item o && eqb m.domain 3 && is_none (charge_in f o) ≡ is_item o && eqb m.domain 3 && not (has_charge f o)
+  uncharged = bare (is_item o) (eqb m.domain 3) (has_charge f o) (suc o.number)
 
-  pub barred : (g : ℕ → List Move) → is_item o && eqb m.domain 3 && is_none (other_in f o) ≡ true → [] ≡ own_target f o m g
+  pub barred : (g : ℕ → List Move) → is_item o && eqb m.domain 3 && is_none (charge_in f o) ≡ true → [] ≡ own_target f o m g
   barred g h = rw (sym uncharged ∙ h) refl
 
-  pub aimed : (t : Test ℕ) (g : ℕ → List Move) → t ≡ test_domain f o m → is_item o && eqb m.domain 3 && is_none (other_in f o) ≡ false → is_skill o && structure_fit f && eqb m.domain 1 ≡ false → then t g ≡ own_target f o m g
+  pub aimed : (t : Test ℕ) (g : ℕ → List Move) → t ≡ test_domain f o m → is_item o && eqb m.domain 3 && is_none (charge_in f o) ≡ false → is_skill o && structure_fit f && eqb m.domain 1 ≡ false → then t g ≡ own_target f o m g
   aimed t g e h s = rw (e, sym uncharged ∙ h, s) refl

@@ -1,7 +1,7 @@
 -- What the code's tests and its struct of an object mean.
 use Rattle.std.specs.Prelude.{ℕ, suc, ◌<◌, ◌^◌, ◌≡◌, ◌&&◌, true, not, cond, List, eqb, Option, Some, None, Result, Ok, Err}
 use Rattle.rules.specs.Sheet.{Fit}
-use Rattle.rules.specs.Item.{is_item, is_charge, is_skill, item_of, has_charge, char_of, structure_fit}
+use Rattle.rules.specs.Item.{is_item, is_skill, item_of, has_charge, char_of, structure_fit}
 use Rattle.rules.specs.Collect.{Move, Test, go, over, bad, then, unless, test_domain}
 use Rattle.rules.specs.declared.DogmaModifier.{DogmaModifier}
 use Rattle.rules.specs.declared.Item.{Item}
@@ -14,13 +14,14 @@ test_of (Ok (Some a)) = go a
 test_of (Ok None) = over
 test_of (Err x) = bad x
 
--- the other of an item and its charge: an item's charge where it has one, and a charge's item
-abbrev pub other_in : Fit → Item → Option ℕ
-other_in f o = cond (is_item o) (cond (has_charge f o) (Some (suc o.number)) None) (cond (is_charge o) (Some (item_of f o).number) None)
+-- the charge right after an object, where there is one
+abbrev pub charge_in : Fit → Item → Option ℕ
+charge_in f o = cond (has_charge f o) (Some (suc o.number)) None
 
 -- w is its object with what the fit says of it
 pub record OwnerOf (f : Fit) (w : Owner) : Type 0 where
-  pub other : w.other ≡ other_in f w.item
+  pub charge : w.charge ≡ charge_in f w.item
+  pub before : w.before ≡ (item_of f w.item).number
   pub structure : w.structure ≡ structure_fit f
   pub character : w.character ≡ char_of f
 

@@ -9,11 +9,12 @@ use item::codes::operator_at;
 use item::kinds::{is_charge, is_item, is_skill};
 use rules::{DogmaModifier, EffectOperator, Item, Modifier, Refusal};
 
-// An object, with what of the fit its modifiers go by: its charge or its item where it has one, a structure fit, the char.
+// An object, with what of the fit its modifiers go by: the charge right after it where there is one, the object before it, a structure fit, the char.
 #[derive(Clone, Copy)]
 pub struct Owner {
     pub item: Item,
-    pub other: Option<u32>,
+    pub charge: Option<u32>,
+    pub before: u32,
     pub structure: bool,
     pub character: u32,
 }
@@ -55,7 +56,7 @@ fn other_of(w: Owner, m: DogmaModifier) -> Result<Option<u32>, Refusal>
         return Ok(Some(w.item.number.saturating_add(1)));
     }
     if is_charge(w.item) {
-        return Ok(w.other);
+        return Ok(Some(w.before));
     }
     Err(Refusal::Other(m.number))
 }
@@ -80,7 +81,7 @@ pub fn get_target_object(w: Owner, m: DogmaModifier) -> Result<Option<u32>, Refu
 pub fn get_own_target(w: Owner, m: DogmaModifier) -> Result<Option<u32>, Refusal>
     ensures defined { (f : Fit) (g : ℕ → List Move) → OwnerOf f w → then (test_of result) g ≡ own_target f w.item m g }
 {
-    if is_item(w.item) & (m.domain == 3) & w.other.is_none() {
+    if is_item(w.item) & (m.domain == 3) & w.charge.is_none() {
         return Ok(None);
     }
     if is_skill(w.item) & w.structure & (m.domain == 1) {
