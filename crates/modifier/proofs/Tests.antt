@@ -50,8 +50,5 @@ module _ (f : Fit) (o : Item) (m : DogmaModifier) where
   pub uncharged : is_item o && eqb m.domain 3 && is_none (charge_in f o) ≡ is_item o && eqb m.domain 3 && not (has_charge f o)
   uncharged = bare (is_item o) (eqb m.domain 3) (has_charge f o) (suc o.number)
 
-  pub barred : (g : ℕ → List Move) → is_item o && eqb m.domain 3 && is_none (charge_in f o) ≡ true → [] ≡ own_target f o m g
-  barred g h = rw (sym uncharged ∙ h) refl
-
   pub aimed : (t : Test ℕ) (g : ℕ → List Move) → t ≡ test_domain f o m → is_item o && eqb m.domain 3 && is_none (charge_in f o) ≡ false → is_skill o && structure_fit f && eqb m.domain 1 ≡ false → then t g ≡ own_target f o m g
   aimed t g e h s = rw (e, sym uncharged ∙ h, s) refl
