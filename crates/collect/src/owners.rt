@@ -5,7 +5,7 @@ ghost use Rattle.rules.specs.Sheet.{Book, fit_of};
 ghost use Rattle.rules.specs.Item.{is_charge};
 ghost use Rattle.info.specs.At.{book_at, fit_at, object_at};
 ghost use Rattle.info.specs.Sound.{HeldFit, SoundFit};
-ghost use Rattle.modifier.specs.Tests.{OwnerOf, charge_in};
+ghost use Rattle.modifier.specs.Tests.{OwnerOf, WholeOwnerOf, charge_in};
 ghost use Rattle.collect.specs.OfFit.{OfFit};
 ghost use Rattle.collect.specs.Parts.{HullOf};
 
@@ -57,6 +57,7 @@ pub fn owner_of(fit: &[u8], pairs: &TablePairs, hull: Hull, o: Item) -> Owner
     requires held_fit { HeldFit fit.now pairs.now }
     requires of_fit { OfFit (fit_of fit.now pairs.now) o }
     ensures of_the_fit { ((k : Book) → HullOf k (fit_at fit pairs) hull → OwnerOf (fit_at fit pairs) result) × (result.item ≡ o) }
+    ensures whole { (k : Book) → HullOf k (fit_at fit pairs) hull → WholeOwnerOf (fit_at fit pairs) result }
 {
     Owner {
         item: o,

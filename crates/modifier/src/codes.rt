@@ -77,7 +77,7 @@ pub fn get_target_object(w: Owner, m: DogmaModifier) -> Result<Option<u32>, Refu
 }
 
 // The target of an own modifier, unless it is passed over: an item without charge, a skill's ship domain on a structure fit.
-#[tactic(auto, using(crate::proofs::Tests::aimed, crate::proofs::Tests::skipped))]
+#[tactic(auto, using(crate::proofs::Tests::aimed_at, crate::proofs::Tests::skipped))]
 pub fn get_own_target(w: Owner, m: DogmaModifier) -> Result<Option<u32>, Refusal>
     ensures defined { (f : Fit) (g : ℕ → List Move) → OwnerOf f w → then (test_of result) g ≡ own_target f w.item m g }
 {
