@@ -1,4 +1,4 @@
--- Laws of tests: an outcome that is given on, and an own modifier's target.
+-- Laws of tests: an outcome that is given on, an own modifier's target, an owner.
 use Prim.Native.Nat.{ℕ, suc}
 use mathlib.Core.Path.{◌≡◌, refl, sym, ◌∙◌}
 use mathlib.Core.Bool.{Bool, true, false, ◌&&◌, not, cond}
@@ -12,7 +12,8 @@ use Rattle.std.proofs.lemmas.Result.{err_from_is_err_and}
 use Rattle.rules.specs.declared.Refusal.{Refusal}
 use Rattle.rules.specs.Sheet.{Fit}
 use Rattle.rules.specs.Item.{is_item, is_charge, is_skill, has_charge, item_of, structure_fit}
-use Rattle.modifier.specs.Tests.{charge_in, test_own_domain, own_target}
+use Rattle.modifier.specs.declared.codes.Owner.{Owner}
+use Rattle.modifier.specs.Tests.{charge_in, OwnerOf, WholeOwnerOf, test_own_domain, own_target}
 use Rattle.rules.specs.Collect.{Move, Test, go, over, bad, then, unless, test_domain}
 use Rattle.rules.specs.declared.Item.{Item}
 use Rattle.rules.specs.declared.DogmaModifier.{DogmaModifier}
@@ -69,3 +70,9 @@ module _ (f : Fit) (o : Item) (m : DogmaModifier) where
 
   pub aimed_at : (t : Test ℕ) (g : ℕ → List Move) → t ≡ test_domain f o m → is_item o && eqb m.domain 3 && is_none (charge_in f o) ≡ false → is_skill o && structure_fit f && eqb m.domain 1 ≡ false → then t g ≡ own_target f o m g
   aimed_at t g e h s = rw (e, sym uncharged ∙ h, s) refl
+
+-- ---- an owner
+
+-- what tells of any object beside an owner's tells of the other of an item and its charge
+pub of_whole : (f : Fit) (w : Owner) → WholeOwnerOf f w → OwnerOf f w
+of_whole f w h = record { other = rw (h.charge, h.before) refl; structure = h.structure; character = h.character }
